@@ -6,7 +6,7 @@ use Rattle.std.proofs.lemmas.Bool.{cases_Bool, and_parts, and_from, or_cases, ca
 use Rattle.std.proofs.lemmas.Int.{ints, clamps}
 use Rattle.match_bindings.specs.declared.log_entry.LogEntry.{LogEntry}
 use Rattle.match_bindings.specs.NumberedPattern.{Leaf}
-use Rattle.match_bindings.specs.BindTree.{BindTree, One, Pair, First, Second, Empty, Single, More, has, AreApart, greatest}
+use Rattle.match_bindings.specs.BindTree.{BindTree, One, Pair, First, Second, Empty, Single, More, has, AreDisjoint, greatest}
 use Rattle.match_bindings.specs.Log.{Observed, observed_in, IsInOrder, numbered, first_time, last_time, truth}
 use Rattle.match_bindings.specs.Span.{earliest, latest, later_by}
 use Rattle.match_bindings.specs.Binding.{AreRepeats, IsBinding}
@@ -43,7 +43,7 @@ has_at_most n (More m a) h =
       | inr i ↦ let at = has_at_most n a i in omega arith
     ]
 
-apart_from_later : (m : BindTree) (g : ℕ) → greatest m < g → AreApart m (One g)
+apart_from_later : (m : BindTree) (g : ℕ) → greatest m < g → AreDisjoint m (One g)
 apart_from_later m g later n h = let at = has_at_most n m h in ne_eqb n g (λ e. omega arith)
 
 module _ (hit : ℕ → Bool) (none : hit 0 ≡ false) where
@@ -77,7 +77,7 @@ module _ (hit : ℕ → Bool) (none : hit 0 ≡ false) where
   chain_count (suc (suc j)) (More m (One (suc g))) h =
       let before = chain_count (suc j) m h.0 in
       let e = count_hit_at g h.1 in
-      let rise : greatest m < suc g = h.3 in
+      let ascend : greatest m < suc g = h.3 in
       let grows = count_grows (greatest m) g (omega arith) in
       let last : max (greatest m) (suc g) ≡ suc g = omega arith in (
         subst (λ k. suc (suc j) ≤ count_upto hit k) (sym last) (omega arith),
@@ -107,8 +107,8 @@ module _ (hit : ℕ → Bool) (none : hit 0 ≡ false) where
       let f = last_hit g (omega arith) in
       let before = chain_from (suc j) f.0 (omega arith) f.2 (omega arith) in
       let m = before.0 in
-      let rise : greatest m < suc g = omega arith in
-      (More m (One (suc g)), (before.1, h, apart_from_later m (suc g) rise, rise), omega arith)
+      let ascend : greatest m < suc g = omega arith in
+      (More m (One (suc g)), (before.1, h, apart_from_later m (suc g) ascend, ascend), omega arith)
 
 -- ---- within so many seconds of a time
 
@@ -171,7 +171,7 @@ module _ (o : Observed) (x : ℕ) (t : ℤ) where
   last_upto_latest : (n : ℕ) (b : BindTree) → AreRepeats (IsBinding o (Leaf 0)) n b → o.last (greatest b) ≤ℤ latest o.last b
   last_upto_latest (suc zero) (Single (One g)) h = omega (arith, ints)
   last_upto_latest (suc (suc j)) (More m (One g)) h =
-      let rise : greatest m < g = h.3 in
+      let ascend : greatest m < g = h.3 in
       let last : max (greatest m) g ≡ g = omega arith in
       subst (λ k. o.last k ≤ℤ int_max (latest o.last m) (o.last g)) (sym last) (upto_right (latest o.last m) (o.last g))
   last_upto_latest (suc (suc j)) (More m a) h = absurd h.1
@@ -213,11 +213,11 @@ abbrev pub begins_within : ℕ → ℤ → MatchingRow → Bool
 begins_within x t row = int_lt t (later_by x row.first)
 
 -- how many of so many numbers behind one pass
-abbrev count_behind : (ℕ → Bool) → ℕ → ℕ → ℕ
-count_behind hit i zero = 0
-count_behind hit i (suc m) = cond (hit (suc i)) 1 0 + count_behind hit (suc i) m
+abbrev count_after : (ℕ → Bool) → ℕ → ℕ → ℕ
+count_after hit i zero = 0
+count_after hit i (suc m) = cond (hit (suc i)) 1 0 + count_after hit (suc i) m
 
-count_joined : (hit : ℕ → Bool) (i m : ℕ) → count_upto hit (i + m) ≡ count_upto hit i + count_behind hit i m
+count_joined : (hit : ℕ → Bool) (i m : ℕ) → count_upto hit (i + m) ≡ count_upto hit i + count_after hit i m
 count_joined hit i zero = let at : i + 0 ≡ i = omega arith in let e = ap (λ k. count_upto hit k) at in omega arith
 count_joined hit i (suc m) =
     let at : i + suc m ≡ suc i + m = omega arith in
@@ -225,7 +225,7 @@ count_joined hit i (suc m) =
     let joined = ap (λ k. count_upto hit k) at ∙ rest in
     omega arith
 
-count_matching : (x : ℕ) (t : ℤ) (hit : ℕ → Bool) (i : ℕ) (log : List LogEntry) → ((k : ℕ) → hit (suc (i + k)) ≡ recent_row x t (slice_get log k)) → count_by (begins_within x t) (matching_from (suc i) log) ≡ count_behind hit i (length log)
+count_matching : (x : ℕ) (t : ℤ) (hit : ℕ → Bool) (i : ℕ) (log : List LogEntry) → ((k : ℕ) → hit (suc (i + k)) ≡ recent_row x t (slice_get log k)) → count_by (begins_within x t) (matching_from (suc i) log) ≡ count_after hit i (length log)
 count_matching x t hit i [] same = refl
 count_matching x t hit i (row ∷ log) same =
     let zeroth : suc (i + 0) ≡ suc i = omega arith in
@@ -237,8 +237,8 @@ count_matching x t hit i (row ∷ log) same =
     let r : MatchingRow = row_at (suc i) row in
     let rows : List MatchingRow = matching_from (suc i + 1) log in
     let next : suc (suc i) ≡ suc i + 1 = omega arith in
-    let rest : count_by w rows ≡ count_behind hit (suc i) (length log) =
-    subst (λ k. count_by w (matching_from k log) ≡ count_behind hit (suc i) (length log)) next (count_matching x t hit (suc i) log later)
+    let rest : count_by w rows ≡ count_after hit (suc i) (length log) =
+    subst (λ k. count_by w (matching_from k log) ≡ count_after hit (suc i) (length log)) next (count_matching x t hit (suc i) log later)
     in
     elim (cases_Bool (truth (Some row) 0)) [
       | inl holds ↦

@@ -17,7 +17,7 @@ use Rattle.match_bindings.specs.Log.{truth}
 use Rattle.alert_window.specs.declared.matching_row.MatchingRow.{MatchingRow}
 use Rattle.alert_window.specs.MatchingRows.{matching_row, matching_from, matching_rows, row_cmp, AreLast}
 use Rattle.alert_window.specs.inner.Kept.{keep}
-use Rattle.alert_window.proofs.OrderLemmas.{In, Apart, IsOrder, Rise, IsLast, last_goes_on, keep_tail}
+use Rattle.alert_window.proofs.OrderLemmas.{In, Apart, IsOrder, Ascend, IsLast, last_continues, keep_tail}
 
 -- ---- the order of rows
 
@@ -89,26 +89,26 @@ all_from : {K : Type 0} (P : K → Type 0) (xs : List K) → ((y : K) → In y x
 all_from P [] h = tt
 all_from P (x ∷ xs) h = (h x (inl refl), all_from P xs (λ y i. h y (inr i)))
 
-rise_from_sorted : (rows : List MatchingRow) → IsStrictlySortedBy row_cmp rows → Rise row_cmp rows
+ascend_from_sorted : (rows : List MatchingRow) → IsStrictlySortedBy row_cmp rows → Ascend row_cmp rows
 unfolding IsStrictlySortedBy
-rise_from_sorted [] up = tt
-rise_from_sorted (r ∷ rows) up = (all_in (λ s. row_cmp r s ≡ Less) rows up.0, rise_from_sorted rows up.1)
+ascend_from_sorted [] up = tt
+ascend_from_sorted (r ∷ rows) up = (all_in (λ s. row_cmp r s ≡ Less) rows up.0, ascend_from_sorted rows up.1)
 
-sorted_from_rise : (rows : List MatchingRow) → Rise row_cmp rows → IsStrictlySortedBy row_cmp rows
+sorted_from_ascend : (rows : List MatchingRow) → Ascend row_cmp rows → IsStrictlySortedBy row_cmp rows
 unfolding IsStrictlySortedBy
-sorted_from_rise [] up = tt
-sorted_from_rise (r ∷ rows) up = (all_from (λ s. row_cmp r s ≡ Less) rows up.0, sorted_from_rise rows up.1)
+sorted_from_ascend [] up = tt
+sorted_from_ascend (r ∷ rows) up = (all_from (λ s. row_cmp r s ≡ Less) rows up.0, sorted_from_ascend rows up.1)
 
 pub is_last : (n : ℕ) (rows last : List MatchingRow) → AreLast n rows last → IsLast row_cmp n rows last
 is_last n rows last h = record {
-  rise = rise_from_sorted last h.order;
+  ascend = ascend_from_sorted last h.order;
   from = λ y i. let at = (h.each y).0 (contains_from_in y last i) in (in_from_contains y rows at.0, at.1);
   all = λ y i few. in_from_contains y last ((h.each y).1 (contains_from_in y rows i, few));
 }
 
 are_last : (n : ℕ) (rows last : List MatchingRow) → IsLast row_cmp n rows last → AreLast n rows last
 are_last n rows last h = record {
-  order = sorted_from_rise last h.rise;
+  order = sorted_from_ascend last h.ascend;
   each = λ y. (
     λ i. let at = h.from y (in_from_contains y last i) in (contains_from_in y rows at.0, at.1),
     λ i. contains_from_in y last (h.all y (in_from_contains y rows i.0) i.1),
@@ -187,7 +187,7 @@ new_row log row i = let at = matching_numbers 1 log (row_at (length log + 1) row
 pub kept_more : (n : ℕ) (log : List LogEntry) (row : LogEntry) (kept : List MatchingRow) → truth (Some row) 0 ≡ true → AreLast n (matching_rows log) kept → AreLast n (matching_rows (log ++ row ∷ [])) (keep n (insert_key row_cmp kept (row_at (length log + 1) row)))
 kept_more n log row kept holds h =
     let r : MatchingRow = row_at (length log + 1) row in
-    let more = last_goes_on row_order n r (matching_rows log) kept (matching_apart 1 log) (new_row log row) (is_last n (matching_rows log) kept h) in
+    let more = last_continues row_order n r (matching_rows log) kept (matching_apart 1 log) (new_row log row) (is_last n (matching_rows log) kept h) in
     are_last n (matching_rows (log ++ row ∷ [])) (keep n (insert_key row_cmp kept r)) (
     subst (λ (rows : List MatchingRow). IsLast row_cmp n rows (keep n (insert_key row_cmp kept r))) (sym (matching_more log row holds)) more
     )

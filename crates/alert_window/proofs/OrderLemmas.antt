@@ -27,9 +27,9 @@ pub record IsOrder {K : Type 0} (cmp : K → K → Ordering) : Type 0 where
   pub self : (x : K) → cmp x x ≡ Equal
 
 -- each comes before all behind it
-abbrev pub Rise : {K : Type 0} → (K → K → Ordering) → List K → Type 0
-Rise cmp [] = ⊤
-Rise {K} cmp (x ∷ xs) = ((y : K) → In y xs → cmp x y ≡ Less) × Rise cmp xs
+abbrev pub Ascend : {K : Type 0} → (K → K → Ordering) → List K → Type 0
+Ascend cmp [] = ⊤
+Ascend {K} cmp (x ∷ xs) = ((y : K) → In y xs → cmp x y ≡ Less) × Ascend cmp xs
 
 by_order : {G : Type 0} (o : Ordering) → (o ≡ Less → G) → (o ≡ Equal → G) → (o ≡ Greater → G) → G
 by_order Less less equal greater = less refl
@@ -133,17 +133,17 @@ module _ {K : Type 0} {cmp : K → K → Ordering} (o : IsOrder cmp) where
   abbrev pub behind : K → List K → ℕ
   behind y xs = count_by (λ z. is_lt (cmp y z)) xs
 
-  none_behind_itself : (x y : K) (xs : List K) → Rise cmp (x ∷ xs) → In y (x ∷ xs) → behind y (x ∷ xs) ≡ behind y xs
+  none_behind_itself : (x y : K) (xs : List K) → Ascend cmp (x ∷ xs) → In y (x ∷ xs) → behind y (x ∷ xs) ≡ behind y xs
   none_behind_itself x y xs up (inl e) =
       count_miss (λ z. is_lt (cmp y z)) x xs (by_order (cmp y x) (λ k. absurd (not_self y x (sym e) k)) (λ k. ap is_lt k) (λ k. ap is_lt k))
   none_behind_itself x y xs up (inr i) = count_miss (λ z. is_lt (cmp y z)) x xs (not_behind x y (up.0 y i))
 
-  all_behind_first : (x : K) (xs : List K) → Rise cmp (x ∷ xs) → behind x (x ∷ xs) ≡ length xs
+  all_behind_first : (x : K) (xs : List K) → Ascend cmp (x ∷ xs) → behind x (x ∷ xs) ≡ length xs
   all_behind_first x xs up =
       none_behind_itself x x xs up (inl refl) ∙ count_all (λ z. is_lt (cmp x z)) xs (λ y i. ap is_lt (up.0 y i))
 
-  -- what is kept of a rising list are those with fewer than n behind them
-  pub kept_few_behind : (n : ℕ) (xs : List K) (y : K) → Rise cmp xs → In y (keep n xs) → behind y xs < n
+  -- what is kept of a ascending list are those with fewer than n behind them
+  pub kept_few_behind : (n : ℕ) (xs : List K) (y : K) → Ascend cmp xs → In y (keep n xs) → behind y xs < n
   kept_few_behind n [] y up h = absurd h
   kept_few_behind n (x ∷ xs) y up h =
       elim (cases_lt (length xs) n) [
@@ -159,7 +159,7 @@ module _ {K : Type 0} {cmp : K → K → Ordering} (o : IsOrder cmp) where
             omega arith
       ]
 
-  pub few_behind_kept : (n : ℕ) (xs : List K) (y : K) → Rise cmp xs → In y xs → behind y xs < n → In y (keep n xs)
+  pub few_behind_kept : (n : ℕ) (xs : List K) (y : K) → Ascend cmp xs → In y xs → behind y xs < n → In y (keep n xs)
   few_behind_kept n [] y up h few = h
   few_behind_kept n (x ∷ xs) y up h few =
       elim (cases_lt (length xs) n) [
@@ -176,12 +176,12 @@ module _ {K : Type 0} {cmp : K → K → Ordering} (o : IsOrder cmp) where
             )
       ]
 
-  pub kept_rise : (n : ℕ) (xs : List K) → Rise cmp xs → Rise cmp (keep n xs)
-  kept_rise n [] up = up
-  kept_rise n (x ∷ xs) up =
+  pub kept_ascend : (n : ℕ) (xs : List K) → Ascend cmp xs → Ascend cmp (keep n xs)
+  kept_ascend n [] up = up
+  kept_ascend n (x ∷ xs) up =
       elim (cases_lt (length xs) n) [
-        | inl short ↦ subst (λ (zs : List K). Rise cmp zs) (sym (keep_whole n x xs short)) up
-        | inr long ↦ subst (λ (zs : List K). Rise cmp zs) (sym (keep_rest n x xs long)) (kept_rise n xs up.1)
+        | inl short ↦ subst (λ (zs : List K). Ascend cmp zs) (sym (keep_whole n x xs short)) up
+        | inr long ↦ subst (λ (zs : List K). Ascend cmp zs) (sym (keep_rest n x xs long)) (kept_ascend n xs up.1)
       ]
 
   -- ---- what an insertion leaves
@@ -217,9 +217,9 @@ module _ {K : Type 0} {cmp : K → K → Ordering} (o : IsOrder cmp) where
       (λ k. subst (λ (zs : List K). In r zs) (sym (ins_equal cmp r x xs k)) (inl (sym (o.same r x k))))
       (λ k. subst (λ (zs : List K). In r zs) (sym (ins_greater cmp r x xs k)) (inr (ins_new r xs)))
 
-  pub ins_rise : (r : K) (xs : List K) → Rise cmp xs → Rise cmp (insert_key cmp xs r)
-  ins_rise r [] up = ((λ y h. absurd h), tt)
-  ins_rise r (x ∷ xs) up =
+  pub ins_ascend : (r : K) (xs : List K) → Ascend cmp xs → Ascend cmp (insert_key cmp xs r)
+  ins_ascend r [] up = ((λ y h. absurd h), tt)
+  ins_ascend r (x ∷ xs) up =
       by_order (cmp r x)
       (λ k.
       let first : (y : K) → In y (x ∷ xs) → cmp r y ≡ Less = λ y h.
@@ -228,8 +228,8 @@ module _ {K : Type 0} {cmp : K → K → Ordering} (o : IsOrder cmp) where
         | inr i ↦ o.trans r x y k (up.0 y i)
       ]
       in
-      subst (λ (zs : List K). Rise cmp zs) (sym (ins_less cmp r x xs k)) (first, up))
-      (λ k. subst (λ (zs : List K). Rise cmp zs) (sym (ins_equal cmp r x xs k)) up)
+      subst (λ (zs : List K). Ascend cmp zs) (sym (ins_less cmp r x xs k)) (first, up))
+      (λ k. subst (λ (zs : List K). Ascend cmp zs) (sym (ins_equal cmp r x xs k)) up)
       (λ k.
       let first : (y : K) → In y (insert_key cmp xs r) → cmp x y ≡ Less = λ y h.
       elim (ins_from r y xs h) [
@@ -237,7 +237,7 @@ module _ {K : Type 0} {cmp : K → K → Ordering} (o : IsOrder cmp) where
         | inr i ↦ up.0 y i
       ]
       in
-      subst (λ (zs : List K). Rise cmp zs) (sym (ins_greater cmp r x xs k)) (first, ins_rise r xs up.1))
+      subst (λ (zs : List K). Ascend cmp zs) (sym (ins_greater cmp r x xs k)) (first, ins_ascend r xs up.1))
 
   pub ins_count : (p : K → Bool) (r : K) (xs : List K) → ¬ (In r xs) → count_by p (insert_key cmp xs r) ≡ count_by p xs + cond (p r) 1 0
   ins_count p r [] new = let e = count_cons p r [] in omega arith
@@ -254,7 +254,7 @@ module _ {K : Type 0} {cmp : K → K → Ordering} (o : IsOrder cmp) where
       subst (λ (zs : List K). count_by p zs ≡ count_by p (x ∷ xs) + cond (p r) 1 0) (sym (ins_greater cmp r x xs k)) (omega arith))
 
   -- the last n after an insertion are those after one into the last n
-  pub keep_ins : (n : ℕ) (r : K) (xs : List K) → Rise cmp xs → keep n (insert_key cmp (keep n xs) r) ≡ keep n (insert_key cmp xs r)
+  pub keep_ins : (n : ℕ) (r : K) (xs : List K) → Ascend cmp xs → keep n (insert_key cmp (keep n xs) r) ≡ keep n (insert_key cmp xs r)
   keep_ins n r [] up = refl
   keep_ins n r (x ∷ xs) up =
       elim (cases_lt (length xs) n) [
@@ -278,13 +278,13 @@ module _ {K : Type 0} {cmp : K → K → Ordering} (o : IsOrder cmp) where
             deeper ∙ sym after)
       ]
 
-  -- ---- one rising list
+  -- ---- one ascending list
 
-  pub same_rising : (xs ys : List K) → Rise cmp xs → Rise cmp ys → ((y : K) → In y xs → In y ys) → ((y : K) → In y ys → In y xs) → xs ≡ ys
-  same_rising [] [] up up' to from = refl
-  same_rising [] (y ∷ ys) up up' to from = absurd (from y (inl refl))
-  same_rising (x ∷ xs) [] up up' to from = absurd (to x (inl refl))
-  same_rising (x ∷ xs) (y ∷ ys) up up' to from =
+  pub same_ascending : (xs ys : List K) → Ascend cmp xs → Ascend cmp ys → ((y : K) → In y xs → In y ys) → ((y : K) → In y ys → In y xs) → xs ≡ ys
+  same_ascending [] [] up up' to from = refl
+  same_ascending [] (y ∷ ys) up up' to from = absurd (from y (inl refl))
+  same_ascending (x ∷ xs) [] up up' to from = absurd (to x (inl refl))
+  same_ascending (x ∷ xs) (y ∷ ys) up up' to from =
       let first : x ≡ y =
       elim (to x (inl refl)) [
         | inl e ↦ sym e
@@ -297,7 +297,7 @@ module _ {K : Type 0} {cmp : K → K → Ordering} (o : IsOrder cmp) where
       let from' : (z : K) → In z ys → In z xs = λ z i.
       elim (from z (inr i)) [ inl e ↦ absurd (not_self y z (sym first ∙ e) (up'.0 z i)) | inr j ↦ j ]
       in
-      let rest : xs ≡ ys = same_rising xs ys up.1 up'.1 to' from' in
+      let rest : xs ≡ ys = same_ascending xs ys up.1 up'.1 to' from' in
       cc
 
   -- ---- a list in order
@@ -306,9 +306,9 @@ module _ {K : Type 0} {cmp : K → K → Ordering} (o : IsOrder cmp) where
   sorted [] = []
   sorted (x ∷ xs) = insert_key cmp (sorted xs) x
 
-  pub sorted_rise : (xs : List K) → Rise cmp (sorted xs)
-  sorted_rise [] = tt
-  sorted_rise (x ∷ xs) = ins_rise x (sorted xs) (sorted_rise xs)
+  pub sorted_ascend : (xs : List K) → Ascend cmp (sorted xs)
+  sorted_ascend [] = tt
+  sorted_ascend (x ∷ xs) = ins_ascend x (sorted xs) (sorted_ascend xs)
 
   pub sorted_from : (y : K) (xs : List K) → In y (sorted xs) → In y xs
   sorted_from y [] h = h
@@ -329,9 +329,9 @@ module _ {K : Type 0} {cmp : K → K → Ordering} (o : IsOrder cmp) where
 
 -- ---- the last n of a list by what is behind them
 
--- a rising list of what stands in a list and has fewer than n behind it there
+-- a ascending list of what stands in a list and has fewer than n behind it there
 pub record IsLast {K : Type 0} (cmp : K → K → Ordering) (n : ℕ) (xs last : List K) : Type 0 where
-  pub rise : Rise cmp last
+  pub ascend : Ascend cmp last
   pub from : (y : K) → In y last → In y xs × (count_by (λ z. is_lt (cmp y z)) xs < n)
   pub all : (y : K) → In y xs → count_by (λ z. is_lt (cmp y z)) xs < n → In y last
 
@@ -351,8 +351,8 @@ module _ {K : Type 0} {cmp : K → K → Ordering} (o : IsOrder cmp) where
   pub last_is_kept : (n : ℕ) (xs last : List K) → Apart xs → IsLast cmp n xs last → last ≡ keep n (sorted o xs)
   last_is_kept n xs last apart h =
       let count : (y : K) → behind o y (sorted o xs) ≡ behind o y xs = λ y. sorted_count o (λ z. is_lt (cmp y z)) xs apart in
-      let up = sorted_rise o xs in
-      same_rising o last (keep n (sorted o xs)) h.rise (kept_rise o n (sorted o xs) up)
+      let up = sorted_ascend o xs in
+      same_ascending o last (keep n (sorted o xs)) h.ascend (kept_ascend o n (sorted o xs) up)
       (λ y i.
       let at = h.from y i in let e = count y in few_behind_kept o n (sorted o xs) y up (in_sorted o y xs at.0) (omega arith))
       (λ y i.
@@ -361,13 +361,13 @@ module _ {K : Type 0} {cmp : K → K → Ordering} (o : IsOrder cmp) where
       h.all y (sorted_from o y xs (keep_in n (sorted o xs) y i)) (omega arith))
 
   -- with one more at the end of the list
-  pub last_goes_on : (n : ℕ) (r : K) (xs last : List K) → Apart xs → ¬ (In r xs) → IsLast cmp n xs last → IsLast cmp n (xs ++ r ∷ []) (keep n (insert_key cmp last r))
-  last_goes_on n r xs last apart new h =
+  pub last_continues : (n : ℕ) (r : K) (xs last : List K) → Apart xs → ¬ (In r xs) → IsLast cmp n xs last → IsLast cmp n (xs ++ r ∷ []) (keep n (insert_key cmp last r))
+  last_continues n r xs last apart new h =
       let all = sorted o xs in
       let rows : List K = insert_key cmp all r in
-      let up : Rise cmp rows = ins_rise o r all (sorted_rise o xs) in
+      let up : Ascend cmp rows = ins_ascend o r all (sorted_ascend o xs) in
       let kept : keep n (insert_key cmp last r) ≡ keep n rows =
-      ap (λ (zs : List K). keep n (insert_key cmp zs r)) (last_is_kept n xs last apart h) ∙ keep_ins o n r all (sorted_rise o xs)
+      ap (λ (zs : List K). keep n (insert_key cmp zs r)) (last_is_kept n xs last apart h) ∙ keep_ins o n r all (sorted_ascend o xs)
       in
       let count : (y : K) → behind o y rows ≡ behind o y (xs ++ r ∷ []) = λ y.
       let e = ins_count o (λ z. is_lt (cmp y z)) r all (λ i. new (sorted_from o r xs i)) in
@@ -377,7 +377,7 @@ module _ {K : Type 0} {cmp : K → K → Ordering} (o : IsOrder cmp) where
       in
       subst (λ (zs : List K). IsLast cmp n (xs ++ r ∷ []) zs) (sym kept) (
       record {
-        rise = kept_rise o n rows up;
+        ascend = kept_ascend o n rows up;
         from = λ y i.
             let few = kept_few_behind o n rows y up i in
             let e = count y in
@@ -404,13 +404,13 @@ abbrev pub FullFrom : {K : Type 0} → (K → Bool) → ℕ → List K → Type 
 FullFrom p n [] = ⊥
 FullFrom p n (x ∷ xs) = (n ≤ length (x ∷ xs)) × (p x ≡ true)
 
-module _ {K : Type 0} (cmp : K → K → Ordering) (p : K → Bool) (goes_on : (x y : K) → cmp x y ≡ Less → p x ≡ true → p y ≡ true) where
-  all_from_first : (x : K) (xs : List K) → Rise cmp (x ∷ xs) → p x ≡ true → count_by p (x ∷ xs) ≡ length (x ∷ xs)
+module _ {K : Type 0} (cmp : K → K → Ordering) (p : K → Bool) (continues : (x y : K) → cmp x y ≡ Less → p x ≡ true → p y ≡ true) where
+  all_from_first : (x : K) (xs : List K) → Ascend cmp (x ∷ xs) → p x ≡ true → count_by p (x ∷ xs) ≡ length (x ∷ xs)
   all_from_first x xs up h =
-      count_all p (x ∷ xs) (λ y i. elim i [ inl e ↦ subst (λ (z : K). p z ≡ true) e h | inr j ↦ goes_on x y (up.0 y j) h ])
+      count_all p (x ∷ xs) (λ y i. elim i [ inl e ↦ subst (λ (z : K). p z ≡ true) e h | inr j ↦ continues x y (up.0 y j) h ])
 
-  -- n of a rising list pass exactly where its last n do
-  pub full_from_enough : (n : ℕ) (xs : List K) → 1 ≤ n → Rise cmp xs → n ≤ count_by p xs → FullFrom p n (keep n xs)
+  -- n of a ascending list pass exactly where its last n do
+  pub full_from_enough : (n : ℕ) (xs : List K) → 1 ≤ n → Ascend cmp xs → n ≤ count_by p xs → FullFrom p n (keep n xs)
   full_from_enough n [] some up h = absurd (omega arith)
   full_from_enough n (x ∷ xs) some up h =
       let most = count_at_most p xs in
@@ -428,7 +428,7 @@ module _ {K : Type 0} (cmp : K → K → Ordering) (p : K → Bool) (goes_on : (
             subst (λ (zs : List K). FullFrom p n zs) (sym (keep_rest n x xs (omega arith))) (full_from_enough n xs some up.1 (omega arith))
       ]
 
-  pub enough_from_full : (n : ℕ) (xs : List K) → Rise cmp xs → FullFrom p n (keep n xs) → n ≤ count_by p xs
+  pub enough_from_full : (n : ℕ) (xs : List K) → Ascend cmp xs → FullFrom p n (keep n xs) → n ≤ count_by p xs
   enough_from_full n [] up h = absurd h
   enough_from_full n (x ∷ xs) up h =
       elim (cases_lt (length xs) n) [
@@ -442,14 +442,14 @@ module _ {K : Type 0} (cmp : K → K → Ordering) (p : K → Bool) (goes_on : (
             omega arith
       ]
 
-module _ {K : Type 0} {cmp : K → K → Ordering} (o : IsOrder cmp) (p : K → Bool) (goes_on : (x y : K) → cmp x y ≡ Less → p x ≡ true → p y ≡ true) where
+module _ {K : Type 0} {cmp : K → K → Ordering} (o : IsOrder cmp) (p : K → Bool) (continues : (x y : K) → cmp x y ≡ Less → p x ≡ true → p y ≡ true) where
   -- n of a list pass exactly where its last n do
   pub enough_is_full : (n : ℕ) (xs last : List K) → 1 ≤ n → Apart xs → IsLast cmp n xs last → (n ≤ count_by p xs) ↔ FullFrom p n last
   enough_is_full n xs last some apart h =
       let e : last ≡ keep n (sorted o xs) = last_is_kept o n xs last apart h in
       let count : count_by p (sorted o xs) ≡ count_by p xs = sorted_count o p xs apart in (
-        λ enough. subst (λ (zs : List K). FullFrom p n zs) (sym e) (full_from_enough cmp p goes_on n (sorted o xs) some (sorted_rise o xs) (omega arith)),
+        λ enough. subst (λ (zs : List K). FullFrom p n zs) (sym e) (full_from_enough cmp p continues n (sorted o xs) some (sorted_ascend o xs) (omega arith)),
         λ full.
-            let enough = enough_from_full cmp p goes_on n (sorted o xs) (sorted_rise o xs) (subst (λ (zs : List K). FullFrom p n zs) e full) in
+            let enough = enough_from_full cmp p continues n (sorted o xs) (sorted_ascend o xs) (subst (λ (zs : List K). FullFrom p n zs) e full) in
             omega arith,
       )

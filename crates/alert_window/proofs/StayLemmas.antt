@@ -14,7 +14,7 @@ use Rattle.alert_window.specs.Alert.{IsAlert}
 holds_at_end : (o : Observed) (n : ℕ) (b : BindTree) → AreRepeats (IsBinding o (Leaf 0)) n b → o.holds 0 (greatest b) ≡ true
 holds_at_end o (suc zero) (Single (One g)) h = h
 holds_at_end o (suc (suc j)) (More m (One g)) h =
-    let rise : greatest m < g = h.3 in
+    let ascend : greatest m < g = h.3 in
     let last : max (greatest m) g ≡ g = omega arith in
     subst (λ k. o.holds 0 k ≡ true) (sym last) h.1
 holds_at_end o (suc (suc j)) (More m a) h = absurd h.1

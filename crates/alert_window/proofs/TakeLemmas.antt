@@ -11,7 +11,7 @@ use Rattle.match_bindings.specs.Log.{IsInOrder}
 use Rattle.match_bindings.specs.Span.{later_by}
 use Rattle.alert_window.specs.declared.matching_row.MatchingRow.{MatchingRow}
 use Rattle.alert_window.specs.MatchingRows.{matching_rows, row_cmp, AreLast}
-use Rattle.alert_window.specs.WatchState.{WatchState, last_of, StandsFor, with_row, AnswersRow}
+use Rattle.alert_window.specs.WatchState.{WatchState, last_of, Represents, with_row, AnswersRow}
 use Rattle.alert_window.specs.inner.Kept.{keep, earliest_if_full, IsReached}
 use Rattle.alert_window.proofs.OrderLemmas.{FullFrom, enough_is_full}
 use Rattle.alert_window.proofs.KeptLemmas.{row_order, begins_later, is_last, matching_apart, row_at, kept_more, kept_same}
@@ -51,8 +51,8 @@ full_from n x t (r ∷ kept) h =
 within_later : (t e d : ℤ) (n : ℕ) → e ≤ℤ d → t <ℤ (e +ℤ pos n) → t <ℤ (d +ℤ pos n)
 within_later t e d n h k = omega (arith, ints)
 
-within_goes_on : (x : ℕ) (t : ℤ) (r s : MatchingRow) → row_cmp r s ≡ Less → begins_within x t r ≡ true → begins_within x t s ≡ true
-within_goes_on x t r s h k =
+within_continues : (x : ℕ) (t : ℤ) (r s : MatchingRow) → row_cmp r s ≡ Less → begins_within x t r ≡ true → begins_within x t s ≡ true
+within_continues x t r s h k =
     test_from_lt t (later_by x s.first) (
     within_later t r.first s.first (1_000_000_000 * x) (begins_later r s h) (lt_from_test t (later_by x r.first) k)
     )
@@ -61,7 +61,7 @@ within_goes_on x t r s h k =
 enough_is_kept : (n x : ℕ) (t : ℤ) (log : List LogEntry) (kept : List MatchingRow) → 1 ≤ n → AreLast n (matching_rows log) kept
     → (n ≤ count_by (begins_within x t) (matching_rows log)) ↔ IsSomeAnd (earliest_if_full n kept) (λ e. t <ℤ later_by x e)
 enough_is_kept n x t log kept some h =
-    let full = enough_is_full row_order (begins_within x t) (within_goes_on x t) n (matching_rows log) kept some (matching_apart 1 log) (is_last n (matching_rows log) kept h) in
+    let full = enough_is_full row_order (begins_within x t) (within_continues x t) n (matching_rows log) kept some (matching_apart 1 log) (is_last n (matching_rows log) kept h) in
     (λ enough. full_of n x t kept (full.0 enough), λ reached. full.1 (full_from n x t kept reached))
 
 -- what isn't less is no earlier
@@ -76,8 +76,8 @@ pub record Follows (before after : WatchState) (last : ℤ) : Type 0 where
   pub rows : after.rows ≡ before.rows + 1
   pub last_is : after.last ≡ Some last
 
-stands : (before after : WatchState) (log : List LogEntry) (row : LogEntry) → StandsFor before log → Follows before after row.last → AreLast before.n (matching_rows (log ++ row ∷ [])) after.kept → StandsFor after (log ++ row ∷ [])
-stands before after log row h follows kept =
+represents : (before after : WatchState) (log : List LogEntry) (row : LogEntry) → Represents before log → Follows before after row.last → AreLast before.n (matching_rows (log ++ row ∷ [])) after.kept → Represents after (log ++ row ∷ [])
+represents before after log row h follows kept =
     let long = length_more log row in
     let was = h.rows in
     let grows = follows.rows in
@@ -87,7 +87,7 @@ stands before after log row h follows kept =
       kept = subst (λ (n : ℕ). AreLast n (matching_rows (log ++ row ∷ [])) after.kept) (sym follows.n) kept;
     }
 
-pub answer_matching : (before after : WatchState) (log : List LogEntry) (first last : ℤ) (answer : Bool) → 1 ≤ before.n → StandsFor before log → IsInOrder log → first ≤ℤ last → ((b : ℤ) → before.last ≡ Some b → b ≤ℤ last)
+pub answer_matching : (before after : WatchState) (log : List LogEntry) (first last : ℤ) (answer : Bool) → 1 ≤ before.n → Represents before log → IsInOrder log → first ≤ℤ last → ((b : ℤ) → before.last ≡ Some b → b ≤ℤ last)
     → Follows before after last → after.kept ≡ keep before.n (insert_key row_cmp before.kept (record { first = first; number = before.rows + 1 })) → IsTrue answer ↔ IsReached before.n before.x after.kept first last → AnswersRow before after (with_row log first last true) answer
 answer_matching before after log first last answer some h order span later follows kept_is reached =
     let row : LogEntry = record { first = first; last = last; truths = true ∷ [] } in
@@ -103,7 +103,7 @@ answer_matching before after log first last answer some h order span later follo
     let enough = enough_is_kept n before.x last (log ++ row ∷ []) after.kept some kept in
     let alert = alert_at_last n before.x log row some ordered in
     record {
-      stands = stands before after log row h follows kept;
+      represents = represents before after log row h follows kept;
       order = ordered;
       alert = (
         λ yes. let at = reached.0 yes in alert.1 (refl, at.1, enough.1 at.0),
@@ -111,7 +111,7 @@ answer_matching before after log first last answer some h order span later follo
       );
     }
 
-pub answer_other : (before after : WatchState) (log : List LogEntry) (first last : ℤ) → 1 ≤ before.n → StandsFor before log → IsInOrder log → first ≤ℤ last → ((b : ℤ) → before.last ≡ Some b → b ≤ℤ last)
+pub answer_other : (before after : WatchState) (log : List LogEntry) (first last : ℤ) → 1 ≤ before.n → Represents before log → IsInOrder log → first ≤ℤ last → ((b : ℤ) → before.last ≡ Some b → b ≤ℤ last)
     → Follows before after last → after.kept ≡ before.kept → AnswersRow before after (with_row log first last false) false
 answer_other before after log first last some h order span later follows kept_is =
     let row : LogEntry = record { first = first; last = last; truths = false ∷ [] } in
@@ -121,7 +121,7 @@ answer_other before after log first last some h order span later follows kept_is
     let ordered : IsInOrder (log ++ row ∷ []) = order_more log row order span (λ b e. later b (h.last ∙ e)) in
     let alert = alert_at_last before.n before.x log row some ordered in
     record {
-      stands = stands before after log row h follows kept;
+      represents = represents before after log row h follows kept;
       order = ordered;
       alert = (λ yes. absurd (false≢true yes), λ is. absurd (false≢true (alert.0 is).0));
     }

@@ -25,10 +25,10 @@ abbrev pub row_cmp : MatchingRow → MatchingRow → Ordering
 row_cmp row other = ordering_then (int_cmp row.first other.first) (nat_cmp row.number other.number)
 
 -- how many of the rows stand behind one
-abbrev pub count_behind : MatchingRow → List MatchingRow → ℕ
-count_behind row rows = count_by (λ other. is_lt (row_cmp row other)) rows
+abbrev pub count_after : MatchingRow → List MatchingRow → ℕ
+count_after row rows = count_by (λ other. is_lt (row_cmp row other)) rows
 
 -- the last n of the rows, each once, in order: those with fewer than n behind them
 pub record AreLast (n : ℕ) (rows last : List MatchingRow) : Type 0 where
   pub order : IsStrictlySortedBy row_cmp last
-  pub each : (row : MatchingRow) → Contains last row ↔ (Contains rows row × (count_behind row rows < n))
+  pub each : (row : MatchingRow) → Contains last row ↔ (Contains rows row × (count_after row rows < n))

@@ -24,7 +24,7 @@ last_of (row ∷ []) = Some row.last
 last_of (row ∷ next ∷ rows) = last_of (next ∷ rows)
 
 -- a watch stands for a log where it knows how long the log is and its last time, and keeps the last n of its matching rows
-pub record StandsFor (state : WatchState) (log : List LogEntry) : Type 0 where
+pub record Represents (state : WatchState) (log : List LogEntry) : Type 0 where
   pub rows : state.rows ≡ length log
   pub last : state.last ≡ last_of log
   pub kept : AreLast state.n (matching_rows log) state.kept
@@ -36,6 +36,6 @@ with_row log first last holds = log ++ record { first = first; last = last; trut
 -- a watch answers the last row of a log: it then stands for the log, whose rows are in order, and tells whether that row is
 -- an alert
 pub record AnswersRow (before after : WatchState) (log : List LogEntry) (answer : Bool) : Type 0 where
-  pub stands : StandsFor after log
+  pub represents : Represents after log
   pub order : IsInOrder log
   pub alert : IsTrue answer ↔ IsAlert before.n before.x log (length log)

@@ -10,7 +10,7 @@ pub fn alerts_are_rows()
 {}
 
 /// What follows a row doesn't change whether it is an alert.
-pub fn alerts_stay()
+pub fn alerts_persist()
     ensures { (n x number : ℕ) (log more : List LogEntry) → number ≤ length log
         → IsAlert n x (log ++ more) number ↔ IsAlert n x log number }
 {}

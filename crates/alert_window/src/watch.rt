@@ -5,7 +5,7 @@ ghost use Rattle.match_bindings.specs.Span.{later_by};
 ghost use Rattle.alert_window.specs.declared.refusal.WatchRefusal.TheVariants as refused;
 ghost use Rattle.std.specs.BTreeSet.{insert_key};
 ghost use Rattle.alert_window.specs.MatchingRows.{row_cmp};
-ghost use Rattle.alert_window.specs.WatchState.{StandsFor, AnswersRow, with_row};
+ghost use Rattle.alert_window.specs.WatchState.{Represents, AnswersRow, with_row};
 ghost use Rattle.alert_window.specs.inner.Kept.{keep, IsReached};
 
 use crate::kept_rows::KeptRows;
@@ -51,7 +51,7 @@ impl Watch {
         requires most { n ≤ 10_000 }
         requires seconds { 1 ≤ x }
         ensures made { IsOk result }
-        ensures stands { IfOk result (λ watch. StandsFor watch []) }
+        ensures represents { IfOk result (λ watch. Represents watch []) }
         ensures n { IfOk result (λ watch. watch.n ≡ n) }
         ensures x { IfOk result (λ watch. watch.x ≡ x) }
     {
@@ -68,7 +68,7 @@ impl Watch {
     pub fn take(&mut self, first: Instant, last: Instant, holds: bool) -> Result<bool, WatchRefusal>
         requires span { first ≤ℤ last }
         requires room { self.old.rows + 1 < 2 ^ 64 }
-        ensures answers { (log : List LogEntry) → StandsFor self.old log → IsInOrder log
+        ensures answers { (log : List LogEntry) → Represents self.old log → IsInOrder log
             → IfOk result (AnswersRow self.old self.new (with_row log first last holds)) }
         ensures out_of_order { (before now : ℤ) → (result ≡ Err (refused.OutOfOrder before now))
             ↔ ((self.old.last ≡ Some before) × (now ≡ last) × (now <ℤ before)) }

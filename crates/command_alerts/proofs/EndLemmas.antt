@@ -1,4 +1,4 @@
--- What is told of the bundles of an input, and what an end of the run says of it.
+-- What is reported of the bundles of an input, and what an end of the run says of it.
 use Rattle.std.proofs.Common.{inl, inr, ℕ, List, [], ◌∷◌, ◌++◌, Option, refl, sym, subst}
 use Rattle.std.specs.declared.convert.Infallible.{Infallible}
 use Rattle.flow_edges.specs.Flow.{WritesPrefix}
@@ -11,12 +11,12 @@ use Rattle.match_run.specs.Entries.{AreEntriesOf, AreEntries}
 use Rattle.match_run.specs.Watching.{SeesAll, Says, BreaksOff, StopsWithin as EndsWithin, AnswersWatch}
 use Rattle.match_run.specs.declared.watch_end.WatchEnd.{WatchEnd}
 use Rattle.match_run.specs.declared.watch_end.WatchEnd.TheVariants.{Done, Input, ReadFault, WriteFault, Stopped, NoMemory}
-use Rattle.command_alerts.specs.Alerts.{TellsLog}
-use Rattle.command_alerts.specs.Telling.{TellsBundles, StopsWithin, AnswersAlerts}
+use Rattle.command_alerts.specs.Alerts.{ReportsLog}
+use Rattle.command_alerts.specs.Telling.{ReportsBundles, StopsWithin, AnswersAlerts}
 use Rattle.command_alerts.specs.inner.Seeing.{AlerterState, IsBehind, TakesRows, SeesBundle, BeginsBundle}
 use Rattle.command_alerts.proofs.TellingLemmas.{AlertsStay, takes-none, takes-more}
 
--- bundles were seen in turn, and this text is told of them
+-- bundles were seen in turn, and this text is reported of them
 record SeesBundles (bundles : List BundleOf) (before after : AlerterState) (text : List ℕ) : Type 0 where
   rows : List LogEntry
   entries : AreEntries (plain_pattern before.pattern) bundles rows
@@ -45,19 +45,19 @@ bundles-seen stay (bundle ∷ bundles) before after text (next, own, later, sees
 
 -- a run from its start, where nothing was seen
 module _ (stay : AlertsStay) (start : AlerterState) (new : IsBehind start.watch []) where
-  log-told : (rows : List LogEntry) (after : AlerterState) (text : List ℕ) → TakesRows rows start after text
-      → TellsLog start.watch.n start.watch.x rows text
-  log-told rows after text takes = (takes.tells [] new).tells
+  log-reported : (rows : List LogEntry) (after : AlerterState) (text : List ℕ) → TakesRows rows start after text
+      → ReportsLog start.watch.n start.watch.x rows text
+  log-reported rows after text takes = (takes.reports [] new).reports
 
-  bundles-told : (bundles : List BundleOf) (after : AlerterState) (written written_after : Option (List ℕ))
+  bundles-reported : (bundles : List BundleOf) (after : AlerterState) (written written_after : Option (List ℕ))
       → Says (SeesAll SeesBundle start bundles after) written written_after
-      → TellsBundles start.pattern start.watch.n start.watch.x bundles written written_after
-  bundles-told bundles after written written_after (text, sees, is) =
+      → ReportsBundles start.pattern start.watch.n start.watch.x bundles written written_after
+  bundles-reported bundles after written written_after (text, sees, is) =
       let seen = bundles-seen stay bundles start after text sees in record {
         log = seen.rows;
         entries = seen.entries;
         text = text;
-        tells = log-told seen.rows after text seen.takes;
+        reports = log-reported seen.rows after text seen.takes;
         text_is = is;
       }
 
@@ -87,37 +87,37 @@ module _ (stay : AlertsStay) (start : AlerterState) (new : IsBehind start.watch 
               own_entries = subst (λ (p : Pattern). AreEntriesOf (plain_pattern p) ends.bundle.objects firsts.seen own.rows) seen.takes.pattern_is own.entries;
               text = text;
               more = more;
-              tells = log-told seen.rows ends.at text seen.takes;
-              tells_all = log-told (seen.rows ++ own.rows) firsts.after (text ++ more)
+              reports = log-reported seen.rows ends.at text seen.takes;
+              reports_all = log-reported (seen.rows ++ own.rows) firsts.after (text ++ more)
                   (takes-more stay seen.rows own.rows start ends.at firsts.after text more seen.takes own.takes);
               prefix = subst (λ (w : Option (List ℕ)). WritesPrefix more w after.written) is prefix;
             }
 
-    pub end-told : (end : WatchEnd Infallible) → AnswersWatch SeesBundle (λ _ _ _ _. ⊥) BeginsBundle first [] start behind written after end
+    pub end-reported : (end : WatchEnd Infallible) → AnswersWatch SeesBundle (λ _ _ _ _. ⊥) BeginsBundle first [] start behind written after end
         → AnswersAlerts start.pattern start.watch.n start.watch.x before after end
-    end-told Done whole = record {
+    end-reported Done whole = record {
       bundles = whole.bundles;
       reading = whole.reading;
-      tells = bundles-told whole.bundles behind written after.written whole.says;
+      reports = bundles-reported whole.bundles behind written after.written whole.says;
       drained = whole.drained;
     }
-    end-told (Input line why) up = record {
+    end-reported (Input line why) up = record {
       bundles = up.bundles;
       reading = up.reading;
-      tells = bundles-told up.bundles behind written after.written up.says;
+      reports = bundles-reported up.bundles behind written after.written up.says;
       little = up.little;
     }
-    end-told ReadFault taken = record {
+    end-reported ReadFault taken = record {
       bundles = taken.bundles;
       begins = taken.begins;
-      tells = bundles-told taken.bundles behind written after.written taken.says;
+      reports = bundles-reported taken.bundles behind written after.written taken.says;
       taken = taken.taken;
     }
-    end-told WriteFault ends = within ends
-    end-told (Stopped never) ends = ends.within.1
-    end-told NoMemory (inl between) = inl (record {
+    end-reported WriteFault ends = within ends
+    end-reported (Stopped never) ends = ends.within.1
+    end-reported NoMemory (inl between) = inl (record {
       bundles = between.bundles;
       begins = between.begins;
-      tells = bundles-told between.bundles behind written after.written between.says;
+      reports = bundles-reported between.bundles behind written after.written between.says;
     })
-    end-told NoMemory (inr ends) = inr (within ends)
+    end-reported NoMemory (inr ends) = inr (within ends)

@@ -1,4 +1,4 @@
-mod WordsLemmas
+mod ArgumentsLemmas
 mod TellingLemmas
 mod SeeingLemmas
 mod EndLemmas

@@ -1,4 +1,4 @@
--- What the status of a run says of its words and its streams.
+-- What the status of a run says of its arguments and its streams.
 use Rattle.std.proofs.Common.{◌≡◌, ◌≢◌, ◌⊎◌, inl, inr, ℕ, List, [], ◌∷◌, refl, sym, ap, subst, ◌∙◌, arith}
 use Rattle.flow_edges.specs.Streams.{Streams}
 use Rattle.pattern_types.specs.declared.pattern.Pattern.{Pattern}
@@ -9,19 +9,19 @@ use Rattle.command_alerts.specs.declared.ending.AlertEnding.{AlertEnding}
 use Rattle.command_alerts.specs.declared.ending.AlertEnding.TheVariants.{Usage, PatternRefused, NotLeaf, Ended, NoMemory}
 use Rattle.command_alerts.specs.Tasks.{AlertTask, AskFor, IsReadAsNoLeaf}
 use Rattle.command_alerts.specs.Endings.{EndsTask, EndsAlerts, alert_status}
-use Rattle.command_alerts.specs.Runs.{TellsRefusals}
+use Rattle.command_alerts.specs.Runs.{ReportsRefusals}
 
 -- the law that a text is read as one pattern
 abbrev pub OnePattern : Type 0
 OnePattern = (text : List ℕ) (p q : Pattern) → IsReadAs text p → IsReadAs text q → plain_pattern p ≡ plain_pattern q
 
--- words ask for the alerts of one text
-one-text : (words : List (List ℕ)) (task other : AlertTask) → AskFor words task → AskFor words other → task.pattern ≡ other.pattern
-one-text words task other asked same =
-    let is : task.pattern ∷ asked.n_text ∷ asked.seconds_text ∷ [] ≡ other.pattern ∷ same.n_text ∷ same.seconds_text ∷ [] = sym asked.words_are ∙ same.words_are in
+-- arguments ask for the alerts of one text
+one-text : (arguments : List (List ℕ)) (task other : AlertTask) → AskFor arguments task → AskFor arguments other → task.pattern ≡ other.pattern
+one-text arguments task other asked same =
+    let is : task.pattern ∷ asked.n_text ∷ asked.seconds_text ∷ [] ≡ other.pattern ∷ same.n_text ∷ same.seconds_text ∷ [] = sym asked.arguments_are ∙ same.arguments_are in
     cc
 
-module _ (words : List (List ℕ)) (before after : Streams) where
+module _ (arguments : List (List ℕ)) (before after : Streams) where
   -- the statuses of what is asked for
   usage-task : (task : AlertTask) (ending : AlertEnding) → EndsTask before after ending task → alert_status ending ≢ 2
   usage-task task Usage ends is = ends
@@ -57,9 +57,9 @@ module _ (words : List (List ℕ)) (before after : Streams) where
   no_leaf-task task (Ended ended) ends none = absurd (none ends.pattern ends.read)
   no_leaf-task task NoMemory ends none = inr refl
 
-  -- and of the words
+  -- and of the arguments
   module _ (ending : AlertEnding) where
-    pub refusals-run : OnePattern → EndsAlerts words before after ending → TellsRefusals words (alert_status ending)
+    pub refusals-run : OnePattern → EndsAlerts arguments before after ending → ReportsRefusals arguments (alert_status ending)
     refusals-run one (inl (nothing, usage, untouched)) = record {
       usage = ((λ is. nothing), (λ none. ap alert_status usage));
       pattern = λ is. let two = ap alert_status usage in absurd (omega arith);
@@ -69,5 +69,5 @@ module _ (words : List (List ℕ)) (before after : Streams) where
       usage = ((λ is. absurd (usage-task asks.task ending asks.holds is)), (λ none. absurd (none asks.task asks.asked)));
       pattern = λ is. record { task = asks.task; asked = asks.asked; holds = refused-task one asks.task ending asks.holds is };
       refused = λ refuses. no_leaf-task asks.task ending asks.holds
-          (subst IsReadAsNoLeaf (one-text words refuses.task asks.task refuses.asked asks.asked) refuses.holds);
+          (subst IsReadAsNoLeaf (one-text arguments refuses.task asks.task refuses.asked asks.asked) refuses.holds);
     }

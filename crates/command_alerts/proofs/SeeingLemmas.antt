@@ -19,9 +19,9 @@ use Rattle.match_run.proofs.ReadingLemmas.{last_after-append}
 use Rattle.match_run.specs.Entries.{AreEntriesOf}
 use Rattle.match_run.proofs.LogLemmas.{entries_of-more, entries_of-length}
 use Rattle.alert_window.specs.Alert.{IsAlert}
-use Rattle.alert_window.specs.WatchState.{StandsFor, AnswersRow, with_row, last_of}
+use Rattle.alert_window.specs.WatchState.{Represents, AnswersRow, with_row, last_of}
 use Rattle.command_alerts.specs.Tasks.{IsOneLeaf}
-use Rattle.command_alerts.specs.Alerts.{IsLineOf, TellsRow}
+use Rattle.command_alerts.specs.Alerts.{IsLineOf, ReportsRow}
 use Rattle.command_alerts.specs.inner.Seeing.{AlerterState, IsBehind, IsReady, TakesRows, Sees, SeesFirst, row_of}
 use Rattle.command_alerts.proofs.TellingLemmas.{AlertsStay, row-alone, takes-none, takes-more}
 
@@ -34,33 +34,33 @@ if_ok (Err refusal) each fact = tt
 pub no-fall : (before : Option ℤ) (last time now : ℤ) → ¬ (Falls before last) → before ≡ Some time → now ≡ last → ¬ (now <ℤ time)
 no-fall before last time now none is same falls = none (subst (λ (l : Option ℤ). Falls l last) (sym is) (subst (λ (t : ℤ). t <ℤ time) same falls))
 
--- a row that the watch answered, as it tells of it
+-- a row that the watch answered, as it reports of it
 module _ (before after : AlerterState) (o : Observation) (holds : Bool) (same : after.pattern ≡ before.pattern)
     (kept : (after.watch.n ≡ before.watch.n) × (after.watch.x ≡ before.watch.x)) (number : o.number ≡ before.watch.rows + 1) where
   abbrev Answers : Bool → Type 0
-  Answers alert = (log : List LogEntry) → StandsFor before.watch log → IsInOrder log
+  Answers alert = (log : List LogEntry) → Represents before.watch log → IsInOrder log
       → AnswersRow before.watch after.watch (with_row log o.first o.last holds) alert
 
   takes : (text : List ℕ)
       → ((log : List LogEntry) → IsBehind before.watch log → IsBehind after.watch (log ++ row_of o holds ∷ [])
-      × TellsRow (IsAlert before.watch.n before.watch.x (log ++ row_of o holds ∷ [])) (length log + 1) (row_of o holds) text)
+      × ReportsRow (IsAlert before.watch.n before.watch.x (log ++ row_of o holds ∷ [])) (length log + 1) (row_of o holds) text)
       → TakesRows (row_of o holds ∷ []) before after text
-  takes text tells = record {
+  takes text reports = record {
     pattern_is = same;
     n_is = kept.0;
     x_is = kept.1;
-    tells = λ log behind. record {
-      behind = (tells log behind).0;
-      tells = row-alone (IsAlert before.watch.n before.watch.x (log ++ row_of o holds ∷ [])) (length log + 1) (row_of o holds) text (tells log behind).1;
+    reports = λ log behind. record {
+      behind = (reports log behind).0;
+      reports = row-alone (IsAlert before.watch.n before.watch.x (log ++ row_of o holds ∷ [])) (length log + 1) (row_of o holds) text (reports log behind).1;
     };
   }
 
   pub takes-alert : (line : List ℕ) → Answers true → IsLineOf o.number o.last line → TakesRows (row_of o holds ∷ []) before after line
   takes-alert line answers is = takes line (λ log behind.
-      let answer = answers log behind.stands behind.order in
+      let answer = answers log behind.represents behind.order in
       let count : length (log ++ row_of o holds ∷ []) ≡ length log + 1 = omega (arith, length-append log (row_of o holds ∷ [])) in
-      let own : o.number ≡ length log + 1 = number ∙ ap (λ (k : ℕ). k + 1) behind.stands.rows in (
-        record { stands = answer.stands; order = answer.order },
+      let own : o.number ≡ length log + 1 = number ∙ ap (λ (k : ℕ). k + 1) behind.represents.rows in (
+        record { represents = answer.represents; order = answer.order },
         inl (
           subst (IsAlert before.watch.n before.watch.x (log ++ row_of o holds ∷ [])) count (answer.alert.0 refl),
           subst (λ (k : ℕ). IsLineOf k o.last line) own is,
@@ -69,9 +69,9 @@ module _ (before after : AlerterState) (o : Observation) (holds : Bool) (same : 
 
   pub takes-other : Answers false → TakesRows (row_of o holds ∷ []) before after []
   takes-other answers = takes [] (λ log behind.
-      let answer = answers log behind.stands behind.order in
+      let answer = answers log behind.represents behind.order in
       let count : length (log ++ row_of o holds ∷ []) ≡ length log + 1 = omega (arith, length-append log (row_of o holds ∷ [])) in (
-        record { stands = answer.stands; order = answer.order },
+        record { represents = answer.represents; order = answer.order },
         inr (
           (λ alert. let yes = answer.alert.1 (subst (IsAlert before.watch.n before.watch.x (log ++ row_of o holds ∷ [])) (sym count) alert) in cc),
           refl,
@@ -117,17 +117,17 @@ ready-after objects observations before after text ready sees = record {
   sound = subst (λ (p : Pattern). IsSoundPattern (plain_pattern p)) (sym sees.takes.pattern_is) ready.sound;
   one = subst IsOneLeaf (sym sees.takes.pattern_is) ready.one;
   log = ready.log ++ sees.rows;
-  behind = (sees.takes.tells ready.log ready.behind).behind;
+  behind = (sees.takes.reports ready.log ready.behind).behind;
 }
 
 pub rows-after : (objects : List Data) (observations : List Observation) (before after : AlerterState) (text : List ℕ)
     → IsReady before → Sees objects observations before after text → after.watch.rows ≡ before.watch.rows + length observations
 rows-after objects observations before after text ready sees =
-    let stands = (sees.takes.tells ready.log ready.behind).behind.stands in
+    let represents = (sees.takes.reports ready.log ready.behind).behind.represents in
     omega (
       arith,
-      stands.rows,
-      ready.behind.stands.rows,
+      represents.rows,
+      ready.behind.represents.rows,
       length-append ready.log sees.rows,
       entries_of-length (plain_pattern before.pattern) objects observations sees.rows sees.entries,
     )
@@ -135,18 +135,18 @@ rows-after objects observations before after text ready sees =
 pub last-after : (objects : List Data) (observations : List Observation) (before after : AlerterState) (text : List ℕ)
     → IsReady before → Sees objects observations before after text → after.watch.last ≡ last_after before.watch.last observations
 last-after objects observations before after text ready sees =
-    let stands = (sees.takes.tells ready.log ready.behind).behind.stands in
-    stands.last ∙ last-entries (plain_pattern before.pattern) objects observations ready.log sees.rows sees.entries
-    ∙ ap (λ (last : Option ℤ). last_after last observations) (sym ready.behind.stands.last)
+    let represents = (sees.takes.reports ready.log ready.behind).behind.represents in
+    represents.last ∙ last-entries (plain_pattern before.pattern) objects observations ready.log sees.rows sees.entries
+    ∙ ap (λ (last : Option ℤ). last_after last observations) (sym ready.behind.represents.last)
 
 -- what may follow behind one row
 pub follow-after : (before after : AlerterState) (o : Observation) (holds : Bool) (text : List ℕ) (observations : List Observation)
     → IsReady before → TakesRows (row_of o holds ∷ []) before after text
     → MayFollow (Some o.last) ((before.watch.rows + 1) + 1) observations → MayFollow after.watch.last (after.watch.rows + 1) observations
 follow-after before after o holds text observations ready takes follow =
-    let stands = (takes.tells ready.log ready.behind).behind.stands in
-    let rows : after.watch.rows ≡ before.watch.rows + 1 = omega (arith, stands.rows, ready.behind.stands.rows, length-append ready.log (row_of o holds ∷ [])) in
-    let last : after.watch.last ≡ Some o.last = stands.last ∙ last_of-more ready.log (row_of o holds) in
+    let represents = (takes.reports ready.log ready.behind).behind.represents in
+    let rows : after.watch.rows ≡ before.watch.rows + 1 = omega (arith, represents.rows, ready.behind.represents.rows, length-append ready.log (row_of o holds ∷ [])) in
+    let last : after.watch.last ≡ Some o.last = represents.last ∙ last_of-more ready.log (row_of o holds) in
     subst (λ (l : Option ℤ). MayFollow l (after.watch.rows + 1) observations) (sym last)
     (subst (λ (n : ℕ). MayFollow (Some o.last) (n + 1) observations) (sym rows) follow)
 
@@ -158,9 +158,9 @@ one-truth objects roots p truths one are =
     let is = subst (λ (q : PlainPattern). AreTruths objects roots q truths) one.1 are in
     ap length is.1
 
--- ---- what is told of a bundle is cut
+-- ---- what is reported of a bundle is cut
 
--- this text of all that is told was seen, and of it a prefix is written
+-- this text of all that is reported was seen, and of it a prefix is written
 pub all-seen : (objects : List Data) (observations : List Observation) (before after : AlerterState) (text : List ℕ)
     → Sees objects observations before after text → SeesFirst objects observations before text
 all-seen objects observations before after text sees = record {

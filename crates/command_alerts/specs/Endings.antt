@@ -1,4 +1,4 @@
--- What an ending says of the words, the log and what was told; its status, and its reason as a text.
+-- What an ending says of the arguments, the log and what was reported; its status, and its reason as a text.
 use Rattle.std.specs.Prelude.{◌≡◌, ◌⊎◌, ℕ, List, [], codes}
 use Rattle.flow_edges.specs.Streams.{Streams, AreUntouched}
 use Rattle.pattern_types.specs.declared.pattern.Pattern.{Pattern}
@@ -12,13 +12,13 @@ use Rattle.command_alerts.specs.declared.ending.AlertEnding.TheVariants.{Usage, 
 use Rattle.command_alerts.specs.Tasks.{AlertTask, AskFor, AskForNothing, IsReadAsLeaf, IsReadAsMore}
 use Rattle.command_alerts.specs.Telling.{AnswersAlerts}
 
--- the words ask for something, of which that holds
-pub record AskSo (words : List (List ℕ)) (Holds : AlertTask → Type 0) : Type 0 where
+-- the arguments ask for something, of which that holds
+pub record AskSo (arguments : List (List ℕ)) (Holds : AlertTask → Type 0) : Type 0 where
   pub task : AlertTask
-  pub asked : AskFor words task
+  pub asked : AskFor arguments task
   pub holds : Holds task
 
--- the text is read as one pair of brackets, and the alerts of the input were told
+-- the text is read as one pair of brackets, and the alerts of the input were reported
 pub record FollowsInput (before after : Streams) (ended : WatchEnd Infallible) (task : AlertTask) : Type 0 where
   pub pattern : Pattern
   pub read : IsReadAsLeaf task.pattern pattern
@@ -32,9 +32,9 @@ EndsTask before after NotLeaf task = IsReadAsMore task.pattern × AreUntouched b
 EndsTask before after (Ended ended) task = FollowsInput before after ended task
 EndsTask before after NoMemory task = AreUntouched before after
 
--- the words ask for nothing, and that is the ending; or they ask for something, of which it says that
+-- the arguments ask for nothing, and that is the ending; or they ask for something, of which it says that
 abbrev pub EndsAlerts : List (List ℕ) → Streams → Streams → AlertEnding → Type 0
-EndsAlerts words before after ending = (AskForNothing words × (ending ≡ Usage) × AreUntouched before after) ⊎ AskSo words (EndsTask before after ending)
+EndsAlerts arguments before after ending = (AskForNothing arguments × (ending ≡ Usage) × AreUntouched before after) ⊎ AskSo arguments (EndsTask before after ending)
 
 abbrev pub alert_status : AlertEnding → ℕ
 alert_status (Ended end.Done) = 0

@@ -7,27 +7,27 @@ use Rattle.match_input.specs.Reading.{BundleOf, InputEnd, Whole, Refused}
 use Rattle.match_run.specs.Matching.{ReadsInput}
 use Rattle.command_alerts.specs.declared.ending.AlertEnding.{AlertEnding}
 use Rattle.command_alerts.specs.Tasks.{AlertTask, AskFor, AskForNothing, IsReadAsLeaf, IsReadAsNoLeaf}
-use Rattle.command_alerts.specs.Telling.{TellsBundles}
+use Rattle.command_alerts.specs.Telling.{ReportsBundles}
 use Rattle.command_alerts.specs.Endings.{AskSo, EndsAlerts, alert_status, IsAlertReason}
 
 -- the program ended in one of its ways, with that status and that reason
-pub record Ends (words : List (List ℕ)) (before after : Streams) (status : ℕ) (Writes : List ℕ → Type 0) : Type 0 where
+pub record Ends (arguments : List (List ℕ)) (before after : Streams) (status : ℕ) (Writes : List ℕ → Type 0) : Type 0 where
   pub ending : AlertEnding
   pub status_is : status ≡ alert_status ending
-  pub stands : EndsAlerts words before after ending
+  pub represents : EndsAlerts arguments before after ending
   pub text : List ℕ
   pub reason_is : IsAlertReason ending text
   pub reason : Writes text
 
--- the words ask for the alerts of what is no pair of brackets
+-- the arguments ask for the alerts of what is no pair of brackets
 abbrev pub RefusesPattern : List (List ℕ) → Type 0
-RefusesPattern words = AskSo words (λ task. IsReadAsNoLeaf task.pattern)
+RefusesPattern arguments = AskSo arguments (λ task. IsReadAsNoLeaf task.pattern)
 
--- the status 2 tells that the words ask for nothing, and 3 that the pattern is refused; only want of memory comes instead of 3
-pub record TellsRefusals (words : List (List ℕ)) (status : ℕ) : Type 0 where
-  pub usage : (status ≡ 2) ↔ AskForNothing words
-  pub pattern : status ≡ 3 → RefusesPattern words
-  pub refused : RefusesPattern words → (status ≡ 3) ⊎ (status ≡ 1)
+-- the status 2 reports that the arguments ask for nothing, and 3 that the pattern is refused; only want of memory comes instead of 3
+pub record ReportsRefusals (arguments : List (List ℕ)) (status : ℕ) : Type 0 where
+  pub usage : (status ≡ 2) ↔ AskForNothing arguments
+  pub pattern : status ≡ 3 → RefusesPattern arguments
+  pub refused : RefusesPattern arguments → (status ≡ 3) ⊎ (status ≡ 1)
 
 -- the status of a run over an input with that end
 abbrev pub end_status : InputEnd → ℕ
@@ -35,14 +35,14 @@ end_status Whole = 0
 end_status (Refused line why) = 4
 
 -- the bytes of the input are read as bundles, up to their end or to the first line that is refused, and the alerts over the log of
--- these were told, and nothing else
-pub record TellsInput (words : List (List ℕ)) (before after : Streams) (status : ℕ) : Type 0 where
+-- these were reported, and nothing else
+pub record ReportsInput (arguments : List (List ℕ)) (before after : Streams) (status : ℕ) : Type 0 where
   pub task : AlertTask
-  pub asked : AskFor words task
+  pub asked : AskFor arguments task
   pub pattern : Pattern
   pub read : IsReadAsLeaf task.pattern pattern
   pub bundles : List BundleOf
   pub end : InputEnd
   pub reading : ReadsInput Lines before.left bundles end
   pub end_is : end_status end ≡ status
-  pub tells : TellsBundles pattern task.n task.seconds bundles before.written after.written
+  pub reports : ReportsBundles pattern task.n task.seconds bundles before.written after.written

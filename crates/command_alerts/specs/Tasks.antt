@@ -1,12 +1,12 @@
--- What words ask for: PATTERN N SECONDS.
+-- What arguments ask for: PATTERN N SECONDS.
 use Rattle.std.specs.Prelude.{◌≡◌, ℕ, ◌≤◌, List, [], ◌∷◌}
 use Rattle.pattern_types.specs.declared.pattern.Pattern.{Pattern}
 use Rattle.pattern_types.specs.PlainLeaf.{PlainLeaf}
 use Rattle.pattern_types.specs.PlainPattern.{a_leaf, plain_pattern}
 use Rattle.pattern_reader.specs.Read.{IsReadAs}
 use Rattle.command_line.specs.CommandLines.{IsNumberIn}
-use Rattle.command_alerts.specs.declared.words.AlertRequest.{AlertRequest}
-use Rattle.command_alerts.specs.declared.words.TheConstants.{MAX_N, MAX_SECONDS}
+use Rattle.command_alerts.specs.declared.arguments.AlertRequest.{AlertRequest}
+use Rattle.command_alerts.specs.declared.arguments.TheConstants.{MAX_N, MAX_SECONDS}
 
 -- the alerts of a pattern, for so many matches within so many seconds
 pub record AlertTask : Type 0 where
@@ -18,17 +18,17 @@ pub record AlertTask : Type 0 where
 abbrev pub task_of : AlertRequest → AlertTask
 task_of request = record { pattern = request.pattern.now; n = request.n; seconds = request.seconds }
 
--- the words are PATTERN N SECONDS
-pub record AskFor (words : List (List ℕ)) (task : AlertTask) : Type 0 where
+-- the arguments are PATTERN N SECONDS
+pub record AskFor (arguments : List (List ℕ)) (task : AlertTask) : Type 0 where
   pub n_text : List ℕ
   pub seconds_text : List ℕ
-  pub words_are : words ≡ task.pattern ∷ n_text ∷ seconds_text ∷ []
+  pub arguments_are : arguments ≡ task.pattern ∷ n_text ∷ seconds_text ∷ []
   pub n_is : IsNumberIn 1 MAX_N n_text task.n
   pub seconds_is : IsNumberIn 1 MAX_SECONDS seconds_text task.seconds
 
 -- they aren't that
 abbrev pub AskForNothing : List (List ℕ) → Type 0
-AskForNothing words = (task : AlertTask) → ¬ AskFor words task
+AskForNothing arguments = (task : AlertTask) → ¬ AskFor arguments task
 
 -- the numbers are such as may be asked for
 abbrev pub IsInRange : AlertTask → Type 0

@@ -1,4 +1,4 @@
--- What a run over an input has told, by how it ended. The pattern is one pair of brackets; n and x are how many matches within how
+-- What a run over an input has reported, by how it ended. The pattern is one pair of brackets; n and x are how many matches within how
 -- many seconds are asked for.
 use Rattle.std.specs.Prelude.{◌≡◌, ◌⊎◌, ℕ, List, [], ◌∷◌, ◌++◌, Option}
 use Rattle.std.specs.declared.convert.Infallible.{Infallible}
@@ -12,47 +12,47 @@ use Rattle.match_input.specs.declared.mode.Mode.TheVariants.{Lines}
 use Rattle.match_input.specs.declared.rule.InputRule.{InputRule}
 use Rattle.match_input.specs.Reading.{BundleOf, Whole, Refused}
 use Rattle.match_run.specs.Entries.{AreEntriesOf, AreEntries}
-use Rattle.match_run.specs.Matching.{ReadsInput, BeginsSo, StopsIn, ReadsTaken}
+use Rattle.match_run.specs.Matching.{ReadsInput, HasPrefix, StopsIn, ReadsTaken}
 use Rattle.match_run.specs.Reading.{ReadsOnlyTo}
 use Rattle.match_run.specs.declared.watch_end.WatchEnd.{WatchEnd}
 use Rattle.match_run.specs.declared.watch_end.WatchEnd.TheVariants.{Done, Input, ReadFault, WriteFault, Stopped, NoMemory}
-use Rattle.command_alerts.specs.Alerts.{TellsLog}
+use Rattle.command_alerts.specs.Alerts.{ReportsLog}
 
--- the alerts over the log of some bundles were told
-pub record TellsBundles (p : Pattern) (n x : ℕ) (bundles : List BundleOf) (written written_after : Option (List ℕ)) : Type 0 where
+-- the alerts over the log of some bundles were reported
+pub record ReportsBundles (p : Pattern) (n x : ℕ) (bundles : List BundleOf) (written written_after : Option (List ℕ)) : Type 0 where
   pub log : List LogEntry
   pub entries : AreEntries (plain_pattern p) bundles log
   pub text : List ℕ
-  pub tells : TellsLog n x log text
+  pub reports : ReportsLog n x log text
   pub text_is : written_after ≡ written_with text written
 
--- the input was read to its end, and all alerts were told
-pub record TellsWhole (p : Pattern) (n x : ℕ) (before after : Streams) : Type 0 where
+-- the input was read to its end, and all alerts were reported
+pub record ReportsWhole (p : Pattern) (n x : ℕ) (before after : Streams) : Type 0 where
   pub bundles : List BundleOf
   pub reading : ReadsInput Lines before.left bundles Whole
-  pub tells : TellsBundles p n x bundles before.written after.written
+  pub reports : ReportsBundles p n x bundles before.written after.written
   pub drained : IsAtEnd after.left
 
--- it was read up to the first line that is refused, and the alerts before it were told
-pub record TellsBefore (p : Pattern) (n x : ℕ) (before after : Streams) (line : ℕ) (why : InputRule) : Type 0 where
+-- it was read up to the first line that is refused, and the alerts before it were reported
+pub record ReportsBefore (p : Pattern) (n x : ℕ) (before after : Streams) (line : ℕ) (why : InputRule) : Type 0 where
   pub bundles : List BundleOf
   pub reading : ReadsInput Lines before.left bundles (Refused line why)
-  pub tells : TellsBundles p n x bundles before.written after.written
+  pub reports : ReportsBundles p n x bundles before.written after.written
   pub little : StopsIn line before.left after.left
 
--- a read failed: the alerts of the whole lines in the bytes taken were told
-pub record TellsTaken (p : Pattern) (n x : ℕ) (before after : Streams) : Type 0 where
+-- a read failed: the alerts of the whole lines in the bytes taken were reported
+pub record ReportsTaken (p : Pattern) (n x : ℕ) (before after : Streams) : Type 0 where
   pub bundles : List BundleOf
-  pub begins : BeginsSo Lines before.left bundles
-  pub tells : TellsBundles p n x bundles before.written after.written
+  pub begins : HasPrefix Lines before.left bundles
+  pub reports : ReportsBundles p n x bundles before.written after.written
   pub taken : ReadsTaken bundles before.left after.left
 
--- the run stopped within a bundle, and read no further than its line: the alerts of the bundles before were told, and of what is
--- told of its first observations a prefix was written
+-- the run stopped within a bundle, and read no further than its line: the alerts of the bundles before were reported, and of what is
+-- reported of its first observations a prefix was written
 pub record StopsWithin (p : Pattern) (n x : ℕ) (before after : Streams) : Type 0 where
   pub earlier : List BundleOf
   pub bundle : BundleOf
-  pub begins : BeginsSo Lines before.left (earlier ++ bundle ∷ [])
+  pub begins : HasPrefix Lines before.left (earlier ++ bundle ∷ [])
   pub only : ReadsOnlyTo bundle.line before.left after.left after.began
   pub seen : List Observation
   pub later : List Observation
@@ -63,21 +63,21 @@ pub record StopsWithin (p : Pattern) (n x : ℕ) (before after : Streams) : Type
   pub own_entries : AreEntriesOf (plain_pattern p) bundle.objects seen own
   pub text : List ℕ
   pub more : List ℕ
-  pub tells : TellsLog n x log text
-  pub tells_all : TellsLog n x (log ++ own) (text ++ more)
+  pub reports : ReportsLog n x log text
+  pub reports_all : ReportsLog n x (log ++ own) (text ++ more)
   pub prefix : WritesPrefix more (written_with text before.written) after.written
 
--- the run stopped between two bundles: the alerts of those before were told
+-- the run stopped between two bundles: the alerts of those before were reported
 pub record StopsBetween (p : Pattern) (n x : ℕ) (before after : Streams) : Type 0 where
   pub bundles : List BundleOf
-  pub begins : BeginsSo Lines before.left bundles
-  pub tells : TellsBundles p n x bundles before.written after.written
+  pub begins : HasPrefix Lines before.left bundles
+  pub reports : ReportsBundles p n x bundles before.written after.written
 
 -- what an end says; nothing but memory, the input and the output stops the run
 abbrev pub AnswersAlerts : Pattern → ℕ → ℕ → Streams → Streams → WatchEnd Infallible → Type 0
-AnswersAlerts p n x before after Done = TellsWhole p n x before after
-AnswersAlerts p n x before after (Input line why) = TellsBefore p n x before after line why
-AnswersAlerts p n x before after ReadFault = TellsTaken p n x before after
+AnswersAlerts p n x before after Done = ReportsWhole p n x before after
+AnswersAlerts p n x before after (Input line why) = ReportsBefore p n x before after line why
+AnswersAlerts p n x before after ReadFault = ReportsTaken p n x before after
 AnswersAlerts p n x before after WriteFault = StopsWithin p n x before after
 AnswersAlerts p n x before after (Stopped never) = ⊥
 AnswersAlerts p n x before after NoMemory = StopsBetween p n x before after ⊎ StopsWithin p n x before after

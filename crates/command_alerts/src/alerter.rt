@@ -16,12 +16,12 @@ use std::alloc::Global;
 use std::convert::Infallible;
 use std::marker::Model;
 use stix_bundles::Observation;
-use alert_window::laws::alerts_stay;
+use alert_window::laws::alerts_persist;
 use alert_window::{Watch, WatchRefusal};
-use match_run::watch_laws::parts_on_their_way;
+use match_run::watch_laws::parts_are_buffered;
 use match_run::{CutShort, Pending, SeeEnd, Watcher};
 
-/// Who tells the alerts of a log: a pattern, which is one bracket, and the watch over the rows at which it holds.
+/// Who reports the alerts of a log: a pattern, which is one bracket, and the watch over the rows at which it holds.
 #[derive(Drop)]
 pub(crate) struct Alerter<'p> {
     alloc: Global,
@@ -53,8 +53,8 @@ impl<'p> Alerter<'p> {
         }
     }
 
-    /// Tells of each observation of a bundle, in turn.
-    fn tell_all<O: Sink>(
+    /// Reports of each observation of a bundle, in turn.
+    fn report_all<O: Sink>(
         &mut self,
         batch: &Batch,
         pending: &mut Pending,
@@ -67,23 +67,23 @@ impl<'p> Alerter<'p> {
         ensures part { OnErr result (SeesPart (data_in batch.now.bundle) batch.now.observations self.old (O.written output.old) (O.written output.new)) }
         ensures causes { Counted (result ≡ Err CutShort.WriteFault) (O.faults output.old) (O.faults output.new) }
     {
-        alerts_stay();
-        parts_on_their_way();
+        alerts_persist();
+        parts_are_buffered();
         let observations = batch.observations.as_slice();
         let truths = leaf_truths(self.alloc, self.pattern, observations, &batch.bundle)?;
         let rows = truths.as_slice();
         for at in 0..observations.len() {
             let observation = &observations[at];
             let holds = holds_alone(rows[at].as_slice());
-            let text = self.told_of(observation, holds)?;
+            let text = self.reported_of(observation, holds)?;
             pending.add(&text, output)?;
         }
         Ok(())
     }
 
-    /// Takes the next observation, at which the bracket holds or not. The answer is what is told of it: its line, where it
+    /// Takes the next observation, at which the bracket holds or not. The answer is what is reported of it: its line, where it
     /// is an alert, or nothing.
-    fn told_of(&mut self, observation: &Observation, holds: bool) -> Result<Vec<u8>, NoMemory>
+    fn reported_of(&mut self, observation: &Observation, holds: bool) -> Result<Vec<u8>, NoMemory>
         requires ready { IsReady self.old }
         requires span { observation.now.first ≤ℤ observation.now.last }
         requires number { observation.now.number ≡ self.old.watch.rows + 1 }
@@ -125,7 +125,7 @@ impl<'p> Watcher for Alerter<'p> {
 
     fn see<O: Sink>(&mut self, batch: &Batch, output: &mut O) -> Result<(), SeeEnd<Infallible>> {
         let mut pending = Pending::new(self.alloc);
-        self.tell_all(batch, &mut pending, output)?;
+        self.report_all(batch, &mut pending, output)?;
         pending.write(output)?;
         Ok(())
     }

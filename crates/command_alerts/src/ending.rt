@@ -12,7 +12,7 @@ use match_run::WatchEnd;
 /// How the program ends.
 #[derive(Debug, Drop)]
 pub enum AlertEnding {
-    /// The words ask for nothing.
+    /// The arguments ask for nothing.
     Usage,
     /// The pattern is refused.
     PatternRefused(PatternRefusal),
@@ -44,7 +44,7 @@ impl AlertEnding {
         }
     }
 
-    /// Writes why the program ends so, in one line, or nothing where all was told. Takes no memory.
+    /// Writes why the program ends so, in one line, or nothing where all was reported. Takes no memory.
     pub fn write_reason<S: Sink>(&self, reasons: &mut S) -> Result<(), Fault>
         ensures text { (text : List ℕ) × IsAlertReason self.now text × WritesWhole text (S.written reasons.old) (S.written reasons.new) result }
         ensures causes { Counted (IsErr result) (S.faults reasons.old) (S.faults reasons.new) }

@@ -1,4 +1,4 @@
-//! The alerter: at which observations of a log at least n matches of one bracket lie within x seconds, as words ask for it, each told
+//! The alerter: at which observations of a log at least n matches of one bracket lie within x seconds, as arguments ask for it, each reported
 //! before the next line is read.
 #![tactic(auto)]
 
@@ -6,7 +6,7 @@ mod alert_line;
 mod alerter;
 mod ending;
 mod run;
-mod words;
+mod arguments;
 
 pub use ending::AlertEnding;
 pub use run::run_alerts;

@@ -7,11 +7,11 @@ ghost use Rattle.command_reasons.specs.Reasons.{WritesReason};
 ghost use Rattle.command_alerts.specs.Tasks.{IsInRange, IsReadAsLeaf, task_of};
 ghost use Rattle.command_alerts.specs.Telling.{AnswersAlerts};
 ghost use Rattle.command_alerts.specs.Endings.{EndsTask, EndsAlerts, alert_status, IsAlertReason};
-ghost use Rattle.command_alerts.specs.Runs.{Ends, TellsRefusals, TellsInput};
+ghost use Rattle.command_alerts.specs.Runs.{Ends, ReportsRefusals, ReportsInput};
 
 use crate::alerter::Alerter;
 use crate::ending::AlertEnding;
-use crate::words::{AlertRequest, read_request};
+use crate::arguments::{AlertRequest, read_request};
 use flow_edges::{Sink, Source};
 use flow_values::NoMemory;
 use match_input::{Mode, Reader};
@@ -21,11 +21,11 @@ use pattern_types::Pattern;
 use std::alloc::Global;
 use std::convert::Infallible;
 use alert_window::Watch;
-use alert_window::laws::alerts_stay;
+use alert_window::laws::alerts_persist;
 use match_run::watch_laws::begins_with_none;
 use match_run::{WatchEnd, follow};
 
-/// Tells the alerts of an input for a pattern that is one bracket.
+/// Reports the alerts of an input for a pattern that is one bracket.
 fn watch_input<I: Source, O: Sink>(
     alloc: Global,
     pattern: &Pattern,
@@ -41,7 +41,7 @@ fn watch_input<I: Source, O: Sink>(
     ensures input { Counted (result ≡ Ok WatchEnd.ReadFault) (I.faults input.old) (I.faults input.new) }
     ensures output { Counted (result ≡ Ok WatchEnd.WriteFault) (O.faults output.old) (O.faults output.new) }
 {
-    alerts_stay();
+    alerts_persist();
     begins_with_none();
     let watch = Watch::new(alloc, request.n, request.seconds)?;
     let mut reader = Reader::new(alloc, Mode::Lines)?;
@@ -49,8 +49,8 @@ fn watch_input<I: Source, O: Sink>(
     Ok(follow(&mut reader, &mut alerter, input, output))
 }
 
-/// Tells the alerts of an input for a pattern.
-fn tell_alerts<I: Source, O: Sink>(
+/// Reports the alerts of an input for a pattern.
+fn report_alerts<I: Source, O: Sink>(
     alloc: Global,
     pattern: &Pattern,
     request: AlertRequest<'_>,
@@ -91,7 +91,7 @@ fn answer<I: Source, O: Sink>(
     none_refused();
     match read_pattern(alloc, request.pattern) {
         Ok(pattern) => {
-            let ending = tell_alerts(alloc, &pattern, request, input, output);
+            let ending = report_alerts(alloc, &pattern, request, input, output);
             drop(pattern);
             ending
         }
@@ -100,61 +100,61 @@ fn answer<I: Source, O: Sink>(
     }
 }
 
-/// Does what the words ask for.
-fn obey<I: Source, O: Sink>(
+/// Does what the arguments ask for.
+fn execute<I: Source, O: Sink>(
     alloc: Global,
-    words: &[String],
+    arguments: &[String],
     input: &mut I,
     output: &mut O,
 ) -> AlertEnding
-    ensures end { EndsAlerts (texts words.now) (streams (I.left input.old) (I.began input.old) (O.written output.old))
+    ensures end { EndsAlerts (texts arguments.now) (streams (I.left input.old) (I.began input.old) (O.written output.old))
         (streams (I.left input.new) (I.began input.new) (O.written output.new)) result }
     ensures untouched { (alert_status result ≡ 2) ⊎ (alert_status result ≡ 3) → (input.new ≡ input.old) × (output.new ≡ output.old) }
     ensures input { Counted (alert_status result ≡ 5) (I.faults input.old) (I.faults input.new) }
     ensures output { Counted (alert_status result ≡ 6) (O.faults output.old) (O.faults output.new) }
 {
-    match read_request(words) {
+    match read_request(arguments) {
         Some(request) => answer(alloc, request, input, output),
         None => AlertEnding::Usage,
     }
 }
 
-/// The program: tells the alerts that the words after its name ask for, each before more is read than its line, and answers
+/// The program: reports the alerts that the arguments after its name ask for, each before more is read than its line, and answers
 /// its status.
 ///
 /// | Status | Comes |
 /// |---|---|
-/// | 0 | the input was read to its end, and all alerts were told |
+/// | 0 | the input was read to its end, and all alerts were reported |
 /// | 1 | memory ran out |
-/// | 2 | exactly where the words ask for nothing |
+/// | 2 | exactly where the arguments ask for nothing |
 /// | 3 | exactly where the pattern is refused or isn't one bracket, unless memory runs out while it is read |
 /// | 4 | where a line is refused, the first such one |
 /// | 5, 6 | only where the input, the output counted a fault, and at each fault of theirs |
 ///
-/// On `faults` the reason is told in one line. A failing write there changes nothing else.
+/// On `faults` the reason is reported in one line. A failing write there changes nothing else.
 pub fn run_alerts<I: Source, O: Sink, E: Sink>(
     alloc: Global,
-    words: &[String],
+    arguments: &[String],
     input: &mut I,
     output: &mut O,
     faults: &mut E,
 ) -> u8
-    ensures ends { Ends (texts words.now) (streams (I.left input.old) (I.began input.old) (O.written output.old))
+    ensures ends { Ends (texts arguments.now) (streams (I.left input.old) (I.began input.old) (O.written output.old))
         (streams (I.left input.new) (I.began input.new) (O.written output.new)) result
         (λ reason. WritesReason reason (E.written faults.old) (E.written faults.new) (E.faults faults.old) (E.faults faults.new)) }
-    ensures refusals { TellsRefusals (texts words.now) result }
-    ensures told { (result ≡ 0) ⊎ (result ≡ 4) → TellsInput (texts words.now) (streams (I.left input.old) (I.began input.old) (O.written output.old))
+    ensures refusals { ReportsRefusals (texts arguments.now) result }
+    ensures reported { (result ≡ 0) ⊎ (result ≡ 4) → ReportsInput (texts arguments.now) (streams (I.left input.old) (I.began input.old) (O.written output.old))
         (streams (I.left input.new) (I.began input.new) (O.written output.new)) result }
     ensures untouched { (result ≡ 2) ⊎ (result ≡ 3) → (input.new ≡ input.old) × (output.new ≡ output.old) }
     ensures input { Counted (result ≡ 5) (I.faults input.old) (I.faults input.new) }
     ensures output { Counted (result ≡ 6) (O.faults output.old) (O.faults output.new) }
 {
     one_pattern();
-    let ending = obey(alloc, words, input, output);
+    let ending = execute(alloc, arguments, input, output);
     finish(&ending, faults)
 }
 
-/// Tells why the program ends so, and answers its status.
+/// Reports why the program ends so, and answers its status.
 fn finish<E: Sink>(ending: &AlertEnding, faults: &mut E) -> u8
     ensures status { result ≡ alert_status ending.now }
     ensures reason { (text : List ℕ) × IsAlertReason ending.now text × WritesReason text (E.written faults.old) (E.written faults.new) (E.faults faults.old) (E.faults faults.new) }

@@ -18,7 +18,7 @@ use Rattle.match_input.specs.declared.rule.InputRule.{InputRule}
 use Rattle.match_input.specs.declared.rule.InputRule.TheVariants.{LineTooLong, InputTooLong, Embedded, OutOfOrder, Json as NoJson, Bundle as NoBundle}
 use Rattle.command_check.specs.declared.verdict.Verdict.{Verdict}
 use Rattle.command_check.specs.declared.verdict.Verdict.TheVariants.{Sound, Broken, Unfit, Refused}
-use Rattle.command_check.specs.Verdicts.{IsNotBundleFor, AreJudged, IsBundleJudged, HasJson, IsJudged}
+use Rattle.command_check.specs.Verdicts.{IsNotBundleFor, AreValidated, IsBundleValidated, HasJson, IsValidated}
 
 -- objects have one list of breaks of versions, and of markings
 abbrev OneVersions : Type 0
@@ -36,7 +36,7 @@ pub record OneReading : Type 0 where
 one_value : (bytes : List ℕ) (d e : Data) → IsValueOf bytes d → IsValueOf bytes e → d ≡ e
 one_value bytes d e a b = ap (λ (o : Option Data). unwrap_or o d) (sym a.value ∙ b.value)
 
-fit_once : OneVersions → OneMarkings → (objects : List Data) (a b : Verdict) → AreJudged objects a → AreJudged objects b → a ≡ b
+fit_once : OneVersions → OneMarkings → (objects : List Data) (a b : Verdict) → AreValidated objects a → AreValidated objects b → a ≡ b
 fit_once versions markings objects (Sound n) (Sound m) a b = ap Sound (a.0 ∙ sym b.0)
 fit_once versions markings objects (Sound n) (Unfit vs ms) a b = absurd (b.2 (versions objects vs [] b.0 a.1, markings objects ms [] b.1 a.2))
 fit_once versions markings objects (Unfit vs ms) (Sound m) a b = absurd (a.2 (versions objects vs [] a.0 b.1, markings objects ms [] a.1 b.2))
@@ -51,12 +51,12 @@ fit_once versions markings objects (Refused rule) b x y = absurd x
 
 -- a bundle, of which that is found
 abbrev IsFit : Data → Verdict → Type 0
-IsFit d a = (objects : List Data) × IsBundle d objects × AreJudged objects a
+IsFit d a = (objects : List Data) × IsBundle d objects × AreValidated objects a
 
 two_fit : OneVersions → OneMarkings → OneReading → (d : Data) (a b : Verdict) → IsFit d a → IsFit d b → a ≡ b
 two_fit versions markings one d a b x y =
     let same : x.0 ≡ y.0 = one.bundle d x.0 y.0 x.1 y.1 in
-    fit_once versions markings y.0 a b (subst (λ (os : List Data). AreJudged os a) same x.2) y.2
+    fit_once versions markings y.0 a b (subst (λ (os : List Data). AreValidated os a) same x.2) y.2
 
 -- why a value is no bundle: for a condition that fails
 not_bundle : (d : Data) (rule : InputRule) → IsNotBundleFor d rule → (path : List ℕ) × (rule ≡ NoBundle (NotBundle path)) × IsBundleRefused d (NotBundle path)
@@ -70,13 +70,13 @@ not_bundle d (NoBundle (Breaks breaks)) why = elim why [ ]
 not_bundle d (NoBundle NoMemory) why = elim why [ ]
 
 -- a verdict on a value that is no bundle without breaks, as its refusal
-refused_as : (d : Data) (a : Verdict) → IsBundleJudged d a → IsFit d a ⊎ ((cause : BundleRefusal) × IsBundleRefused d cause)
-refused_as d (Sound n) judged = inl judged
-refused_as d (Unfit vs ms) judged = inl judged
-refused_as d (Broken breaks) judged = inr (Breaks breaks, judged)
-refused_as d (Refused rule) judged = let why = not_bundle d rule judged in inr (NotBundle why.0, why.2)
+refused_as : (d : Data) (a : Verdict) → IsBundleValidated d a → IsFit d a ⊎ ((cause : BundleRefusal) × IsBundleRefused d cause)
+refused_as d (Sound n) validated = inl validated
+refused_as d (Unfit vs ms) validated = inl validated
+refused_as d (Broken breaks) validated = inr (Breaks breaks, validated)
+refused_as d (Refused rule) validated = let why = not_bundle d rule validated in inr (NotBundle why.0, why.2)
 
-refused_once : OneReading → (d : Data) (a b : Verdict) → ¬ IsFit d a → ¬ IsFit d b → IsBundleJudged d a → IsBundleJudged d b → a ≡ b
+refused_once : OneReading → (d : Data) (a b : Verdict) → ¬ IsFit d a → ¬ IsFit d b → IsBundleValidated d a → IsBundleValidated d b → a ≡ b
 refused_once one d (Sound n) b no_a no_b x y = absurd (no_a x)
 refused_once one d (Unfit vs ms) b no_a no_b x y = absurd (no_a x)
 refused_once one d (Broken breaks) (Sound n) no_a no_b x y = absurd (no_b y)
@@ -93,8 +93,8 @@ refused_once one d (Refused rule) (Refused other) no_a no_b x y =
     let same = one.refusal d (NotBundle first.0) (NotBundle second.0) first.2 second.2 in
     ap Refused (first.1 ∙ ap NoBundle same ∙ sym second.1)
 
-judged_once : OneVersions → OneMarkings → OneReading → (d : Data) (a b : Verdict) → IsBundleJudged d a → IsBundleJudged d b → a ≡ b
-judged_once versions markings one d a b x y = elim (refused_as d a x) [
+validated_once : OneVersions → OneMarkings → OneReading → (d : Data) (a b : Verdict) → IsBundleValidated d a → IsBundleValidated d b → a ≡ b
+validated_once versions markings one d a b x y = elim (refused_as d a x) [
   | inl fit ↦ elim (refused_as d b y) [
     | inl other ↦ two_fit versions markings one d a b fit other
     | inr cause ↦ absurd (one.either d fit.0 cause.0 fit.1 cause.1)
@@ -134,29 +134,29 @@ one_refusal bytes r s (inr a) (inr b) =
     let same : a.0 ≡ b.0 = one_value bytes a.0 b.0 a.1 b.1 in
     ap (λ (o : Option JsonRefusal). unwrap_or o r) (sym a.2 ∙ ap refusal_of same ∙ b.2)
 
--- bytes are judged by their value, or have none
+-- bytes are validated by their value, or have none
 record NoJsonFor (bytes : List ℕ) (a : Verdict) : Type 0 where
   refusal : JsonRefusal
   is : a ≡ Refused (NoJson refusal)
   why : IsRefusalOf bytes refusal
 
-by_json : (bytes : List ℕ) (a : Verdict) → IsJudged bytes a → HasJson bytes (λ d. IsBundleJudged d a) ⊎ NoJsonFor bytes a
-by_json bytes (Sound n) judged = inl judged
-by_json bytes (Broken breaks) judged = inl judged
-by_json bytes (Unfit versions markings) judged = inl judged
-by_json bytes (Refused LineTooLong) judged = elim judged [ ]
-by_json bytes (Refused InputTooLong) judged = elim judged [ ]
-by_json bytes (Refused (Embedded object)) judged = elim judged [ ]
-by_json bytes (Refused (OutOfOrder last now)) judged = elim judged [ ]
-by_json bytes (Refused (NoJson refusal)) judged = inr (record { refusal = refusal; is = refl; why = refusal_of_bytes bytes refusal judged.0 judged.1 })
-by_json bytes (Refused (NoBundle refusal)) judged = inl judged
+by_json : (bytes : List ℕ) (a : Verdict) → IsValidated bytes a → HasJson bytes (λ d. IsBundleValidated d a) ⊎ NoJsonFor bytes a
+by_json bytes (Sound n) validated = inl validated
+by_json bytes (Broken breaks) validated = inl validated
+by_json bytes (Unfit versions markings) validated = inl validated
+by_json bytes (Refused LineTooLong) validated = elim validated [ ]
+by_json bytes (Refused InputTooLong) validated = elim validated [ ]
+by_json bytes (Refused (Embedded object)) validated = elim validated [ ]
+by_json bytes (Refused (OutOfOrder last now)) validated = elim validated [ ]
+by_json bytes (Refused (NoJson refusal)) validated = inr (record { refusal = refusal; is = refl; why = refusal_of_bytes bytes refusal validated.0 validated.1 })
+by_json bytes (Refused (NoBundle refusal)) validated = inl validated
 
-pub one_verdict : OneVersions → OneMarkings → OneReading → (bytes : List ℕ) (a b : Verdict) → IsJudged bytes a → IsJudged bytes b → a ≡ b
+pub one_verdict : OneVersions → OneMarkings → OneReading → (bytes : List ℕ) (a b : Verdict) → IsValidated bytes a → IsValidated bytes b → a ≡ b
 one_verdict versions markings one bytes a b first second = elim (by_json bytes a first) [
   | inl x ↦ elim (by_json bytes b second) [
     | inl y ↦
         let same : data_of x.0 ≡ data_of y.0 = one_value bytes (data_of x.0) (data_of y.0) x.1.value y.1.value in
-        judged_once versions markings one (data_of y.0) a b (subst (λ (d : Data). IsBundleJudged d a) same x.2) y.2
+        validated_once versions markings one (data_of y.0) a b (subst (λ (d : Data). IsBundleValidated d a) same x.2) y.2
     | inr y ↦ absurd (no_json bytes x.0 y.refusal x.1 y.why)
   ]
   | inr x ↦ elim (by_json bytes b second) [

@@ -13,9 +13,9 @@ use Rattle.match_input.specs.Texts.{break_text, IsInputRefusalText}
 use Rattle.command_check.specs.declared.verdict.Verdict.{Verdict}
 use Rattle.command_check.specs.declared.verdict.Verdict.TheVariants as verdict
 use Rattle.command_check.specs.declared.checking.CheckEnding.{CheckEnding}
-use Rattle.command_check.specs.declared.checking.CheckEnding.TheVariants.{Judged, TooLong, ReadFault, WriteFault, NoMemory}
+use Rattle.command_check.specs.declared.checking.CheckEnding.TheVariants.{Validated, TooLong, ReadFault, WriteFault, NoMemory}
 use Rattle.flow_edges.specs.Streams.{Streams}
-use Rattle.command_check.specs.Verdicts.{IsJudged}
+use Rattle.command_check.specs.Verdicts.{IsValidated}
 
 -- object I: RULE at PATH
 abbrev pub break_line : ObjectBreak → List ℕ
@@ -41,44 +41,44 @@ verdict_text (verdict.Refused rule) = []
 pub record IsVerdictOn (before after : Streams) (found : Verdict) : Type 0 where
   pub bytes : List ℕ
   pub whole : IsWhole bytes before.left after.left
-  pub judged : IsJudged bytes found
+  pub validated : IsValidated bytes found
 
 -- no more is taken of the input than it may have, and one read
 abbrev pub TakesNoMore : Streams → Streams → Type 0
 TakesNoMore before after = TakesAtMost (MAX_WHOLE_INPUT + MAX_READ) before.left after.left
 
 abbrev pub EndsCheck : Streams → Streams → CheckEnding → Type 0
-EndsCheck before after (Judged found) = IsVerdictOn before after found × (after.written ≡ written_with (verdict_text found) before.written)
+EndsCheck before after (Validated found) = IsVerdictOn before after found × (after.written ≡ written_with (verdict_text found) before.written)
 EndsCheck before after TooLong = IsTooLong before.left × TakesNoMore before after × (after.written ≡ before.written)
 EndsCheck before after ReadFault = TakesNoMore before after × (after.written ≡ before.written)
 EndsCheck before after WriteFault = (found : Verdict) × IsVerdictOn before after found × WritesPrefix (verdict_text found) before.written after.written
 EndsCheck before after NoMemory = TakesNoMore before after × (after.written ≡ before.written)
 
 abbrev pub check_status : CheckEnding → ℕ
-check_status (Judged (verdict.Sound count)) = 0
+check_status (Validated (verdict.Sound count)) = 0
 check_status NoMemory = 1
-check_status (Judged (verdict.Broken breaks)) = 4
-check_status (Judged (verdict.Unfit versions markings)) = 4
-check_status (Judged (verdict.Refused rule)) = 4
+check_status (Validated (verdict.Broken breaks)) = 4
+check_status (Validated (verdict.Unfit versions markings)) = 4
+check_status (Validated (verdict.Refused rule)) = 4
 check_status TooLong = 4
 check_status ReadFault = 5
 check_status WriteFault = 6
 
 -- an input that is refused is line 1
 abbrev pub IsCheckReason : CheckEnding → List ℕ → Type 0
-IsCheckReason (Judged (verdict.Sound count)) text = text ≡ []
+IsCheckReason (Validated (verdict.Sound count)) text = text ≡ []
 IsCheckReason NoMemory text = text ≡ codes "out of memory\n"
-IsCheckReason (Judged (verdict.Broken breaks)) text = text ≡ []
-IsCheckReason (Judged (verdict.Unfit versions markings)) text = text ≡ []
-IsCheckReason (Judged (verdict.Refused rule)) text = IsInputRefusalText 1 rule text
+IsCheckReason (Validated (verdict.Broken breaks)) text = text ≡ []
+IsCheckReason (Validated (verdict.Unfit versions markings)) text = text ≡ []
+IsCheckReason (Validated (verdict.Refused rule)) text = IsInputRefusalText 1 rule text
 IsCheckReason TooLong text = IsInputRefusalText 1 InputTooLong text
 IsCheckReason ReadFault text = text ≡ codes "read fault\n"
 IsCheckReason WriteFault text = text ≡ codes "write fault\n"
 
 -- For private clauses: what an ending says of bytes that were read.
-abbrev pub EndsJudging : List ℕ → Option (List ℕ) → Option (List ℕ) → CheckEnding → Type 0
-EndsJudging bytes written written_after (Judged found) = IsJudged bytes found × (written_after ≡ written_with (verdict_text found) written)
-EndsJudging bytes written written_after TooLong = ⊥
-EndsJudging bytes written written_after ReadFault = ⊥
-EndsJudging bytes written written_after WriteFault = (found : Verdict) × IsJudged bytes found × WritesPrefix (verdict_text found) written written_after
-EndsJudging bytes written written_after NoMemory = written_after ≡ written
+abbrev pub EndsValidating : List ℕ → Option (List ℕ) → Option (List ℕ) → CheckEnding → Type 0
+EndsValidating bytes written written_after (Validated found) = IsValidated bytes found × (written_after ≡ written_with (verdict_text found) written)
+EndsValidating bytes written written_after TooLong = ⊥
+EndsValidating bytes written written_after ReadFault = ⊥
+EndsValidating bytes written written_after WriteFault = (found : Verdict) × IsValidated bytes found × WritesPrefix (verdict_text found) written written_after
+EndsValidating bytes written written_after NoMemory = written_after ≡ written

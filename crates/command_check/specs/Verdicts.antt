@@ -26,18 +26,18 @@ IsNotBundleFor d (NoBundle (Breaks breaks)) = ⊥
 IsNotBundleFor d (NoBundle NoMemory) = ⊥
 
 -- objects that meet the rules of their types are so many, or their versions and markings break these rules
-abbrev pub AreJudged : List Data → Verdict → Type 0
-AreJudged objects (Sound count) = (count ≡ length objects) × AreVersionBreaks objects [] × AreMarkingBreaks objects []
-AreJudged objects (Broken breaks) = ⊥
-AreJudged objects (Unfit versions markings) = AreVersionBreaks objects versions × AreMarkingBreaks objects markings × (¬ ((versions ≡ []) × (markings ≡ [])))
-AreJudged objects (Refused rule) = ⊥
+abbrev pub AreValidated : List Data → Verdict → Type 0
+AreValidated objects (Sound count) = (count ≡ length objects) × AreVersionBreaks objects [] × AreMarkingBreaks objects []
+AreValidated objects (Broken breaks) = ⊥
+AreValidated objects (Unfit versions markings) = AreVersionBreaks objects versions × AreMarkingBreaks objects markings × (¬ ((versions ≡ []) × (markings ≡ [])))
+AreValidated objects (Refused rule) = ⊥
 
 -- a value is a bundle, of which that is found, or one with these breaks, or none
-abbrev pub IsBundleJudged : Data → Verdict → Type 0
-IsBundleJudged d (Sound count) = (objects : List Data) × IsBundle d objects × AreJudged objects (Sound count)
-IsBundleJudged d (Unfit versions markings) = (objects : List Data) × IsBundle d objects × AreJudged objects (Unfit versions markings)
-IsBundleJudged d (Broken breaks) = IsBundleRefused d (Breaks breaks)
-IsBundleJudged d (Refused rule) = IsNotBundleFor d rule
+abbrev pub IsBundleValidated : Data → Verdict → Type 0
+IsBundleValidated d (Sound count) = (objects : List Data) × IsBundle d objects × AreValidated objects (Sound count)
+IsBundleValidated d (Unfit versions markings) = (objects : List Data) × IsBundle d objects × AreValidated objects (Unfit versions markings)
+IsBundleValidated d (Broken breaks) = IsBundleRefused d (Breaks breaks)
+IsBundleValidated d (Refused rule) = IsNotBundleFor d rule
 
 -- some bytes are a JSON value of which that is known
 abbrev pub HasJson : List ℕ → (Data → Type 0) → Type 0
@@ -53,8 +53,8 @@ IsRefusedFor bytes (NoJson refusal) = (refusal ≢ json_refusal.NoMemory) × IsJ
 IsRefusedFor bytes (NoBundle refusal) = HasJson bytes (λ d. IsNotBundleFor d (NoBundle refusal))
 
 -- what bytes are
-abbrev pub IsJudged : List ℕ → Verdict → Type 0
-IsJudged bytes (Sound count) = HasJson bytes (λ d. IsBundleJudged d (Sound count))
-IsJudged bytes (Broken breaks) = HasJson bytes (λ d. IsBundleJudged d (Broken breaks))
-IsJudged bytes (Unfit versions markings) = HasJson bytes (λ d. IsBundleJudged d (Unfit versions markings))
-IsJudged bytes (Refused rule) = IsRefusedFor bytes rule
+abbrev pub IsValidated : List ℕ → Verdict → Type 0
+IsValidated bytes (Sound count) = HasJson bytes (λ d. IsBundleValidated d (Sound count))
+IsValidated bytes (Broken breaks) = HasJson bytes (λ d. IsBundleValidated d (Broken breaks))
+IsValidated bytes (Unfit versions markings) = HasJson bytes (λ d. IsBundleValidated d (Unfit versions markings))
+IsValidated bytes (Refused rule) = IsRefusedFor bytes rule

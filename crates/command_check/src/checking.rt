@@ -2,9 +2,9 @@ ghost use Rattle.std.specs.Prelude.{◌≡◌, ◌≢◌, List, ℕ, IsErr};
 ghost use Rattle.flow_edges.specs.Faults.{Counted};
 ghost use Rattle.flow_edges.specs.Flow.{WritesWhole};
 ghost use Rattle.flow_edges.specs.Streams.{streams};
-ghost use Rattle.command_check.specs.CheckEndings.{EndsCheck, EndsJudging, check_status};
+ghost use Rattle.command_check.specs.CheckEndings.{EndsCheck, EndsValidating, check_status};
 
-use crate::judging::judge;
+use crate::validating::validate;
 use crate::verdict::Verdict;
 use crate::verdict_text::verdict_text;
 use command_reasons::{write_no_memory, write_read_fault, write_write_fault};
@@ -18,7 +18,7 @@ use std::alloc::Global;
 #[derive(Debug, Drop)]
 pub enum CheckEnding {
     /// The input was read whole, and the verdict on it was written.
-    Judged(Verdict),
+    Validated(Verdict),
     /// The input has more bytes than it may have.
     TooLong,
     /// The input failed.
@@ -37,9 +37,9 @@ impl CheckEnding {
         ensures { result ≡ check_status self.now }
     {
         match self {
-            CheckEnding::Judged(Verdict::Sound { .. }) => 0,
+            CheckEnding::Validated(Verdict::Sound { .. }) => 0,
             CheckEnding::NoMemory => 1,
-            CheckEnding::Judged(Verdict::Broken(_) | Verdict::Unfit { .. } | Verdict::Refused(_))
+            CheckEnding::Validated(Verdict::Broken(_) | Verdict::Unfit { .. } | Verdict::Refused(_))
             | CheckEnding::TooLong => 4,
             CheckEnding::ReadFault => 5,
             CheckEnding::WriteFault => 6,
@@ -52,8 +52,8 @@ impl CheckEnding {
         ensures causes { Counted (IsErr result) (S.faults reasons.old) (S.faults reasons.new) }
     {
         match self {
-            CheckEnding::Judged(Verdict::Refused(rule)) => write_input_refusal(1, rule, reasons),
-            CheckEnding::Judged(
+            CheckEnding::Validated(Verdict::Refused(rule)) => write_input_refusal(1, rule, reasons),
+            CheckEnding::Validated(
                 Verdict::Sound { .. } | Verdict::Broken(_) | Verdict::Unfit { .. },
             ) => write_whole(reasons, b""),
             CheckEnding::TooLong => write_input_refusal(1, &InputRule::InputTooLong, reasons),
@@ -79,20 +79,20 @@ pub fn check<I: Source, O: Sink>(alloc: Global, input: &mut I, output: &mut O) -
     }
 }
 
-/// Judges bytes, and writes the verdict.
+/// Validates bytes, and writes the verdict.
 fn check_bytes<O: Sink>(alloc: Global, bytes: Items<u8>, output: &mut O) -> CheckEnding
-    ensures end { EndsJudging bytes (O.written output.old) (O.written output.new) result }
+    ensures end { EndsValidating bytes (O.written output.old) (O.written output.new) result }
     ensures read { check_status result ≢ 5 }
     ensures output { Counted (check_status result ≡ 6) (O.faults output.old) (O.faults output.new) }
 {
-    let Ok(verdict) = judge(alloc, bytes) else {
+    let Ok(verdict) = validate(alloc, bytes) else {
         return CheckEnding::NoMemory;
     };
     let Ok(text) = verdict_text(alloc, &verdict) else {
         return CheckEnding::NoMemory;
     };
     match write_whole(output, text.as_str().as_bytes()) {
-        Ok(()) => CheckEnding::Judged(verdict),
+        Ok(()) => CheckEnding::Validated(verdict),
         Err(_) => CheckEnding::WriteFault,
     }
 }

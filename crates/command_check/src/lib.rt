@@ -3,7 +3,7 @@
 #![tactic(auto)]
 
 mod checking;
-mod judging;
+mod validating;
 pub mod laws;
 mod verdict;
 mod verdict_text;

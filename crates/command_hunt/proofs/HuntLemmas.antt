@@ -1,4 +1,4 @@
--- What is told of an input, by what the hunter sees of its bundles.
+-- What is reported of an input, by what the hunter sees of its bundles.
 use Rattle.std.proofs.Common.{◌≡◌, ◌≢◌, inl, inr, ℕ, List, [], ◌∷◌, ◌++◌, length, Option, Some, None, MatchOption, Err, refl, sym, ap, subst, ◌∙◌, append_assoc, arith}
 use Rattle.std.proofs.lemmas.List.{append-nil}
 use Rattle.std.proofs.Math.Seq.{take-length}
@@ -9,7 +9,7 @@ use Rattle.serde_json.specs.Data.{Data}
 use Rattle.pattern_types.specs.declared.pattern.Pattern.{Pattern}
 use Rattle.match_bindings.specs.declared.log_entry.LogEntry.{LogEntry}
 use Rattle.match_bindings.specs.NumberedPattern.{numbered_pattern}
-use Rattle.match_stream.specs.Answer.{IsRoomy}
+use Rattle.match_stream.specs.Answer.{IsWithinLimit}
 use Rattle.match_input.specs.declared.mode.Mode.TheVariants.{Lines}
 use Rattle.match_input.specs.declared.read_end.ReadEnd.{ReadEnd}
 use Rattle.match_input.specs.declared.read_end.ReadEnd.TheVariants as read
@@ -20,7 +20,7 @@ use Rattle.match_run.proofs.PendingLemmas.{written_with-nil, written_with-both}
 use Rattle.match_run.specs.Watching.{Says, BreaksOff, EndsSeeing, SeesAll, WatchesWhole, StopsWithin as EndsWithin, AnswersWatch}
 use Rattle.match_run.specs.inner.WatchEnds.{end_of_read, end_of_see}
 use Rattle.match_run.specs.Reading.{HasRead, NextAnswers}
-use Rattle.match_run.proofs.WayLemmas.{way-cut}
+use Rattle.match_run.proofs.BufferedLemmas.{way-cut}
 use Rattle.match_run.specs.declared.see_end.SeeEnd.{SeeEnd}
 use Rattle.match_run.specs.declared.see_end.SeeEnd.TheVariants as see
 use Rattle.match_run.specs.declared.watch_end.WatchEnd.{WatchEnd}
@@ -32,30 +32,30 @@ use Rattle.hunt_feed.specs.declared.rule.FeedRule.{FeedRule}
 use Rattle.hunt_feed.specs.declared.end.FeedEnd.{FeedEnd}
 use Rattle.hunt_feed.specs.declared.end.FeedEnd.TheVariants as unfed
 use Rattle.hunt_feed.specs.Feeds.{Refused as RefusedLine, ReadsFeed}
-use Rattle.hunt_engine.specs.declared.found.Found.{Found}
+use Rattle.hunt_engine.specs.declared.found.Hit.{Hit}
 use Rattle.hunt_engine.specs.EngineLog.{Row, row_of}
-use Rattle.hunt_engine.specs.EngineAnswer.{IsFirstCrowded}
-use Rattle.hunt_report.specs.declared.crowded.Crowded.{Crowded}
+use Rattle.hunt_engine.specs.EngineAnswer.{IsFirstOverLimit}
+use Rattle.hunt_report.specs.declared.over_limit.OverLimit.{OverLimit}
 use Rattle.hunt_report.specs.Rows.{rows_over, rows_of}
-use Rattle.hunt_report.specs.Hits.{AnswerRows, AreHits, AreNeverCrowded}
+use Rattle.hunt_report.specs.Hits.{AnswerRows, AreHits, AreNeverOverLimit}
 use Rattle.hunt_report.specs.Lines.{skipped_text, hit_line, hits_text}
-use Rattle.hunt_report.specs.Sights.{IsReport, TellsReport}
+use Rattle.hunt_report.specs.HitSummaries.{IsReport, IsReportText}
 use Rattle.hunt_report.specs.Hunting.{HunterState, patterns_of, HuntsOver, TakesRows, SeesBundle, BeginsBundle, StopsInBundle}
 use Rattle.command_hunt.specs.Tasks.{HuntTask}
 use Rattle.command_hunt.specs.Feeding.{IsUnfed}
-use Rattle.command_hunt.specs.Telling.{feed_of, HuntsRows, told_of, TellsHits, TellsAll, HuntsWhole, StopsCrowded, StopsWithin, StopsReporting, StopsSkipping, AnswersHunt}
+use Rattle.command_hunt.specs.Telling.{feed_of, HuntsRows, reported_of, ReportsHits, ReportsAll, HuntsWhole, StopsOverLimit, StopsWithin, StopsReporting, StopsSkipping, AnswersHunt}
 use Rattle.command_hunt.specs.inner.Begun.{IsUnread, IsBegun, Reports}
 
 -- the law that the answers to the rows of a log are its hits
 abbrev pub AnswersAreHits : Type 0
-AnswersAreHits = (patterns : List Pattern) (rows : List Row) (hits : List Found) → AnswerRows patterns [] rows hits → AreHits patterns rows hits
+AnswersAreHits = (patterns : List Pattern) (rows : List Row) (hits : List Hit) → AnswerRows patterns [] rows hits → AreHits patterns rows hits
 
 -- ---- rows that were taken in turn
 
 pub takes-none : (w : HunterState) → TakesRows [] w w []
 takes-none w = record {
   hunted = refl;
-  cap = refl;
+  retained_limit = refl;
   takes = λ earlier hits hunts. (
     [],
     subst (λ (rows : List Row). HuntsOver w rows (hits ++ [])) (sym (append-nil earlier)) (subst (HuntsOver w earlier) (sym (append-nil hits)) hunts),
@@ -67,12 +67,12 @@ pub takes-more : (rows others : List Row) (before next after : HunterState) (tex
     → TakesRows (rows ++ others) before after (text ++ later)
 takes-more rows others before next after text later one two = record {
   hunted = two.hunted ∙ one.hunted;
-  cap = two.cap ∙ one.cap;
+  retained_limit = two.retained_limit ∙ one.retained_limit;
   takes = go;
 }
   where
-    go : (earlier : List Row) (hits : List Found) → HuntsOver before earlier hits
-        → (more : List Found) × HuntsOver after (earlier ++ (rows ++ others)) (hits ++ more) × (text ++ later ≡ hits_text before.hunted more)
+    go : (earlier : List Row) (hits : List Hit) → HuntsOver before earlier hits
+        → (more : List Hit) × HuntsOver after (earlier ++ (rows ++ others)) (hits ++ more) × (text ++ later ≡ hits_text before.hunted more)
     go earlier hits hunts =
         let first = one.takes earlier hits hunts in
         let second = two.takes (earlier ++ rows) (hits ++ first.0) first.1 in (
@@ -94,19 +94,19 @@ takes-all (bundle ∷ bundles) before after text (next, own, later, sees, others
 
 -- ---- a hunt from its start
 
--- no pattern is crowded at no rows
-none-crowded : (patterns : List Pattern) (most : ℕ) → AreNeverCrowded patterns most []
-none-crowded patterns most place p is = ([], tt, none)
+-- no pattern is over limit at no rows
+none-over_limit : (patterns : List Pattern) (most : ℕ) → AreNeverOverLimit patterns most []
+none-over_limit patterns most place p is = ([], tt, none)
   where
-    none : (rows more : List LogEntry) (row : LogEntry) → [] ≡ rows ++ row ∷ more → IsRoomy (numbered_pattern p) (rows ++ row ∷ []) most
+    none : (rows more : List LogEntry) (row : LogEntry) → [] ≡ rows ++ row ∷ more → IsWithinLimit (numbered_pattern p) (rows ++ row ∷ []) most
     none [] more row same = absurd (cc)
     none (x ∷ rows) more row same = absurd (cc)
 
--- what is told of some rows: what is skipped, and then this
+-- what is reported of some rows: what is skipped, and then this
 pub record HuntsSo (task : HuntTask) (feed : List Data) (rows : List Row) (hunt : Hunt) (text : List ℕ) : Type 0 where
   pub hunts : HuntsRows task feed rows
   pub hunt_is : hunts.hunt ≡ hunt
-  pub told : told_of hunts ≡ skipped_text hunt.skipped ++ text
+  pub reported : reported_of hunts ≡ skipped_text hunt.skipped ++ text
 
 module _ (law : AnswersAreHits) (task : HuntTask) (feed : List Data) (hunt : Hunt) (hunt_is : IsHuntOf feed task.moment hunt) where
   -- nothing was taken yet
@@ -117,13 +117,13 @@ module _ (law : AnswersAreHits) (task : HuntTask) (feed : List Data) (hunt : Hun
       hunt_is = hunt_is;
       hits = [];
       hits_are = law (patterns_of hunt.hunted) [] [] refl;
-      roomy = none-crowded (patterns_of hunt.hunted) task.cap;
+      within_limit = none-over_limit (patterns_of hunt.hunted) task.retained_limit;
     };
     hunt_is = refl;
-    told = refl;
+    reported = refl;
   }
 
-  module _ (start : HunterState) (new : HuntsOver start [] []) (hunted : start.hunted ≡ hunt.hunted) (cap : start.engine.cap ≡ task.cap) where
+  module _ (start : HunterState) (new : HuntsOver start [] []) (hunted : start.hunted ≡ hunt.hunted) (retained_limit : start.engine.retained_limit ≡ task.retained_limit) where
     -- rows were taken
     pub hunts-so : (rows : List Row) (after : HunterState) (text : List ℕ) → TakesRows rows start after text
         → (so : HuntsSo task feed rows hunt text) × HuntsOver after rows so.hunts.hits
@@ -137,11 +137,11 @@ module _ (law : AnswersAreHits) (task : HuntTask) (feed : List Data) (hunt : Hun
               hits = found.0;
               hits_are = law (patterns_of hunt.hunted) rows found.0
                   (subst (λ (h : List Hunted). AnswerRows (patterns_of h) [] rows found.0) same found.1.answers);
-              roomy = subst (λ (h : List Hunted). AreNeverCrowded (patterns_of h) task.cap rows) same
-                  (subst (λ (c : ℕ). AreNeverCrowded (patterns_of after.hunted) c rows) (takes.cap ∙ cap) found.1.roomy);
+              within_limit = subst (λ (h : List Hunted). AreNeverOverLimit (patterns_of h) task.retained_limit rows) same
+                  (subst (λ (c : ℕ). AreNeverOverLimit (patterns_of after.hunted) c rows) (takes.retained_limit ∙ retained_limit) found.1.within_limit);
             };
             hunt_is = refl;
-            told = ap (λ (t : List ℕ). skipped_text hunt.skipped ++ t) (ap (λ (h : List Hunted). hits_text h found.0) (sym hunted) ∙ sym found.2);
+            reported = ap (λ (t : List ℕ). skipped_text hunt.skipped ++ t) (ap (λ (h : List Hunted). hits_text h found.0) (sym hunted) ∙ sym found.2);
           },
           found.1,
         )
@@ -153,9 +153,9 @@ pub prefix-whole : (text : List ℕ) (before now : Option (List ℕ)) → now �
 prefix-whole text before now is = (length text, omega arith, is ∙ ap (λ (t : List ℕ). written_with t before) (sym (take-length text)))
 
 -- behind one text another one
-told-behind : (text more : List ℕ) (before now after : Option (List ℕ)) → now ≡ written_with text before → after ≡ written_with more now
+reported-behind : (text more : List ℕ) (before now after : Option (List ℕ)) → now ≡ written_with text before → after ≡ written_with more now
     → after ≡ written_with (text ++ more) before
-told-behind text more before now after was is = is ∙ ap (written_with more) was ∙ written_with-both text more before
+reported-behind text more before now after was is = is ∙ ap (written_with more) was ∙ written_with-both text more before
 
 -- behind a text a prefix of another one
 prefix-behind : (text more : List ℕ) (before now after : Option (List ℕ)) → now ≡ written_with text before → WritesPrefix more now after
@@ -164,19 +164,19 @@ prefix-behind text more before now after was prefix = way-cut (text ++ more) mor
 
 -- ---- where the objects are known of which some are indicators
 
--- what is told of bundles of which they are known
+-- what is reported of bundles of which they are known
 module _ (task : HuntTask) (file : Option (List Data)) (bundles : List BundleOf) (feed : List Data) (is : feed_of file bundles ≡ Some feed) where
-  pub tells-hits : (hunts : HuntsRows task feed (rows_of bundles)) → TellsHits task file bundles (told_of hunts)
-  tells-hits hunts =
-      subst (λ (found : Option (List Data)). MatchOption found (told_of hunts ≡ [])
-      (λ objects. (own : HuntsRows task objects (rows_of bundles)) × (told_of hunts ≡ told_of own))) (sym is) (hunts, refl)
+  pub reports-hits : (hunts : HuntsRows task feed (rows_of bundles)) → ReportsHits task file bundles (reported_of hunts)
+  reports-hits hunts =
+      subst (λ (found : Option (List Data)). MatchOption found (reported_of hunts ≡ [])
+      (λ objects. (own : HuntsRows task objects (rows_of bundles)) × (reported_of hunts ≡ reported_of own))) (sym is) (hunts, refl)
 
-  pub tells-all : (hunts : HuntsRows task feed (rows_of bundles)) (report : List ℕ) → IsReport task.moment (rows_of bundles) hunts.hits hunts.hunt.hunted report
-      → TellsAll task file bundles (told_of hunts ++ report)
-  tells-all hunts report told =
-      subst (λ (found : Option (List Data)). MatchOption found (told_of hunts ++ report ≡ [])
+  pub reports-all : (hunts : HuntsRows task feed (rows_of bundles)) (report : List ℕ) → IsReport task.moment (rows_of bundles) hunts.hits hunts.hunt.hunted report
+      → ReportsAll task file bundles (reported_of hunts ++ report)
+  reports-all hunts report reported =
+      subst (λ (found : Option (List Data)). MatchOption found (reported_of hunts ++ report ≡ [])
       (λ objects. (own : HuntsRows task objects (rows_of bundles)) × (seen : List ℕ) × IsReport task.moment (rows_of bundles) own.hits own.hunt.hunted seen
-      × (told_of hunts ++ report ≡ told_of own ++ seen))) (sym is) (hunts, report, told, refl)
+      × (reported_of hunts ++ report ≡ reported_of own ++ seen))) (sym is) (hunts, report, reported, refl)
 
 -- they are known of these bundles, and of more as well
 abbrev pub IsKnownFrom : Option (List Data) → List BundleOf → List Data → Type 0
@@ -184,7 +184,7 @@ IsKnownFrom file earlier feed = (more : List BundleOf) → feed_of file (earlier
 
 -- ---- how a run ends
 
--- the first bundle was read, and of what is skipped a prefix was told
+-- the first bundle was read, and of what is skipped a prefix was reported
 module _ (law : AnswersAreHits) (task : HuntTask) (before : Streams) (first : BundleOf) (hunt : Hunt) (hunt_is : IsHuntOf first.objects task.moment hunt) where
   pub ends-skipping : (left began written written_now : Option (List ℕ)) → IsBegun before first left began → before.written ≡ written
       → WritesPrefix (skipped_text hunt.skipped) written written_now → StopsWithin task None before (streams left began written_now)
@@ -202,15 +202,15 @@ module _ (law : AnswersAreHits) (task : HuntTask) (before : Streams) (first : Bu
         feed_is = refl;
         hunts = so.hunts;
         text = [];
-        tells = refl;
+        reports = refl;
         more = skipped ++ [];
-        more_is = so.told;
+        more_is = so.reported;
         prefix = subst (λ (w : Option (List ℕ)). WritesPrefix (skipped ++ []) w written_now) (written_with-nil before.written)
             (subst (λ (t : List ℕ). WritesPrefix t before.written written_now) (sym (append-nil skipped))
             (subst (λ (w : Option (List ℕ)). WritesPrefix skipped w written_now) (sym same) prefix));
       }
 
--- the objects of a file were read and nothing of the input, and of what is skipped a prefix was told
+-- the objects of a file were read and nothing of the input, and of what is skipped a prefix was reported
 pub ends-unread : AnswersAreHits → (task : HuntTask) (before : Streams) (feed : List Data) (hunt : Hunt) → IsHuntOf feed task.moment hunt
     → (left began written_now : Option (List ℕ)) → IsUnread before left began → WritesPrefix (skipped_text hunt.skipped) before.written written_now
     → StopsSkipping task (Some feed) before (streams left began written_now)
@@ -219,20 +219,20 @@ ends-unread law task before feed hunt hunt_is left began written_now unread pref
       feed = feed;
       file_is = refl;
       hunts = so.hunts;
-      prefix = subst (λ (t : List ℕ). WritesPrefix t before.written written_now) (sym (so.told ∙ append-nil (skipped_text hunt.skipped))) prefix;
+      prefix = subst (λ (t : List ℕ). WritesPrefix t before.written written_now) (sym (so.reported ∙ append-nil (skipped_text hunt.skipped))) prefix;
       unread = (unread.left_is, unread.began_is);
     }
 
--- what is skipped was told
+-- what is skipped was reported
 module _ (law : AnswersAreHits) (task : HuntTask) (before : Streams) (feed : List Data) (hunt : Hunt) (hunt_is : IsHuntOf feed task.moment hunt)
     (written : Option (List ℕ)) (was : written ≡ written_with (skipped_text hunt.skipped) before.written) where
   abbrev skipped : List ℕ
   skipped = skipped_text hunt.skipped
 
-  module _ (start : HunterState) (new : HuntsOver start [] []) (hunted : start.hunted ≡ hunt.hunted) (cap : start.engine.cap ≡ task.cap) where
+  module _ (start : HunterState) (new : HuntsOver start [] []) (hunted : start.hunted ≡ hunt.hunted) (retained_limit : start.engine.retained_limit ≡ task.retained_limit) where
     abbrev so-far : (rows : List Row) (after : HunterState) (text : List ℕ) → TakesRows rows start after text
         → (so : HuntsSo task feed rows hunt text) × HuntsOver after rows so.hunts.hits
-    so-far = hunts-so law task feed hunt hunt_is start new hunted cap
+    so-far = hunts-so law task feed hunt hunt_is start new hunted retained_limit
 
     -- it ended in the first bundle
     module _ (first : BundleOf) (same : feed ≡ first.objects) (left began written_now : Option (List ℕ)) (begun : IsBegun before first left began) where
@@ -253,15 +253,15 @@ module _ (law : AnswersAreHits) (task : HuntTask) (before : Streams) (feed : Lis
             feed_is = known;
             hunts = so.hunts;
             text = [];
-            tells = refl;
+            reports = refl;
             more = skipped ++ text;
-            more_is = so.told;
+            more_is = so.reported;
             prefix = subst (λ (w : Option (List ℕ)). WritesPrefix (skipped ++ text) w written_now) (written_with-nil before.written)
                 (prefix-behind skipped text before.written written written_now was prefix);
           }
 
-      first-crowded : (why : Crowded) → Says (StopsInBundle start first why) written written_now → StopsCrowded task None before (streams left began written_now) why
-      first-crowded why (text, up, is) =
+      first-over_limit : (why : OverLimit) → Says (StopsInBundle start first why) written written_now → StopsOverLimit task None before (streams left began written_now) why
+      first-over_limit why (text, up, is) =
           let so = (so-far (rows_over first.objects up.seen) up.after text up.takes).0 in record {
             earlier = [];
             bundle = first;
@@ -274,18 +274,18 @@ module _ (law : AnswersAreHits) (task : HuntTask) (before : Streams) (feed : Lis
             feed = feed;
             feed_is = known;
             hunts = so.hunts;
-            crowded = subst (λ (h : Hunt). IsFirstCrowded (patterns_of h.hunted) task.cap
-                (rows_over first.objects up.seen ++ row_of up.observation first.objects ∷ []) why.hunted why.number why.cap) (sym so.hunt_is)
-                (subst (λ (c : ℕ). IsFirstCrowded (patterns_of hunt.hunted) c
-                (rows_over first.objects up.seen ++ row_of up.observation first.objects ∷ []) why.hunted why.number why.cap) cap
-                (subst (λ (h : List Hunted). IsFirstCrowded (patterns_of h) start.engine.cap
-                (rows_over first.objects up.seen ++ row_of up.observation first.objects ∷ []) why.hunted why.number why.cap) hunted (up.crowded [] [] new)));
-            text_is = told-behind skipped text before.written written written_now was is ∙ ap (λ (t : List ℕ). written_with t before.written) (sym so.told);
+            over_limit = subst (λ (h : Hunt). IsFirstOverLimit (patterns_of h.hunted) task.retained_limit
+                (rows_over first.objects up.seen ++ row_of up.observation first.objects ∷ []) why.hunted why.number why.retained_limit) (sym so.hunt_is)
+                (subst (λ (c : ℕ). IsFirstOverLimit (patterns_of hunt.hunted) c
+                (rows_over first.objects up.seen ++ row_of up.observation first.objects ∷ []) why.hunted why.number why.retained_limit) retained_limit
+                (subst (λ (h : List Hunted). IsFirstOverLimit (patterns_of h) start.engine.retained_limit
+                (rows_over first.objects up.seen ++ row_of up.observation first.objects ∷ []) why.hunted why.number why.retained_limit) hunted (up.over_limit [] [] new)));
+            text_is = reported-behind skipped text before.written written written_now was is ∙ ap (λ (t : List ℕ). written_with t before.written) (sym so.reported);
           }
 
-      pub first-ends : (end : SeeEnd Crowded) → EndsSeeing (StopsInBundle start first) (BeginsBundle start first) written written_now end
+      pub first-ends : (end : SeeEnd OverLimit) → EndsSeeing (StopsInBundle start first) (BeginsBundle start first) written written_now end
           → AnswersHunt task None before (streams left began written_now) (end_of_see end)
-      first-ends (see.Stopped why) ends = first-crowded why ends
+      first-ends (see.Stopped why) ends = first-over_limit why ends
       first-ends see.WriteFault ends = inr (inl (first-within ends))
       first-ends see.NoMemory ends = inr (inr (inr (inl (first-within ends))))
 
@@ -298,7 +298,7 @@ module _ (law : AnswersAreHits) (task : HuntTask) (before : Streams) (feed : Lis
         pub takes : TakesRows (rows_of (earlier ++ bundles)) start at text
         pub so : HuntsSo task feed (rows_of (earlier ++ bundles)) hunt text
         pub hunts : HuntsOver at (rows_of (earlier ++ bundles)) so.hunts.hits
-        pub now_is : now ≡ written_with (told_of so.hunts) before.written
+        pub now_is : now ≡ written_with (reported_of so.hunts) before.written
 
       both-rows : (bundles : List BundleOf) → rows_of (earlier ++ bundles) ≡ rows_of earlier ++ rows_of bundles
       both-rows bundles = flat_map-append (λ (b : BundleOf). rows_over b.objects b.observations) earlier bundles
@@ -313,13 +313,13 @@ module _ (law : AnswersAreHits) (task : HuntTask) (before : Streams) (feed : Lis
             takes = takes;
             so = found.0;
             hunts = found.1;
-            now_is = told-behind skipped (own ++ later) before.written written now was (told-behind own later written written_next now was_next is)
-                ∙ ap (λ (t : List ℕ). written_with t before.written) (sym found.0.told);
+            now_is = reported-behind skipped (own ++ later) before.written written now was (reported-behind own later written written_next now was_next is)
+                ∙ ap (λ (t : List ℕ). written_with t before.written) (sym found.0.reported);
           }
 
-      tells : (bundles : List BundleOf) (at : HunterState) (now : Option (List ℕ)) (seen : SeenBehind bundles at now)
-          → TellsHits task file (earlier ++ bundles) (told_of seen.so.hunts)
-      tells bundles at now seen = tells-hits task file (earlier ++ bundles) feed (known bundles) seen.so.hunts
+      reports : (bundles : List BundleOf) (at : HunterState) (now : Option (List ℕ)) (seen : SeenBehind bundles at now)
+          → ReportsHits task file (earlier ++ bundles) (reported_of seen.so.hunts)
+      reports bundles at now seen = reports-hits task file (earlier ++ bundles) feed (known bundles) seen.so.hunts
 
       known-within : (bundles : List BundleOf) (bundle : BundleOf) → feed_of file ((earlier ++ bundles) ++ bundle ∷ []) ≡ Some feed
       known-within bundles bundle =
@@ -345,16 +345,16 @@ module _ (law : AnswersAreHits) (task : HuntTask) (before : Streams) (feed : Lis
               feed = feed;
               feed_is = known-within ends.bundles ends.bundle;
               hunts = found.0.hunts;
-              text = told_of seen.so.hunts;
-              tells = tells ends.bundles ends.at ends.before seen;
+              text = reported_of seen.so.hunts;
+              reports = reports ends.bundles ends.at ends.before seen;
               more = more;
-              more_is = found.0.told ∙ sym (append_assoc skipped seen.text more) ∙ ap (λ (t : List ℕ). t ++ more) (sym seen.so.told);
+              more_is = found.0.reported ∙ sym (append_assoc skipped seen.text more) ∙ ap (λ (t : List ℕ). t ++ more) (sym seen.so.reported);
               prefix = subst (λ (w : Option (List ℕ)). WritesPrefix more w after.written) seen.now_is ends.within.2;
             }
 
-        later-crowded : (why : Crowded) → EndsWithin SeesBundle (λ at bundle. Says (StopsInBundle at bundle why)) before.left earlier next written_next after
-            → StopsCrowded task file before after why
-        later-crowded why ends =
+        later-over_limit : (why : OverLimit) → EndsWithin SeesBundle (λ at bundle. Says (StopsInBundle at bundle why)) before.left earlier next written_next after
+            → StopsOverLimit task file before after why
+        later-over_limit why ends =
             let seen = seen-behind ends.bundles ends.at ends.before ends.says in
             let more = ends.within.0 in
             let up = ends.within.1 in
@@ -362,7 +362,7 @@ module _ (law : AnswersAreHits) (task : HuntTask) (before : Streams) (feed : Lis
             let found = so-far rows up.after (seen.text ++ more)
             (takes-more (rows_of (earlier ++ ends.bundles)) (rows_over ends.bundle.objects up.seen) start ends.at up.after seen.text more seen.takes up.takes) in
             let same : ends.at.hunted ≡ hunt.hunted = seen.takes.hunted ∙ hunted in
-            let same_cap : ends.at.engine.cap ≡ task.cap = seen.takes.cap ∙ cap in record {
+            let same_retained_limit : ends.at.engine.retained_limit ≡ task.retained_limit = seen.takes.retained_limit ∙ retained_limit in record {
               earlier = earlier ++ ends.bundles;
               bundle = ends.bundle;
               begins = ends.begins;
@@ -374,26 +374,26 @@ module _ (law : AnswersAreHits) (task : HuntTask) (before : Streams) (feed : Lis
               feed = feed;
               feed_is = known-within ends.bundles ends.bundle;
               hunts = found.0.hunts;
-              crowded = subst (λ (h : Hunt). IsFirstCrowded (patterns_of h.hunted) task.cap
-                  (rows ++ row_of up.observation ends.bundle.objects ∷ []) why.hunted why.number why.cap) (sym found.0.hunt_is)
-                  (subst (λ (c : ℕ). IsFirstCrowded (patterns_of hunt.hunted) c (rows ++ row_of up.observation ends.bundle.objects ∷ []) why.hunted why.number why.cap) same_cap
-                  (subst (λ (h : List Hunted). IsFirstCrowded (patterns_of h) ends.at.engine.cap
-                  (rows ++ row_of up.observation ends.bundle.objects ∷ []) why.hunted why.number why.cap) same
-                  (up.crowded (rows_of (earlier ++ ends.bundles)) seen.so.hunts.hits seen.hunts)));
-              text_is = told-behind (told_of seen.so.hunts) more before.written ends.before after.written seen.now_is ends.within.2
-                  ∙ ap (λ (t : List ℕ). written_with t before.written) (ap (λ (t : List ℕ). t ++ more) seen.so.told ∙ append_assoc skipped seen.text more ∙ sym found.0.told);
+              over_limit = subst (λ (h : Hunt). IsFirstOverLimit (patterns_of h.hunted) task.retained_limit
+                  (rows ++ row_of up.observation ends.bundle.objects ∷ []) why.hunted why.number why.retained_limit) (sym found.0.hunt_is)
+                  (subst (λ (c : ℕ). IsFirstOverLimit (patterns_of hunt.hunted) c (rows ++ row_of up.observation ends.bundle.objects ∷ []) why.hunted why.number why.retained_limit) same_retained_limit
+                  (subst (λ (h : List Hunted). IsFirstOverLimit (patterns_of h) ends.at.engine.retained_limit
+                  (rows ++ row_of up.observation ends.bundle.objects ∷ []) why.hunted why.number why.retained_limit) same
+                  (up.over_limit (rows_of (earlier ++ ends.bundles)) seen.so.hunts.hits seen.hunts)));
+              text_is = reported-behind (reported_of seen.so.hunts) more before.written ends.before after.written seen.now_is ends.within.2
+                  ∙ ap (λ (t : List ℕ). written_with t before.written) (ap (λ (t : List ℕ). t ++ more) seen.so.reported ∙ append_assoc skipped seen.text more ∙ sym found.0.reported);
             }
 
         -- the input wasn't read to its end
-        pub later-ends : (end : WatchEnd Crowded) → end ≢ Done → AnswersWatch SeesBundle StopsInBundle BeginsBundle before.left earlier next behind written_next after end
+        pub later-ends : (end : WatchEnd OverLimit) → end ≢ Done → AnswersWatch SeesBundle StopsInBundle BeginsBundle before.left earlier next behind written_next after end
             → AnswersHunt task file before after end
         later-ends Done other ends = absurd (other refl)
         later-ends (Input line why) other ends =
             let seen = seen-behind ends.bundles behind after.written ends.says in record {
               bundles = earlier ++ ends.bundles;
               reading = ends.reading;
-              text = told_of seen.so.hunts;
-              tells = tells ends.bundles behind after.written seen;
+              text = reported_of seen.so.hunts;
+              reports = reports ends.bundles behind after.written seen;
               text_is = seen.now_is;
               little = ends.little;
             }
@@ -401,24 +401,24 @@ module _ (law : AnswersAreHits) (task : HuntTask) (before : Streams) (feed : Lis
             let seen = seen-behind ends.bundles behind after.written ends.says in record {
               bundles = earlier ++ ends.bundles;
               begins = ends.begins;
-              text = told_of seen.so.hunts;
-              tells = tells ends.bundles behind after.written seen;
+              text = reported_of seen.so.hunts;
+              reports = reports ends.bundles behind after.written seen;
               text_is = seen.now_is;
               taken = ends.taken;
             }
         later-ends WriteFault other ends = inr (inl (later-within ends))
-        later-ends (Stopped why) other ends = later-crowded why ends
+        later-ends (Stopped why) other ends = later-over_limit why ends
         later-ends NoMemory other (inl ends) =
             let seen = seen-behind ends.bundles behind after.written ends.says in inr (inr (inl (record {
               bundles = earlier ++ ends.bundles;
               begins = ends.begins;
-              text = told_of seen.so.hunts;
-              tells = tells ends.bundles behind after.written seen;
+              text = reported_of seen.so.hunts;
+              reports = reports ends.bundles behind after.written seen;
               text_is = seen.now_is;
             })))
         later-ends NoMemory other (inr ends) = inr (inr (inr (inl (later-within ends))))
 
-        -- it was, and what was seen was told
+        -- it was, and what was seen was reported
         module _ (whole : WatchesWhole SeesBundle before.left earlier next behind written_next after) (written_end : Option (List ℕ)) where
           abbrev end-streams : Streams
           end-streams = streams after.left after.began written_end
@@ -432,33 +432,33 @@ module _ (law : AnswersAreHits) (task : HuntTask) (before : Streams) (feed : Lis
           same-hunted : behind.hunted ≡ all-seen.so.hunts.hunt.hunted
           same-hunted = all-seen.takes.hunted ∙ hunted ∙ ap (λ (h : Hunt). h.hunted) (sym all-seen.so.hunt_is)
 
-          reporting : (report : List ℕ) → TellsReport task.moment (rows_of all-bundles) all-seen.so.hunts.hits behind.hunted report
+          reporting : (report : List ℕ) → IsReportText task.moment (rows_of all-bundles) all-seen.so.hunts.hits behind.hunted report
               → WritesPrefix report after.written written_end → StopsReporting task file before end-streams
-          reporting report told prefix = record {
+          reporting report reported prefix = record {
             bundles = all-bundles;
             reading = whole.reading;
             feed = feed;
             feed_is = known whole.bundles;
             hunts = all-seen.so.hunts;
             report = report;
-            tells = subst (λ (h : List Hunted). TellsReport task.moment (rows_of all-bundles) all-seen.so.hunts.hits h report) same-hunted told;
+            reports = subst (λ (h : List Hunted). IsReportText task.moment (rows_of all-bundles) all-seen.so.hunts.hits h report) same-hunted reported;
             prefix = subst (λ (w : Option (List ℕ)). WritesPrefix report w written_end) all-seen.now_is prefix;
             drained = whole.drained;
           }
 
-          pub report-ends : (end : WatchEnd Crowded) → Reports task.moment (rows_of all-bundles) all-seen.so.hunts.hits behind.hunted after.written written_end end
+          pub report-ends : (end : WatchEnd OverLimit) → Reports task.moment (rows_of all-bundles) all-seen.so.hunts.hits behind.hunted after.written written_end end
               → AnswersHunt task file before end-streams end
-          report-ends Done (report, told, is) = record {
+          report-ends Done (report, reported, is) = record {
             bundles = all-bundles;
             reading = whole.reading;
-            text = told_of all-seen.so.hunts ++ report;
-            tells = tells-all task file all-bundles feed (known whole.bundles) all-seen.so.hunts report
-                (subst (λ (h : List Hunted). IsReport task.moment (rows_of all-bundles) all-seen.so.hunts.hits h report) same-hunted told);
-            text_is = told-behind (told_of all-seen.so.hunts) report before.written after.written written_end all-seen.now_is is;
+            text = reported_of all-seen.so.hunts ++ report;
+            reports = reports-all task file all-bundles feed (known whole.bundles) all-seen.so.hunts report
+                (subst (λ (h : List Hunted). IsReport task.moment (rows_of all-bundles) all-seen.so.hunts.hits h report) same-hunted reported);
+            text_is = reported-behind (reported_of all-seen.so.hunts) report before.written after.written written_end all-seen.now_is is;
             drained = whole.drained;
           }
-          report-ends WriteFault (report, told, prefix) = inr (inr (reporting report told prefix))
-          report-ends NoMemory (report, told, prefix) = inr (inr (inr (inr (reporting report told prefix))))
+          report-ends WriteFault (report, reported, prefix) = inr (inr (reporting report reported prefix))
+          report-ends NoMemory (report, reported, prefix) = inr (inr (inr (inr (reporting report reported prefix))))
           report-ends (Input line why) ends = absurd ends
           report-ends ReadFault ends = absurd ends
           report-ends (Stopped why) ends = absurd ends
@@ -504,7 +504,7 @@ reads-none task before left began reading drained = record {
   bundles = [];
   reading = reading;
   text = [];
-  tells = refl;
+  reports = refl;
   text_is = written_with-nil before.written;
   drained = drained;
 }
@@ -515,7 +515,7 @@ read-ends task before reader after left began (read.Input line why) answers = re
   bundles = [];
   reading = answers.0;
   text = [];
-  tells = refl;
+  reports = refl;
   text_is = written_with-nil before.written;
   little = answers.1;
 }
@@ -523,7 +523,7 @@ read-ends task before reader after left began read.ReadFault answers = record {
   bundles = [];
   begins = answers.0;
   text = [];
-  tells = refl;
+  reports = refl;
   text_is = written_with-nil before.written;
   taken = answers.1;
 }

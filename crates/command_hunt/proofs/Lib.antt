@@ -1,4 +1,4 @@
 mod HuntLemmas
 mod ObjectsLemmas
 mod RunLemmas
-mod WordsLemmas
+mod ArgumentsLemmas

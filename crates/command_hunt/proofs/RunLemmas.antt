@@ -1,4 +1,4 @@
--- What the status of a run says of its words, its file and its streams, and whose count of faults rose.
+-- What the status of a run says of its arguments, its file and its streams, and whose count of faults rose.
 use Rattle.std.proofs.Common.{◌≡◌, ◌≢◌, ◌⊎◌, ◌↔◌, inl, inr, ℕ, List, Option, refl, ap, arith}
 use Rattle.flow_edges.specs.Streams.{Streams}
 use Rattle.match_input.specs.Reading.{Whole, Refused}
@@ -10,7 +10,7 @@ use Rattle.command_hunt.specs.Tasks.{HuntTask, AskForNothing}
 use Rattle.command_hunt.specs.Endings.{AskSo, EndsTask, EndsHunt, hunt_status}
 use Rattle.command_hunt.specs.Runs.{HuntsOrRefuses}
 
-module _ (words : List (List ℕ)) (contents : List ℕ → Option (List ℕ)) (before after : Streams) where
+module _ (arguments : List (List ℕ)) (contents : List ℕ → Option (List ℕ)) (before after : Streams) where
   -- of what is asked for
   module _ (task : HuntTask) where
     pub usage-task : (ending : HuntEnding) → EndsTask contents before after ending task → hunt_status ending ≢ 2
@@ -25,21 +25,21 @@ module _ (words : List (List ℕ)) (contents : List ℕ → Option (List ℕ)) (
     usage-task (Ended (end.Stopped why)) ends is = omega arith
     usage-task (Ended end.NoMemory) ends is = omega arith
 
-    told-task : (ending : HuntEnding) → EndsTask contents before after ending task → (hunt_status ending ≡ 0) ⊎ (hunt_status ending ≡ 4)
+    reported-task : (ending : HuntEnding) → EndsTask contents before after ending task → (hunt_status ending ≡ 0) ⊎ (hunt_status ending ≡ 4)
         → HuntsOrRefuses contents before after (hunt_status ending) task
-    told-task Usage ends is = absurd ends
-    told-task (Unfed (feed.Refused line why)) ends is = inr (record {
+    reported-task Usage ends is = absurd ends
+    reported-task (Unfed (feed.Refused line why)) ends is = inr (record {
       line = line;
       why = why;
       refused = ends.0;
       status_is = refl;
       untouched = ends.1;
     })
-    told-task (Unfed feed.Fault) ends (inl is) = absurd (omega arith)
-    told-task (Unfed feed.Fault) ends (inr is) = absurd (omega arith)
-    told-task (Unfed feed.NoMemory) ends (inl is) = absurd (omega arith)
-    told-task (Unfed feed.NoMemory) ends (inr is) = absurd (omega arith)
-    told-task (Ended end.Done) (file, fed, ends) is = inl (record {
+    reported-task (Unfed feed.Fault) ends (inl is) = absurd (omega arith)
+    reported-task (Unfed feed.Fault) ends (inr is) = absurd (omega arith)
+    reported-task (Unfed feed.NoMemory) ends (inl is) = absurd (omega arith)
+    reported-task (Unfed feed.NoMemory) ends (inr is) = absurd (omega arith)
+    reported-task (Ended end.Done) (file, fed, ends) is = inl (record {
       file = file;
       fed = fed;
       bundles = ends.bundles;
@@ -47,10 +47,10 @@ module _ (words : List (List ℕ)) (contents : List ℕ → Option (List ℕ)) (
       reading = ends.reading;
       end_is = refl;
       text = ends.text;
-      tells = ends.tells;
+      reports = ends.reports;
       text_is = ends.text_is;
     })
-    told-task (Ended (end.Input line why)) (file, fed, ends) is = inl (record {
+    reported-task (Ended (end.Input line why)) (file, fed, ends) is = inl (record {
       file = file;
       fed = fed;
       bundles = ends.bundles;
@@ -58,29 +58,29 @@ module _ (words : List (List ℕ)) (contents : List ℕ → Option (List ℕ)) (
       reading = ends.reading;
       end_is = refl;
       text = ends.text;
-      tells = ends.tells;
+      reports = ends.reports;
       text_is = ends.text_is;
     })
-    told-task (Ended end.ReadFault) ends (inl is) = absurd (omega arith)
-    told-task (Ended end.ReadFault) ends (inr is) = absurd (omega arith)
-    told-task (Ended end.WriteFault) ends (inl is) = absurd (omega arith)
-    told-task (Ended end.WriteFault) ends (inr is) = absurd (omega arith)
-    told-task (Ended (end.Stopped why)) ends (inl is) = absurd (omega arith)
-    told-task (Ended (end.Stopped why)) ends (inr is) = absurd (omega arith)
-    told-task (Ended end.NoMemory) ends (inl is) = absurd (omega arith)
-    told-task (Ended end.NoMemory) ends (inr is) = absurd (omega arith)
+    reported-task (Ended end.ReadFault) ends (inl is) = absurd (omega arith)
+    reported-task (Ended end.ReadFault) ends (inr is) = absurd (omega arith)
+    reported-task (Ended end.WriteFault) ends (inl is) = absurd (omega arith)
+    reported-task (Ended end.WriteFault) ends (inr is) = absurd (omega arith)
+    reported-task (Ended (end.Stopped why)) ends (inl is) = absurd (omega arith)
+    reported-task (Ended (end.Stopped why)) ends (inr is) = absurd (omega arith)
+    reported-task (Ended end.NoMemory) ends (inl is) = absurd (omega arith)
+    reported-task (Ended end.NoMemory) ends (inr is) = absurd (omega arith)
 
-  -- and of the words
+  -- and of the arguments
   module _ (ending : HuntEnding) where
-    pub refusals-run : EndsHunt words contents before after ending → (hunt_status ending ≡ 2) ↔ AskForNothing words
+    pub refusals-run : EndsHunt arguments contents before after ending → (hunt_status ending ≡ 2) ↔ AskForNothing arguments
     refusals-run (inl (nothing, usage, untouched)) = ((λ is. nothing), (λ none. ap hunt_status usage))
     refusals-run (inr asks) = ((λ is. absurd (usage-task asks.task ending asks.holds is)), (λ none. absurd (none asks.task asks.asked)))
 
-    pub told-run : EndsHunt words contents before after ending → (hunt_status ending ≡ 0) ⊎ (hunt_status ending ≡ 4)
-        → AskSo words (HuntsOrRefuses contents before after (hunt_status ending))
-    told-run (inl (nothing, usage, untouched)) is = let two = ap hunt_status usage in absurd (none is)
+    pub reported-run : EndsHunt arguments contents before after ending → (hunt_status ending ≡ 0) ⊎ (hunt_status ending ≡ 4)
+        → AskSo arguments (HuntsOrRefuses contents before after (hunt_status ending))
+    reported-run (inl (nothing, usage, untouched)) is = let two = ap hunt_status usage in absurd (none is)
       where
         none : ¬ ((hunt_status ending ≡ 0) ⊎ (hunt_status ending ≡ 4))
         none (inl zero) = let two = ap hunt_status usage in omega arith
         none (inr four) = let two = ap hunt_status usage in omega arith
-    told-run (inr asks) is = record { task = asks.task; asked = asks.asked; holds = told-task asks.task ending asks.holds is }
+    reported-run (inr asks) is = record { task = asks.task; asked = asks.asked; holds = reported-task asks.task ending asks.holds is }

@@ -1,4 +1,4 @@
--- What an ending says of the words, the file of the indicators, the log and what was told; its status, and its reason as a text.
+-- What an ending says of the arguments, the file of the indicators, the log and what was reported; its status, and its reason as a text.
 use Rattle.std.specs.Prelude.{◌≡◌, ◌⊎◌, ℕ, List, [], Option, codes}
 use Rattle.flow_edges.specs.Streams.{Streams, AreUntouched}
 use Rattle.serde_json.specs.Data.{Data}
@@ -6,17 +6,17 @@ use Rattle.match_input.specs.Texts.{IsInputRefusalText}
 use Rattle.match_run.specs.declared.watch_end.WatchEnd.TheVariants as end
 use Rattle.hunt_feed.specs.declared.end.FeedEnd.TheVariants as feed
 use Rattle.hunt_feed.specs.Texts.{feed_refusal_text}
-use Rattle.command_reasons.specs.Reasons.{crowded_reason}
+use Rattle.command_reasons.specs.Reasons.{over_limit_reason}
 use Rattle.command_hunt.specs.declared.ending.HuntEnding.{HuntEnding}
 use Rattle.command_hunt.specs.declared.ending.HuntEnding.TheVariants.{Usage, Unfed, Ended}
 use Rattle.command_hunt.specs.Tasks.{HuntTask, AskFor, AskForNothing}
 use Rattle.command_hunt.specs.Feeding.{IsFed, IsUnfed}
 use Rattle.command_hunt.specs.Telling.{AnswersHunt}
 
--- the words ask for a hunt, of which that holds
-pub record AskSo (words : List (List ℕ)) (Holds : HuntTask → Type 0) : Type 0 where
+-- the arguments ask for a hunt, of which that holds
+pub record AskSo (arguments : List (List ℕ)) (Holds : HuntTask → Type 0) : Type 0 where
   pub task : HuntTask
-  pub asked : AskFor words task
+  pub asked : AskFor arguments task
   pub holds : Holds task
 
 -- what an ending says of what is asked for
@@ -25,10 +25,10 @@ EndsTask contents before after Usage task = ⊥
 EndsTask contents before after (Unfed end) task = IsUnfed contents task end × AreUntouched before after
 EndsTask contents before after (Ended ended) task = (file : Option (List Data)) × IsFed contents task file × AnswersHunt task file before after ended
 
--- the words ask for nothing, and that is the ending; or they ask for a hunt, of which it says that
+-- the arguments ask for nothing, and that is the ending; or they ask for a hunt, of which it says that
 abbrev pub EndsHunt : List (List ℕ) → (List ℕ → Option (List ℕ)) → Streams → Streams → HuntEnding → Type 0
-EndsHunt words contents before after ending = (AskForNothing words × (ending ≡ Usage) × AreUntouched before after)
-    ⊎ AskSo words (EndsTask contents before after ending)
+EndsHunt arguments contents before after ending = (AskForNothing arguments × (ending ≡ Usage) × AreUntouched before after)
+    ⊎ AskSo arguments (EndsTask contents before after ending)
 
 abbrev pub hunt_status : HuntEnding → ℕ
 hunt_status (Ended end.Done) = 0
@@ -52,4 +52,4 @@ IsHuntReason (Unfed feed.NoMemory) text = text ≡ codes "out of memory\n"
 IsHuntReason (Ended (end.Input line why)) text = IsInputRefusalText line why text
 IsHuntReason (Ended end.ReadFault) text = text ≡ codes "read fault\n"
 IsHuntReason (Ended end.WriteFault) text = text ≡ codes "write fault\n"
-IsHuntReason (Ended (end.Stopped why)) text = text ≡ crowded_reason why.number why.cap
+IsHuntReason (Ended (end.Stopped why)) text = text ≡ over_limit_reason why.number why.retained_limit

@@ -1,5 +1,5 @@
--- Where the indicators of a hunt come from: a file, where the words name one. `contents` are the bytes of files by their names, where
--- they are told.
+-- Where the indicators of a hunt come from: a file, where the arguments name one. `contents` are the bytes of files by their names, where
+-- they are reported.
 use Rattle.std.specs.Prelude.{◌≡◌, ◌⊎◌, ⊤, ℕ, List, Option, Some, None}
 use Rattle.serde_json.specs.Data.{Data}
 use Rattle.flow_edges.specs.Faults.{Counted}
@@ -9,7 +9,7 @@ use Rattle.hunt_feed.specs.declared.end.FeedEnd.{FeedEnd}
 use Rattle.hunt_feed.specs.declared.end.FeedEnd.TheVariants.{Refused, Fault, NoMemory}
 use Rattle.command_hunt.specs.Tasks.{HuntTask}
 
--- the words name a file of which that holds
+-- the arguments name a file of which that holds
 abbrev pub NamesFile : HuntTask → (List ℕ → Type 0) → Type 0
 NamesFile task Holds = (name : List ℕ) × (task.file ≡ Some name) × Holds name
 

@@ -6,19 +6,19 @@ use Rattle.serde_json.specs.Data.{Data}
 use Rattle.match_input.specs.declared.mode.Mode.TheVariants.{Lines}
 use Rattle.match_input.specs.Reading.{BundleOf, InputEnd, Whole, Refused}
 use Rattle.match_run.specs.Matching.{ReadsInput}
-use Rattle.hunt_report.specs.declared.crowded.Crowded.{Crowded}
+use Rattle.hunt_report.specs.declared.over_limit.OverLimit.{OverLimit}
 use Rattle.command_hunt.specs.declared.ending.HuntEnding.{HuntEnding}
 use Rattle.command_hunt.specs.Tasks.{HuntTask}
 use Rattle.hunt_feed.specs.declared.rule.FeedRule.{FeedRule}
 use Rattle.command_hunt.specs.Feeding.{NamesFile, IsFed, IsRefusedFeed}
-use Rattle.command_hunt.specs.Telling.{TellsTo, StopsCrowded}
+use Rattle.command_hunt.specs.Telling.{ReportsTo, StopsOverLimit}
 use Rattle.command_hunt.specs.Endings.{AskSo, EndsHunt, hunt_status, IsHuntReason}
 
 -- the program ended in one of its ways, with that status and that reason
-pub record Ends (words : List (List ℕ)) (contents : List ℕ → Option (List ℕ)) (before after : Streams) (status : ℕ) (Writes : List ℕ → Type 0) : Type 0 where
+pub record Ends (arguments : List (List ℕ)) (contents : List ℕ → Option (List ℕ)) (before after : Streams) (status : ℕ) (Writes : List ℕ → Type 0) : Type 0 where
   pub ending : HuntEnding
   pub status_is : status ≡ hunt_status ending
-  pub stands : EndsHunt words contents before after ending
+  pub stands : EndsHunt arguments contents before after ending
   pub text : List ℕ
   pub reason_is : IsHuntReason ending text
   pub reason : Writes text
@@ -29,7 +29,7 @@ end_status Whole = 0
 end_status (Refused line why) = 4
 
 -- the bytes of the input are read as bundles, up to their end or to the first line that is refused; the indicators of the file that is
--- named, or of the first bundle, are hunted over the log of all, at no row of which one is crowded; and what is told of that was written,
+-- named, or of the first bundle, are hunted over the log of all, at no row of which one is over limit; and what is reported of that was written,
 -- and nothing else
 pub record HuntsInput (contents : List ℕ → Option (List ℕ)) (before after : Streams) (status : ℕ) (task : HuntTask) : Type 0 where
   pub file : Option (List Data)
@@ -39,7 +39,7 @@ pub record HuntsInput (contents : List ℕ → Option (List ℕ)) (before after 
   pub reading : ReadsInput Lines before.left bundles end
   pub end_is : end_status end ≡ status
   pub text : List ℕ
-  pub tells : TellsTo task file end bundles text
+  pub reports : ReportsTo task file end bundles text
   pub text_is : after.written ≡ written_with text before.written
 
 -- a line of the file that is named is refused, the first such one, and nothing was read or written
@@ -54,10 +54,10 @@ pub record RefusesFeed (contents : List ℕ → Option (List ℕ)) (before after
 abbrev pub HuntsOrRefuses : (List ℕ → Option (List ℕ)) → Streams → Streams → ℕ → HuntTask → Type 0
 HuntsOrRefuses contents before after status task = HuntsInput contents before after status task ⊎ RefusesFeed contents before after status task
 
--- a pattern is crowded at some observation, and the hits ahead of it were told
-abbrev pub HuntsToCrowd : (List ℕ → Option (List ℕ)) → Streams → Streams → HuntTask → Type 0
-HuntsToCrowd contents before after task = (why : Crowded) × (file : Option (List Data)) × IsFed contents task file × StopsCrowded task file before after why
+-- a pattern is over limit at some observation, and the hits ahead of it were reported
+abbrev pub HuntsToLimit : (List ℕ → Option (List ℕ)) → Streams → Streams → HuntTask → Type 0
+HuntsToLimit contents before after task = (why : OverLimit) × (file : Option (List Data)) × IsFed contents task file × StopsOverLimit task file before after why
 
--- the words name a file
+-- the arguments name a file
 abbrev pub AskForFile : List (List ℕ) → Type 0
-AskForFile words = AskSo words (λ task. NamesFile task (λ name. ⊤))
+AskForFile arguments = AskSo arguments (λ task. NamesFile task (λ name. ⊤))

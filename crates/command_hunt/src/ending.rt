@@ -4,23 +4,23 @@ ghost use Rattle.flow_edges.specs.Flow.{WritesWhole};
 ghost use Rattle.command_hunt.specs.declared.ending.HuntEnding.TheVariants.{Unfed};
 ghost use Rattle.command_hunt.specs.Endings.{hunt_status, IsHuntReason};
 
-use command_reasons::{write_crowded, write_no_memory, write_read_fault, write_write_fault};
+use command_reasons::{write_over_limit, write_no_memory, write_read_fault, write_write_fault};
 use flow_edges::{Sink, write_whole};
 use flow_values::Fault;
 use match_input::write_input_refusal;
 use hunt_feed::{FeedEnd, write_feed_refusal};
-use hunt_report::Crowded;
+use hunt_report::OverLimit;
 use match_run::WatchEnd;
 
 /// How the program ends.
 #[derive(Debug, Drop)]
 pub enum HuntEnding {
-    /// The words ask for nothing.
+    /// The arguments ask for nothing.
     Usage,
     /// The file of the indicators isn't read to its end, and nothing of the input was read.
     Unfed(FeedEnd),
     /// The input was followed, and that ended so; or memory ran out before.
-    Ended(WatchEnd<Crowded>),
+    Ended(WatchEnd<OverLimit>),
 }
 
 impl HuntEnding {
@@ -42,7 +42,7 @@ impl HuntEnding {
         }
     }
 
-    /// Writes why the program ends so, in one line, or nothing where all was told. Takes no memory.
+    /// Writes why the program ends so, in one line, or nothing where all was reported. Takes no memory.
     pub fn write_reason<S: Sink>(&self, reasons: &mut S) -> Result<(), Fault>
         ensures text { (text : List ℕ) × IsHuntReason self.now text × WritesWhole text (S.written reasons.old) (S.written reasons.new) result }
         ensures causes { Counted (IsErr result) (S.faults reasons.old) (S.faults reasons.new) }
@@ -59,8 +59,8 @@ impl HuntEnding {
             }
             HuntEnding::Ended(WatchEnd::ReadFault) => write_read_fault(reasons),
             HuntEnding::Ended(WatchEnd::WriteFault) => write_write_fault(reasons),
-            HuntEnding::Ended(WatchEnd::Stopped(why)) => write_crowded(
-                why.number, why.cap, reasons,
+            HuntEnding::Ended(WatchEnd::Stopped(why)) => write_over_limit(
+                why.number, why.retained_limit, reasons,
             ),
             HuntEnding::Ended(WatchEnd::NoMemory) => write_no_memory(reasons),
         }

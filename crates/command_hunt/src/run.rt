@@ -11,7 +11,7 @@ ghost use Rattle.hunt_feed.specs.Indicators.{IsHuntOf};
 ghost use Rattle.hunt_feed.specs.Gathering.{GathersFor};
 ghost use Rattle.hunt_feed.specs.declared.rule.FeedRule.{FeedRule};
 ghost use Rattle.hunt_feed.specs.Feeds.{Refused, ReadsFeed, AreUnbroken, GathersFeed};
-ghost use Rattle.hunt_engine.specs.declared.found.Found.{Found};
+ghost use Rattle.hunt_engine.specs.declared.found.Hit.{Hit};
 ghost use Rattle.hunt_engine.specs.EngineLog.{Row};
 ghost use Rattle.hunt_report.specs.Hunting.{HuntsOver, IsHuntable};
 ghost use Rattle.command_line.specs.CommandLines.{texts};
@@ -20,11 +20,11 @@ ghost use Rattle.command_hunt.specs.Tasks.{AskForNothing, task_of};
 ghost use Rattle.command_hunt.specs.Feeding.{CountedByOne};
 ghost use Rattle.command_hunt.specs.Telling.{AnswersHunt};
 ghost use Rattle.command_hunt.specs.Endings.{AskSo, EndsTask, EndsHunt, hunt_status, IsHuntReason};
-ghost use Rattle.command_hunt.specs.Runs.{Ends, HuntsOrRefuses, HuntsToCrowd, AskForFile};
+ghost use Rattle.command_hunt.specs.Runs.{Ends, HuntsOrRefuses, HuntsToLimit, AskForFile};
 ghost use Rattle.command_hunt.specs.inner.Begun.{IsUnread, IsBegun, HasSkipped, Reports};
 
 use crate::ending::HuntEnding;
-use crate::words::{HuntRequest, read_request};
+use crate::arguments::{HuntRequest, read_request};
 use flow_edges::{Sink, Source};
 use flow_edges::Files;
 use flow_values::{Fault, NoMemory};
@@ -32,44 +32,44 @@ use std::alloc::Global;
 use stix_bundles::Bundle;
 use stix_times::Instant;
 use hunt_feed::{FeedEnd, gather};
-use hunt_report::hit_laws::{answers_are_the_hits, hunted_are_huntable, skipped_can_be_told};
-use hunt_report::{Crowded, Hunter, write_report, write_skipped};
+use hunt_report::hit_laws::{answers_are_the_hits, hunted_are_huntable, skipped_have_lines};
+use hunt_report::{OverLimit, Hunter, write_report, write_skipped};
 use hunt_feed::{Gathering, Hunt, Hunted, hunt};
 use match_run::watch_laws::{begins_with_none, read_bundles_come_first};
 use match_run::{Batch, CutShort, Mode, Reader, WatchEnd, Watcher, follow, next_bundle};
 
-/// The hunt of a bundle: each indicator of it can be hunted and told.
+/// The hunt of a bundle: each indicator of it can be hunted and reported.
 fn hunt_of(alloc: Global, bundle: &Bundle, moment: Instant) -> Result<Hunt, NoMemory>
     ensures hunt { IfOk result (IsHuntOf (data_in bundle.now) moment) }
     ensures hunted { IfOk result (λ hunt. All IsHuntable hunt.hunted) }
     ensures skipped { IfOk result (λ hunt. All (λ s. IsKind s.id.kind) hunt.skipped) }
 {
     hunted_are_huntable();
-    skipped_can_be_told();
+    skipped_have_lines();
     let _unbroken = bundle.objects();
     hunt(alloc, bundle, moment)
 }
 
-/// The hunt of what is kept of a feed: each indicator of it can be hunted and told.
+/// The hunt of what is kept of a feed: each indicator of it can be hunted and reported.
 fn hunt_of_feed(gathering: Gathering, moment: Instant) -> Result<Hunt, NoMemory>
     ensures hunt { (feed : List Data) → GathersFor gathering feed → IfOk result (IsHuntOf feed moment) }
     ensures hunted { (feed : List Data) → GathersFor gathering feed → AreUnbroken feed → IfOk result (λ hunt. All IsHuntable hunt.hunted) }
     ensures skipped { (feed : List Data) → GathersFor gathering feed → AreUnbroken feed → IfOk result (λ hunt. All (λ s. IsKind s.id.kind) hunt.skipped) }
 {
     hunted_are_huntable();
-    skipped_can_be_told();
+    skipped_have_lines();
     gathering.hunt(moment)
 }
 
-/// Tells at the end of the input what was seen.
+/// Reports at the end of the input what was seen.
 fn report<O: Sink>(
     alloc: Global,
     request: &HuntRequest<'_>,
     hunter: &Hunter<'_>,
     output: &mut O,
-) -> WatchEnd<Crowded>
+) -> WatchEnd<OverLimit>
     requires huntable { All IsHuntable hunter.now.hunted }
-    ensures end { (rows : List Row) (hits : List Found) → HuntsOver hunter.now rows hits
+    ensures end { (rows : List Row) (hits : List Hit) → HuntsOver hunter.now rows hits
         → Reports request.now.moment rows hits hunter.now.hunted (O.written output.old) (O.written output.new) result }
     ensures unread { result ≢ WatchEnd.ReadFault }
     ensures causes { Counted (result ≡ WatchEnd.WriteFault) (O.faults output.old) (O.faults output.new) }
@@ -90,7 +90,7 @@ fn hunt_for<I: Source, O: Sink>(
     reader: &mut Reader,
     input: &mut I,
     output: &mut O,
-) -> WatchEnd<Crowded>
+) -> WatchEnd<OverLimit>
     requires huntable { All IsHuntable hunted.now }
     requires read { (start : Option (List ℕ)) × HasRead start reader.old (I.left input.old) (I.began input.old) (bundle_of first.now ∷ []) }
     requires follow { MayFollow None 1 first.now.observations }
@@ -102,7 +102,7 @@ fn hunt_for<I: Source, O: Sink>(
     ensures output { Counted (result ≡ WatchEnd.WriteFault) (O.faults output.old) (O.faults output.new) }
 {
     answers_are_the_hits();
-    let mut hunter = match Hunter::new(alloc, hunted, u64::from(request.cap)) {
+    let mut hunter = match Hunter::new(alloc, hunted, u64::from(request.retained_limit)) {
         Ok(hunter) => hunter,
         Err(NoMemory) => return WatchEnd::NoMemory,
     };
@@ -123,7 +123,7 @@ fn hunt_from<I: Source, O: Sink>(
     reader: &mut Reader,
     input: &mut I,
     output: &mut O,
-) -> WatchEnd<Crowded>
+) -> WatchEnd<OverLimit>
     requires read { (start : Option (List ℕ)) × HasRead start reader.old (I.left input.old) (I.began input.old) (bundle_of first.now ∷ []) }
     requires follow { MayFollow None 1 first.now.observations }
     ensures end { (before : Streams) → HasRead before.left reader.old (I.left input.old) (I.began input.old) (bundle_of first.now ∷ [])
@@ -153,7 +153,7 @@ fn hunt_input<I: Source, O: Sink>(
     request: &HuntRequest<'_>,
     input: &mut I,
     output: &mut O,
-) -> WatchEnd<Crowded>
+) -> WatchEnd<OverLimit>
     ensures end { AnswersHunt (task_of request.now) None (streams (I.left input.old) (I.began input.old) (O.written output.old))
         (streams (I.left input.new) (I.began input.new) (O.written output.new)) result }
     ensures input { Counted (result ≡ WatchEnd.ReadFault) (I.faults input.old) (I.faults input.new) }
@@ -180,7 +180,7 @@ fn hunt_log<I: Source, O: Sink>(
     reader: &mut Reader,
     input: &mut I,
     output: &mut O,
-) -> WatchEnd<Crowded>
+) -> WatchEnd<OverLimit>
     requires huntable { All IsHuntable hunted.now }
     requires start { reader.old ≡ reader_start Lines }
     ensures end { (before : Streams) (feed : List Data) → IsUnread before (I.left input.old) (I.began input.old)
@@ -191,8 +191,8 @@ fn hunt_log<I: Source, O: Sink>(
 {
     answers_are_the_hits();
     begins_with_none();
-    let cap = u64::from(request.cap);
-    let mut hunter = match Hunter::new(alloc, hunted, cap) {
+    let retained_limit = u64::from(request.retained_limit);
+    let mut hunter = match Hunter::new(alloc, hunted, retained_limit) {
         Ok(hunter) => hunter,
         Err(NoMemory) => return WatchEnd::NoMemory,
     };
@@ -209,7 +209,7 @@ fn hunt_feed<I: Source, O: Sink>(
     gathering: Gathering,
     input: &mut I,
     output: &mut O,
-) -> WatchEnd<Crowded>
+) -> WatchEnd<OverLimit>
     requires fed { (feed : List Data) × GathersFor gathering feed × AreUnbroken feed }
     ensures end { (feed : List Data) → GathersFor gathering feed
         → AnswersHunt (task_of request.now) (Some feed) (streams (I.left input.old) (I.began input.old) (O.written output.old))
@@ -271,23 +271,23 @@ fn hunt_file<F: Files, I: Source, O: Sink>(
     }
 }
 
-/// Does what the words ask for.
-fn obey<F: Files, I: Source, O: Sink>(
+/// Does what the arguments ask for.
+fn execute<F: Files, I: Source, O: Sink>(
     alloc: Global,
-    words: &[String],
+    arguments: &[String],
     files: &mut F,
     input: &mut I,
     output: &mut O,
 ) -> HuntEnding
-    ensures end { EndsHunt (texts words.now) (F.contents files.old) (streams (I.left input.old) (I.began input.old) (O.written output.old))
+    ensures end { EndsHunt (texts arguments.now) (F.contents files.old) (streams (I.left input.old) (I.began input.old) (O.written output.old))
         (streams (I.left input.new) (I.began input.new) (O.written output.new)) result }
     ensures untouched { hunt_status result ≡ 2 → (files.new ≡ files.old) × (input.new ≡ input.old) × (output.new ≡ output.old) }
-    ensures unopened { ¬ AskForFile (texts words.now) → files.new ≡ files.old }
-    ensures reads { CountedByOne (AskForFile (texts words.now)) (hunt_status result ≡ 5) (I.faults input.old) (I.faults input.new)
+    ensures unopened { ¬ AskForFile (texts arguments.now) → files.new ≡ files.old }
+    ensures reads { CountedByOne (AskForFile (texts arguments.now)) (hunt_status result ≡ 5) (I.faults input.old) (I.faults input.new)
         (F.faults files.old) (F.faults files.new) }
     ensures output { Counted (hunt_status result ≡ 6) (O.faults output.old) (O.faults output.new) }
 {
-    let Some(request) = read_request(words) else {
+    let Some(request) = read_request(arguments) else {
         return HuntEnding::Usage;
     };
     match request.file {
@@ -296,8 +296,8 @@ fn obey<F: Files, I: Source, O: Sink>(
     }
 }
 
-/// Hunts many indicators over an input, as words ask for it. The words are TIME, the moment at which indicators have to be valid, and
-/// perhaps CAP: how much may be live of one pattern; and perhaps `--indicators FILE`. Then the objects of the file, a line each, hold the
+/// Hunts many indicators over an input, as arguments ask for it. The arguments are TIME, the moment at which indicators have to be valid, and
+/// perhaps Retained limit: how much may be live of one pattern; and perhaps `--indicators FILE`. Then the objects of the file, a line each, hold the
 /// indicators; else the first bundle of the input does, which is of the log itself. The input is one of `match`.
 ///
 /// `output` gets a line for each indicator whose pattern isn't read; then each hit, which is the identifier of an indicator and a
@@ -306,41 +306,41 @@ fn obey<F: Files, I: Source, O: Sink>(
 ///
 /// | Status | Comes |
 /// |---|---|
-/// | 0 | the input was read to its end, and all was told |
+/// | 0 | the input was read to its end, and all was reported |
 /// | 1 | memory ran out |
-/// | 2 | exactly where the words ask for nothing |
+/// | 2 | exactly where the arguments ask for nothing |
 /// | 4 | where a line is refused, of the file or else of the input, the first such one |
 /// | 5 | only where the input or the files counted a fault, and at each fault of theirs |
 /// | 6 | only where the output counted a fault, and at each fault of it |
-/// | 7 | where more of a pattern is live at an observation than the cap allows, the first such one |
+/// | 7 | where more of a pattern is live at an observation than the retained limit allows, the first such one |
 ///
-/// On `faults` the reason is told in one line. A failing write there changes nothing else.
+/// On `faults` the reason is reported in one line. A failing write there changes nothing else.
 pub fn run_hunt<F: Files, I: Source, O: Sink, E: Sink>(
     alloc: Global,
-    words: &[String],
+    arguments: &[String],
     files: &mut F,
     input: &mut I,
     output: &mut O,
     faults: &mut E,
 ) -> u8
-    ensures ends { Ends (texts words.now) (F.contents files.old) (streams (I.left input.old) (I.began input.old) (O.written output.old))
+    ensures ends { Ends (texts arguments.now) (F.contents files.old) (streams (I.left input.old) (I.began input.old) (O.written output.old))
         (streams (I.left input.new) (I.began input.new) (O.written output.new)) result
         (λ reason. WritesReason reason (E.written faults.old) (E.written faults.new) (E.faults faults.old) (E.faults faults.new)) }
-    ensures refusals { (result ≡ 2) ↔ AskForNothing (texts words.now) }
-    ensures told { (result ≡ 0) ⊎ (result ≡ 4) → AskSo (texts words.now) (HuntsOrRefuses (F.contents files.old)
+    ensures refusals { (result ≡ 2) ↔ AskForNothing (texts arguments.now) }
+    ensures reported { (result ≡ 0) ⊎ (result ≡ 4) → AskSo (texts arguments.now) (HuntsOrRefuses (F.contents files.old)
         (streams (I.left input.old) (I.began input.old) (O.written output.old)) (streams (I.left input.new) (I.began input.new) (O.written output.new)) result) }
-    ensures crowded { result ≡ 7 → AskSo (texts words.now) (HuntsToCrowd (F.contents files.old)
+    ensures over_limit { result ≡ 7 → AskSo (texts arguments.now) (HuntsToLimit (F.contents files.old)
         (streams (I.left input.old) (I.began input.old) (O.written output.old)) (streams (I.left input.new) (I.began input.new) (O.written output.new))) }
     ensures untouched { result ≡ 2 → (files.new ≡ files.old) × (input.new ≡ input.old) × (output.new ≡ output.old) }
-    ensures unopened { ¬ AskForFile (texts words.now) → files.new ≡ files.old }
-    ensures reads { CountedByOne (AskForFile (texts words.now)) (result ≡ 5) (I.faults input.old) (I.faults input.new) (F.faults files.old) (F.faults files.new) }
+    ensures unopened { ¬ AskForFile (texts arguments.now) → files.new ≡ files.old }
+    ensures reads { CountedByOne (AskForFile (texts arguments.now)) (result ≡ 5) (I.faults input.old) (I.faults input.new) (F.faults files.old) (F.faults files.new) }
     ensures output { Counted (result ≡ 6) (O.faults output.old) (O.faults output.new) }
 {
-    let ending = obey(alloc, words, files, input, output);
+    let ending = execute(alloc, arguments, files, input, output);
     finish(&ending, faults)
 }
 
-/// Tells why the program ends so, and answers its status.
+/// Reports why the program ends so, and answers its status.
 fn finish<E: Sink>(ending: &HuntEnding, faults: &mut E) -> u8
     ensures status { result ≡ hunt_status ending.now }
     ensures reason { (text : List ℕ) × IsHuntReason ending.now text × WritesReason text (E.written faults.old) (E.written faults.new) (E.faults faults.old) (E.faults faults.new) }

@@ -1,4 +1,4 @@
--- Collections in words: a word is one collection at most, for a UUID has one length, and rights have no colon.
+-- Collections in arguments: a argument is one collection at most, for a UUID has one length, and rights have no colon.
 use Rattle.std.proofs.Common.{◌≡◌, ◌≢◌, ◌<◌, ℕ, zero, suc, Bool, true, false, Option, List, [], ◌∷◌, ◌++◌, length, get_or, codes, Bor, refl, sym, ap, ◌∙◌, subst, arith}
 use Rattle.std.specs.Prelude.{MatchOption}
 use Rattle.std.proofs.lemmas.Str.Pattern.{IsSplitOnceResult, split_after}
@@ -66,57 +66,57 @@ same_rights text false true true false h g = differ (codes "w") (codes "r") refl
 same_tails : (xs ys : Text) → 58 ∷ xs ≡ 58 ∷ ys → xs ≡ ys
 same_tails xs ys e = cc
 
--- a word is one collection
-pub one_collection : (word : Text) (a b : PlainCollection) → IsCollectionOf word a → IsCollectionOf word b → a ≡ b
-one_collection word a b one two =
+-- a argument is one collection
+pub one_collection : (argument : Text) (a b : PlainCollection) → IsCollectionOf argument a → IsCollectionOf argument b → a ≡ b
+one_collection argument a b one two =
     let first = same_front one.uuid two.uuid (58 ∷ (one.rights ++ 58 ∷ a.title)) (58 ∷ (two.rights ++ 58 ∷ b.title)) (length-uuid one.uuid a.id one.id_is ∙ sym (length-uuid two.uuid b.id two.id_is))
-    (sym one.word_is ∙ two.word_is) in
+    (sym one.argument_is ∙ two.argument_is) in
     let behind : one.rights ++ 58 ∷ a.title ≡ two.rights ++ 58 ∷ b.title = same_tails _ _ first.1 in
     let second = same_cut one.rights two.rights a.title b.title (rights_free one.rights a.can_read a.can_write one.rights_are) (rights_free two.rights b.can_read b.can_write two.rights_are) behind in
     let ids : a.id ≡ b.id = one_number two.uuid a.id b.id (subst (λ (t : Text). IsUuidOf t a.id) first.0 one.id_is) two.id_is in
     let rights = same_rights two.rights a.can_read a.can_write b.can_read b.can_write (subst (λ (t : Text). AreRights t a.can_read a.can_write) second.0 one.rights_are) two.rights_are in
     λ i. record { id = ids i; can_read = rights.0 i; can_write = rights.1 i; title = second.1 i }
 
-pub same_collections : (words : List Text) (xs ys : List PlainCollection) → AreCollectionsOf words xs → AreCollectionsOf words ys → xs ≡ ys
+pub same_collections : (arguments : List Text) (xs ys : List PlainCollection) → AreCollectionsOf arguments xs → AreCollectionsOf arguments ys → xs ≡ ys
 same_collections [] [] [] one two = refl
 same_collections [] (a ∷ xs) ys one two = absurd one
 same_collections [] [] (b ∷ ys) one two = absurd two
-same_collections (word ∷ words) [] ys one two = absurd one
-same_collections (word ∷ words) (a ∷ xs) [] one two = absurd two
-same_collections (word ∷ words) (a ∷ xs) (b ∷ ys) one two =
-    let first = one_collection word a b one.0 two.0 in
-    let rest = same_collections words xs ys one.1 two.1 in
+same_collections (argument ∷ arguments) [] ys one two = absurd one
+same_collections (argument ∷ arguments) (a ∷ xs) [] one two = absurd two
+same_collections (argument ∷ arguments) (a ∷ xs) (b ∷ ys) one two =
+    let first = one_collection argument a b one.0 two.0 in
+    let rest = same_collections arguments xs ys one.1 two.1 in
     λ i. first i ∷ rest i
 
-pub as_many : (words : List Text) (collections : List PlainCollection) → AreCollectionsOf words collections → length words ≡ length collections
+pub as_many : (arguments : List Text) (collections : List PlainCollection) → AreCollectionsOf arguments collections → length arguments ≡ length collections
 as_many [] [] all = refl
 as_many [] (c ∷ cs) all = absurd all
-as_many (word ∷ words) [] all = absurd all
-as_many (word ∷ words) (c ∷ cs) all = ap suc (as_many words cs all.1)
+as_many (argument ∷ arguments) [] all = absurd all
+as_many (argument ∷ arguments) (c ∷ cs) all = ap suc (as_many arguments cs all.1)
 
--- one more word and its collection
-pub are_collections-append : (words more : List Text) (xs ys : List PlainCollection) → AreCollectionsOf words xs → AreCollectionsOf more ys → AreCollectionsOf (words ++ more) (xs ++ ys)
+-- one more argument and its collection
+pub are_collections-append : (arguments more : List Text) (xs ys : List PlainCollection) → AreCollectionsOf arguments xs → AreCollectionsOf more ys → AreCollectionsOf (arguments ++ more) (xs ++ ys)
 are_collections-append [] more [] ys all rest = rest
 are_collections-append [] more (a ∷ xs) ys all rest = absurd all
-are_collections-append (word ∷ words) more [] ys all rest = absurd all
-are_collections-append (word ∷ words) more (a ∷ xs) ys all rest = (all.0, are_collections-append words more xs ys all.1 rest)
+are_collections-append (argument ∷ arguments) more [] ys all rest = absurd all
+are_collections-append (argument ∷ arguments) more (a ∷ xs) ys all rest = (all.0, are_collections-append arguments more xs ys all.1 rest)
 
--- a word among them that is no collection
-pub bad_word : (words : List Text) (word : Text) (more : List Text) → ((collection : PlainCollection) → ¬ IsCollectionOf word collection)
-    → (collections : List PlainCollection) → ¬ AreCollectionsOf (words ++ word ∷ more) collections
-bad_word [] word more bad [] all = all
-bad_word [] word more bad (c ∷ cs) all = bad c all.0
-bad_word (other ∷ words) word more bad [] all = all
-bad_word (other ∷ words) word more bad (c ∷ cs) all = bad_word words word more bad cs all.1
+-- a argument among them that is no collection
+pub bad_argument : (arguments : List Text) (argument : Text) (more : List Text) → ((collection : PlainCollection) → ¬ IsCollectionOf argument collection)
+    → (collections : List PlainCollection) → ¬ AreCollectionsOf (arguments ++ argument ∷ more) collections
+bad_argument [] argument more bad [] all = all
+bad_argument [] argument more bad (c ∷ cs) all = bad c all.0
+bad_argument (other ∷ arguments) argument more bad [] all = all
+bad_argument (other ∷ arguments) argument more bad (c ∷ cs) all = bad_argument arguments argument more bad cs all.1
 
--- what the reader of a collection cuts out of its word
-module _ (word : Text) (collection : PlainCollection) (is : IsCollectionOf word collection) where
-  pub behind_uuid : (uuid rest : Text) → word ≡ uuid ++ 58 ∷ rest → length uuid ≡ 36 → IsUuidOf uuid collection.id × (rest ≡ is.rights ++ 58 ∷ collection.title)
+-- what the reader of a collection cuts out of its argument
+module _ (argument : Text) (collection : PlainCollection) (is : IsCollectionOf argument collection) where
+  pub behind_uuid : (uuid rest : Text) → argument ≡ uuid ++ 58 ∷ rest → length uuid ≡ 36 → IsUuidOf uuid collection.id × (rest ≡ is.rights ++ 58 ∷ collection.title)
   behind_uuid uuid rest cut long =
-      let same = same_front uuid is.uuid (58 ∷ rest) (58 ∷ (is.rights ++ 58 ∷ collection.title)) (long ∙ sym (length-uuid is.uuid collection.id is.id_is)) (sym cut ∙ is.word_is) in
+      let same = same_front uuid is.uuid (58 ∷ rest) (58 ∷ (is.rights ++ 58 ∷ collection.title)) (long ∙ sym (length-uuid is.uuid collection.id is.id_is)) (sym cut ∙ is.argument_is) in
       (subst (λ (t : Text). IsUuidOf t collection.id) (sym same.0) is.id_is, same_tails _ _ same.1)
 
-  pub behind_rights : (uuid rest : Text) → word ≡ uuid ++ 58 ∷ rest → length uuid ≡ 36 → (cut : Option (Bor Text × Bor Text)) → IsSplitOnceResult 58 rest cut
+  pub behind_rights : (uuid rest : Text) → argument ≡ uuid ++ 58 ∷ rest → length uuid ≡ 36 → (cut : Option (Bor Text × Bor Text)) → IsSplitOnceResult 58 rest cut
       → MatchOption cut ⊥ (λ x. (x.0.now ≡ is.rights) × (x.1.now ≡ collection.title))
   behind_rights uuid rest at long cut split =
       split_after 58 rest is.rights collection.title cut split (omega arith) (behind_uuid uuid rest at long).1 (rights_free is.rights collection.can_read collection.can_write is.rights_are)

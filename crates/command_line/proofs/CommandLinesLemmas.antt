@@ -1,4 +1,4 @@
--- Command lines and what `clap` finds in their words: that the words ask for a request is that `clap` takes them and its rows ask for it.
+-- Command lines and what `clap` finds in their arguments: that the arguments ask for a request is that `clap` takes them and its rows ask for it.
 use Rattle.std.proofs.lemmas.Bool.{false≢true}
 use Rattle.std.proofs.Common.{◌≡◌, ◌≤◌, ℕ, Bool, true, false, ◌||◌, if◌then◌else◌, List, [], ◌∷◌, length, Option, Some, None, unwrap_or, slice_get, String, codes, bytes_eq, inl, inr, refl, sym, ap, ◌∙◌, subst, arith}
 use Rattle.std.specs.declared.alloc.Global.{Global}
@@ -13,22 +13,22 @@ use Rattle.clap.specs.Walk.{Row, first_of, one_of}
 use Rattle.command_line.specs.Parts.{Part, positions}
 use Rattle.command_line.specs.CommandLines.{AreCollectionsOf, Check, IsBase, IsCalledWith, IsCommandLine, IsFile, IsFlag, IsNumberIn, IsNumberOf, IsNumberOr, IsServeLine, IsValueOrNone, Make, Match, PlainRequest, PlainService, Serve, Show, flags_of, texts, values_of}
 use Rattle.match_generator.specs.declared.log.TheConstants.{MAX_SEED, MAX_COUNT}
-use Rattle.command_line.specs.declared.numbers.TheConstants.{DEFAULT_CAP, MAX_CAP, MAX_CONNECTIONS, MAX_PORT}
+use Rattle.command_line.specs.declared.numbers.TheConstants.{DEFAULT_RETAINED_LIMIT, MAX_RETAINED_LIMIT, MAX_CONNECTIONS, MAX_PORT}
 use Rattle.command_line.specs.inner.Forms.{Form, check_form, collection_names, program_app, make_form, match_form, serve_form, show_form}
-use Rattle.command_line.specs.inner.Rows.{command_name, IsAskedBy, IsAskedIn, IsCapText, IsFlagText, IsMatchIn, IsNumberText, IsServeIn, IsTextOrNone, words_at}
+use Rattle.command_line.specs.inner.Rows.{command_name, IsAskedBy, IsAskedIn, IsRetainedLimitText, IsFlagText, IsMatchIn, IsNumberText, IsServeIn, IsTextOrNone, arguments_at}
 use Rattle.command_line.proofs.HasLemmas.{Text, differ, has, or_false, same_text}
-use Rattle.command_line.proofs.PartRowsLemmas.{word_rows}
+use Rattle.command_line.proofs.PartRowsLemmas.{argument_rows}
 use Rattle.command_line.proofs.CutLemmas.{AreUtf8}
 use Rattle.command_line.proofs.LevelLemmas.{Fits, IsTaken, Tells, command_rows, flag_text, level_from, level_to}
 use Rattle.command_line.proofs.LineLemmas.{Known, called_of, is_check, is_make, is_match, is_serve, is_show, line_fault, line_rows, sound_of}
 use Rattle.command_line.proofs.CollectionLemmas.{as_many, same_collections}
-use Rattle.command_line.proofs.WordsLemmas.{words_back, words_same}
+use Rattle.command_line.proofs.ArgumentsLemmas.{arguments_back, arguments_same}
 use Rattle.command_line.proofs.FormLemmas.{positions_distinct}
 
--- the words of a program are UTF-8
-pub texts_utf8 : (words : List (String Global)) → AreUtf8 (texts words)
+-- the arguments of a program are UTF-8
+pub texts_utf8 : (arguments : List (String Global)) → AreUtf8 (texts arguments)
 texts_utf8 [] = tt
-texts_utf8 (word ∷ words) = (IsUtf8-string_bytes word, texts_utf8 words)
+texts_utf8 (argument ∷ arguments) = (IsUtf8-string_bytes argument, texts_utf8 arguments)
 
 one_name : (x name : Text) → has name (x ∷ []) ≡ true → name ≡ x
 one_name x name h = sym (same_text x name (sym (or_false (bytes_eq x name)) ∙ h))
@@ -64,38 +64,38 @@ text_says : (o : Option Text) (given : Bool) → o ≡ Some (text_of given) → 
 text_says o true e = (λ t. refl, λ f. let bad : Some (codes "true") ≡ Some (codes "false") = sym e ∙ f in absurd (cc))
 text_says o false e = (λ t. let bad : Some (codes "false") ≡ Some (codes "true") = sym e ∙ t in absurd (cc), λ f. refl)
 
-cap_to : (values : List Text) (cap : ℕ) (o : Option Text) → length values ≤ 1 → o ≡ slice_get values 0 → IsCapText o cap → IsNumberOr DEFAULT_CAP 1 MAX_CAP values cap
-cap_to [] cap o few e h = subst (λ (t : Option Text). IsCapText t cap) e h
-cap_to (value ∷ []) cap o few e h = subst (λ (t : Option Text). IsCapText t cap) e h
-cap_to (value ∷ other ∷ values) cap o few e h = absurd (omega arith)
+retained_limit_to : (values : List Text) (retained_limit : ℕ) (o : Option Text) → length values ≤ 1 → o ≡ slice_get values 0 → IsRetainedLimitText o retained_limit → IsNumberOr DEFAULT_RETAINED_LIMIT 1 MAX_RETAINED_LIMIT values retained_limit
+retained_limit_to [] retained_limit o few e h = subst (λ (t : Option Text). IsRetainedLimitText t retained_limit) e h
+retained_limit_to (value ∷ []) retained_limit o few e h = subst (λ (t : Option Text). IsRetainedLimitText t retained_limit) e h
+retained_limit_to (value ∷ other ∷ values) retained_limit o few e h = absurd (omega arith)
 
-cap_from : (values : List Text) (cap : ℕ) (o : Option Text) → o ≡ slice_get values 0 → IsNumberOr DEFAULT_CAP 1 MAX_CAP values cap → IsCapText o cap
-cap_from [] cap o e h = subst (λ (t : Option Text). IsCapText t cap) (sym e) h
-cap_from (value ∷ []) cap o e h = subst (λ (t : Option Text). IsCapText t cap) (sym e) h
-cap_from (value ∷ other ∷ values) cap o e h = absurd h
+retained_limit_from : (values : List Text) (retained_limit : ℕ) (o : Option Text) → o ≡ slice_get values 0 → IsNumberOr DEFAULT_RETAINED_LIMIT 1 MAX_RETAINED_LIMIT values retained_limit → IsRetainedLimitText o retained_limit
+retained_limit_from [] retained_limit o e h = subst (λ (t : Option Text). IsRetainedLimitText t retained_limit) (sym e) h
+retained_limit_from (value ∷ []) retained_limit o e h = subst (λ (t : Option Text). IsRetainedLimitText t retained_limit) (sym e) h
+retained_limit_from (value ∷ other ∷ values) retained_limit o e h = absurd h
 
 -- one position, and two
-pattern_to : (words : List Text) (pattern : Text) → length words ≡ 1 → first_of (codes "pattern") (word_rows (codes "pattern" ∷ []) words) ≡ Some pattern → words ≡ pattern ∷ []
+pattern_to : (arguments : List Text) (pattern : Text) → length arguments ≡ 1 → first_of (codes "pattern") (argument_rows (codes "pattern" ∷ []) arguments) ≡ Some pattern → arguments ≡ pattern ∷ []
 pattern_to [] pattern few e = absurd (omega arith)
-pattern_to (word ∷ []) pattern few e = let same : word ≡ pattern = cc in ap (λ (w : Text). w ∷ []) same
-pattern_to (word ∷ other ∷ words) pattern few e = absurd (omega arith)
+pattern_to (argument ∷ []) pattern few e = let same : argument ≡ pattern = cc in ap (λ (w : Text). w ∷ []) same
+pattern_to (argument ∷ other ∷ arguments) pattern few e = absurd (omega arith)
 
-pattern_from : (words : List Text) (pattern : Text) → words ≡ pattern ∷ [] → first_of (codes "pattern") (word_rows (codes "pattern" ∷ []) words) ≡ Some pattern
-pattern_from words pattern e = rw e refl
+pattern_from : (arguments : List Text) (pattern : Text) → arguments ≡ pattern ∷ [] → first_of (codes "pattern") (argument_rows (codes "pattern" ∷ []) arguments) ≡ Some pattern
+pattern_from arguments pattern e = rw e refl
 
 -- the texts of a seed and a count
-record Both (words : List Text) : Type 0 where
+record Both (arguments : List Text) : Type 0 where
   seed : Text
   count : Text
-  both : words ≡ seed ∷ count ∷ []
-  seed_is : first_of (codes "seed") (word_rows (codes "seed" ∷ codes "count" ∷ []) words) ≡ Some seed
-  count_is : first_of (codes "count") (word_rows (codes "seed" ∷ codes "count" ∷ []) words) ≡ Some count
+  both : arguments ≡ seed ∷ count ∷ []
+  seed_is : first_of (codes "seed") (argument_rows (codes "seed" ∷ codes "count" ∷ []) arguments) ≡ Some seed
+  count_is : first_of (codes "count") (argument_rows (codes "seed" ∷ codes "count" ∷ []) arguments) ≡ Some count
 
-both_of : (words : List Text) → length words ≡ 2 → Both words
+both_of : (arguments : List Text) → length arguments ≡ 2 → Both arguments
 both_of [] few = absurd (omega arith)
 both_of (a ∷ []) few = absurd (omega arith)
 both_of (a ∷ b ∷ []) few = record { seed = a; count = b; both = refl; seed_is = refl; count_is = refl }
-both_of (a ∷ b ∷ c ∷ words) few = absurd (omega arith)
+both_of (a ∷ b ∷ c ∷ arguments) few = absurd (omega arith)
 
 number_text : (least most : ℕ) (o : Option Text) (text : Text) (number : ℕ) → o ≡ Some text → IsNumberText least most o number → IsNumberIn least most text number
 number_text least most o text number e h = subst (λ (t : Option Text). IsNumberText least most t number) e h
@@ -132,11 +132,11 @@ module _ (IsForm : Text → Type 0) where
   value_from (value ∷ []) given o e h = subst (λ (t : Option Text). IsTextOrNone IsForm t given) (sym e) h
   value_from (value ∷ other ∷ values) given o e h = absurd h
 
--- the words of the collections
-words_are : (parts : List Part) (rows : List Row) → Tells serve_form parts rows → length (positions parts) ≤ length collection_names → words_at collection_names rows ≡ positions parts
-words_are parts rows tells few =
-    words_same collection_names rows (word_rows collection_names (positions parts)) tells.words
-    ∙ words_back collection_names (positions parts) (positions_distinct serve_form (sound_of is_serve)) few
+-- the arguments of the collections
+arguments_are : (parts : List Part) (rows : List Row) → Tells serve_form parts rows → length (positions parts) ≤ length collection_names → arguments_at collection_names rows ≡ positions parts
+arguments_are parts rows tells few =
+    arguments_same collection_names rows (argument_rows collection_names (positions parts)) tells.arguments
+    ∙ arguments_back collection_names (positions parts) (positions_distinct serve_form (sound_of is_serve)) few
 
 abbrev pub Found : Type 0
 Found = Option (Text × List Row)
@@ -150,16 +150,16 @@ same_pair a b rows more e =
     (ap (λ (o : Found). (unwrap_or o first).0) e, ap (λ (o : Found). (unwrap_or o first).1) e)
 
 -- from what `clap` found to the line
-line_of : (form : Form) → Known form → (words rest : List Text) (parts : List Part) (rows : List Row) → words ≡ form.name ∷ rest → IsTaken form rest parts → Tells form parts rows
-    → (request : PlainRequest) → IsAskedIn form.name rows request → IsCommandLine words request
-line_of _ is_match words rest parts rows line taken tells (Match whole most pattern) asked = record {
+line_of : (form : Form) → Known form → (arguments rest : List Text) (parts : List Part) (rows : List Row) → arguments ≡ form.name ∷ rest → IsTaken form rest parts → Tells form parts rows
+    → (request : PlainRequest) → IsAskedIn form.name rows request → IsCommandLine arguments request
+line_of _ is_match arguments rest parts rows line taken tells (Match whole most pattern) asked = record {
   parts = parts;
   called = record { rest = rest; line = line; are_parts = taken.are_parts };
   whole_is = flag_to (flags_of (codes "whole") parts) whole (one_of (codes "whole") rows) (taken.fits.flags (codes "whole") refl) (tells.flags (codes "whole") refl) asked.1.whole_is;
-  cap_is = cap_to (values_of (codes "cap") parts) most (first_of (codes "cap") rows) (taken.fits.valued (codes "cap") refl) (tells.valued (codes "cap") refl) asked.1.cap_is;
-  pattern_is = pattern_to (positions parts) pattern taken.fits.all (sym (tells.words (codes "pattern") refl) ∙ asked.1.pattern_is);
+  retained_limit_is = retained_limit_to (values_of (codes "cap") parts) most (first_of (codes "cap") rows) (taken.fits.valued (codes "cap") refl) (tells.valued (codes "cap") refl) asked.1.retained_limit_is;
+  pattern_is = pattern_to (positions parts) pattern taken.fits.all (sym (tells.arguments (codes "pattern") refl) ∙ asked.1.pattern_is);
 }
-line_of _ is_check words rest parts rows line taken tells Check asked = record {
+line_of _ is_check arguments rest parts rows line taken tells Check asked = record {
   parts = parts;
   called = record { rest = rest; line = line; are_parts = taken.are_parts };
   alone = none_from (positions parts) taken.fits.all;
@@ -168,12 +168,12 @@ line_of _ is_check words rest parts rows line taken tells Check asked = record {
     none_from : (ws : List Text) → length ws ≡ 0 → ws ≡ []
     none_from [] e = refl
     none_from (w ∷ ws) e = absurd (omega arith)
-line_of _ is_show words rest parts rows line taken tells (Show pattern) asked = record {
+line_of _ is_show arguments rest parts rows line taken tells (Show pattern) asked = record {
   parts = parts;
   called = record { rest = rest; line = line; are_parts = taken.are_parts };
-  pattern_is = pattern_to (positions parts) pattern taken.fits.all (sym (tells.words (codes "pattern") refl) ∙ asked.1);
+  pattern_is = pattern_to (positions parts) pattern taken.fits.all (sym (tells.arguments (codes "pattern") refl) ∙ asked.1);
 }
-line_of _ is_make words rest parts rows line taken tells (Make seed count) asked =
+line_of _ is_make arguments rest parts rows line taken tells (Make seed count) asked =
     let two = both_of (positions parts) taken.fits.all in
     record {
       parts = parts;
@@ -181,12 +181,12 @@ line_of _ is_make words rest parts rows line taken tells (Make seed count) asked
       seed_text = two.seed;
       count_text = two.count;
       both = two.both;
-      seed_is = number_text 0 MAX_SEED (first_of (codes "seed") rows) two.seed seed (tells.words (codes "seed") refl ∙ two.seed_is) asked.1.seed_is;
-      count_is = number_text 1 MAX_COUNT (first_of (codes "count") rows) two.count count (tells.words (codes "count") refl ∙ two.count_is) asked.1.count_is;
+      seed_is = number_text 0 MAX_SEED (first_of (codes "seed") rows) two.seed seed (tells.arguments (codes "seed") refl ∙ two.seed_is) asked.1.seed_is;
+      count_is = number_text 1 MAX_COUNT (first_of (codes "count") rows) two.count count (tells.arguments (codes "count") refl ∙ two.count_is) asked.1.count_is;
     }
-line_of _ is_serve words rest parts rows line taken tells (Serve service) asked =
+line_of _ is_serve arguments rest parts rows line taken tells (Serve service) asked =
     let serve : IsServeIn rows service = asked.1 in
-    let named = words_are parts rows tells taken.fits.all in
+    let named = arguments_are parts rows tells taken.fits.all in
     let all : AreCollectionsOf (positions parts) service.collections = subst (λ (ws : List Text). AreCollectionsOf ws service.collections) named serve.collections_are in
     record {
       parts = parts;
@@ -201,40 +201,40 @@ line_of _ is_serve words rest parts rows line taken tells (Serve service) asked 
       few = omega (arith, as_many (positions parts) service.collections all, taken.fits.all);
       differ = serve.differ;
     }
-line_of form known words rest parts rows line taken tells request asked = differ form.name (command_name request) refl asked.0
+line_of form known arguments rest parts rows line taken tells request asked = differ form.name (command_name request) refl asked.0
 
-pub asked_to : (words : List Text) → AreUtf8 words → fault_of program_app words ≡ [] → (command : Text) (rows : List Row) → subcommand_of program_app words ≡ Some (command, rows)
-    → (request : PlainRequest) → IsAskedIn command rows request → IsCommandLine words request
-asked_to words utf8 quiet command rows found request asked =
-    let called = called_of words utf8 quiet in
+pub asked_to : (arguments : List Text) → AreUtf8 arguments → fault_of program_app arguments ≡ [] → (command : Text) (rows : List Row) → subcommand_of program_app arguments ≡ Some (command, rows)
+    → (request : PlainRequest) → IsAskedIn command rows request → IsCommandLine arguments request
+asked_to arguments utf8 quiet command rows found request asked =
+    let called = called_of arguments utf8 quiet in
     let form = called.form in
     let sound = sound_of called.known in
     let taken = level_to form sound called.rest called.utf8 called.quiet in
     let tells = (level_from form sound called.rest taken.0 taken.1).1 in
     let same = same_pair command form.name rows (command_rows form called.rest) (sym found ∙ called.rows) in
-    line_of form called.known words called.rest taken.0 (command_rows form called.rest) called.line taken.1 tells request
+    line_of form called.known arguments called.rest taken.0 (command_rows form called.rest) called.line taken.1 tells request
     (subst (λ (rs : List Row). IsAskedIn form.name rs request) same.1 (subst (λ (c : Text). IsAskedIn c rows request) same.0 asked))
 
 -- and back
 abbrev WholeIs : List Row → PlainRequest → Type 0
-WholeIs rows (Match whole cap pattern) = one_of (codes "whole") rows ≡ Some (text_of whole)
+WholeIs rows (Match whole retained_limit pattern) = one_of (codes "whole") rows ≡ Some (text_of whole)
 WholeIs rows request = Unit {0}
 
-pub record Asked (words : List Text) (request : PlainRequest) : Type 0 where
-  pub quiet : fault_of program_app words ≡ []
+pub record Asked (arguments : List Text) (request : PlainRequest) : Type 0 where
+  pub quiet : fault_of program_app arguments ≡ []
   pub rows : List Row
-  pub found : subcommand_of program_app words ≡ Some (command_name request, rows)
+  pub found : subcommand_of program_app arguments ≡ Some (command_name request, rows)
   pub asked : IsAskedBy rows request
   pub whole : WholeIs rows request
 
-record Taken (form : Form) (words : List Text) (parts : List Part) : Type 0 where
-  quiet : fault_of program_app words ≡ []
+record Taken (form : Form) (arguments : List Text) (parts : List Part) : Type 0 where
+  quiet : fault_of program_app arguments ≡ []
   rows : List Row
-  found : subcommand_of program_app words ≡ Some (form.name, rows)
+  found : subcommand_of program_app arguments ≡ Some (form.name, rows)
   tells : Tells form parts rows
 
-taken_by : (form : Form) → Known form → (words : List Text) (parts : List Part) → IsCalledWith form.name form.options words parts → Fits form parts → Taken form words parts
-taken_by form known words parts called fits =
+taken_by : (form : Form) → Known form → (arguments : List Text) (parts : List Part) → IsCalledWith form.name form.options arguments parts → Fits form parts → Taken form arguments parts
+taken_by form known arguments parts called fits =
     let level = level_from form (sound_of known) called.rest parts (record { are_parts = called.are_parts; fits = fits }) in
     record {
       quiet = rw called.line (line_fault form known called.rest ∙ level.0);
@@ -244,8 +244,8 @@ taken_by form known words parts called fits =
     }
 
 -- no option of a `serve` is repeated
-serve_once : {words : List Text} {service : PlainService} (line : IsServeLine words service) (name : Text) → has name serve_form.options.valued ≡ true → length (values_of name line.parts) ≤ 1
-serve_once {words} {service} line name h = go (bytes_eq (codes "port") name) (bytes_eq (codes "connections") name) (bytes_eq (codes "store") name) (bytes_eq (codes "base") name) refl refl refl refl h
+serve_once : {arguments : List Text} {service : PlainService} (line : IsServeLine arguments service) (name : Text) → has name serve_form.options.valued ≡ true → length (values_of name line.parts) ≤ 1
+serve_once {arguments} {service} line name h = go (bytes_eq (codes "port") name) (bytes_eq (codes "connections") name) (bytes_eq (codes "store") name) (bytes_eq (codes "base") name) refl refl refl refl h
   where
     at : (other : Text) → bytes_eq other name ≡ true → length (values_of other line.parts) ≤ 1 → length (values_of name line.parts) ≤ 1
     at other t once = subst (λ (n : Text). length (values_of n line.parts) ≤ 1) (same_text other name t) once
@@ -258,14 +258,14 @@ serve_once {words} {service} line name h = go (bytes_eq (codes "port") name) (by
     go false false false true p q r s h = at (codes "base") s (value_once IsBase (values_of (codes "base") line.parts) service.base line.base_is)
     go false false false false p q r s h = absurd (false≢true h)
 
-pub asked_from : (words : List Text) (request : PlainRequest) → IsCommandLine words request → Asked words request
-asked_from words (Match whole most pattern) line =
+pub asked_from : (arguments : List Text) (request : PlainRequest) → IsCommandLine arguments request → Asked arguments request
+asked_from arguments (Match whole most pattern) line =
     let fits : Fits match_form line.parts = record {
       flags = λ name h. rw (one_name (codes "whole") name h) (flag_once (flags_of (codes "whole") line.parts) whole line.whole_is);
-      valued = λ name h. rw (one_name (codes "cap") name h) (number_once DEFAULT_CAP 1 MAX_CAP (values_of (codes "cap") line.parts) most line.cap_is);
+      valued = λ name h. rw (one_name (codes "cap") name h) (number_once DEFAULT_RETAINED_LIMIT 1 MAX_RETAINED_LIMIT (values_of (codes "cap") line.parts) most line.retained_limit_is);
       all = ap length line.pattern_is;
     } in
-    let taken = taken_by match_form is_match words line.parts line.called fits in
+    let taken = taken_by match_form is_match arguments line.parts line.called fits in
     let whole_text = taken.tells.flags (codes "whole") refl ∙ ap (λ (t : Text). Some t) (flag_from (flags_of (codes "whole") line.parts) whole line.whole_is) in
     record {
       quiet = taken.quiet;
@@ -273,30 +273,30 @@ asked_from words (Match whole most pattern) line =
       found = taken.found;
       asked = record {
         whole_is = text_says (one_of (codes "whole") taken.rows) whole whole_text;
-        cap_is = cap_from (values_of (codes "cap") line.parts) most (first_of (codes "cap") taken.rows) (taken.tells.valued (codes "cap") refl) line.cap_is;
-        pattern_is = taken.tells.words (codes "pattern") refl ∙ pattern_from (positions line.parts) pattern line.pattern_is;
+        retained_limit_is = retained_limit_from (values_of (codes "cap") line.parts) most (first_of (codes "cap") taken.rows) (taken.tells.valued (codes "cap") refl) line.retained_limit_is;
+        pattern_is = taken.tells.arguments (codes "pattern") refl ∙ pattern_from (positions line.parts) pattern line.pattern_is;
       };
       whole = whole_text;
     }
-asked_from words Check line =
+asked_from arguments Check line =
     let fits : Fits check_form line.parts = record { flags = λ name h. no_name name h; valued = λ name h. no_name name h; all = ap length line.alone } in
-    let taken = taken_by check_form is_check words line.parts line.called fits in
+    let taken = taken_by check_form is_check arguments line.parts line.called fits in
     record { quiet = taken.quiet; rows = taken.rows; found = taken.found; asked = tt; whole = tt }
-asked_from words (Show pattern) line =
+asked_from arguments (Show pattern) line =
     let fits : Fits show_form line.parts = record { flags = λ name h. no_name name h; valued = λ name h. no_name name h; all = ap length line.pattern_is } in
-    let taken = taken_by show_form is_show words line.parts line.called fits in
+    let taken = taken_by show_form is_show arguments line.parts line.called fits in
     record {
       quiet = taken.quiet;
       rows = taken.rows;
       found = taken.found;
-      asked = taken.tells.words (codes "pattern") refl ∙ pattern_from (positions line.parts) pattern line.pattern_is;
+      asked = taken.tells.arguments (codes "pattern") refl ∙ pattern_from (positions line.parts) pattern line.pattern_is;
       whole = tt;
     }
-asked_from words (Make seed count) line =
+asked_from arguments (Make seed count) line =
     let fits : Fits make_form line.parts = record { flags = λ name h. no_name name h; valued = λ name h. no_name name h; all = ap length line.both } in
-    let taken = taken_by make_form is_make words line.parts line.called fits in
-    let seed_text : first_of (codes "seed") taken.rows ≡ Some line.seed_text = taken.tells.words (codes "seed") refl ∙ rw line.both refl in
-    let count_text : first_of (codes "count") taken.rows ≡ Some line.count_text = taken.tells.words (codes "count") refl ∙ rw line.both refl in
+    let taken = taken_by make_form is_make arguments line.parts line.called fits in
+    let seed_text : first_of (codes "seed") taken.rows ≡ Some line.seed_text = taken.tells.arguments (codes "seed") refl ∙ rw line.both refl in
+    let count_text : first_of (codes "count") taken.rows ≡ Some line.count_text = taken.tells.arguments (codes "count") refl ∙ rw line.both refl in
     record {
       quiet = taken.quiet;
       rows = taken.rows;
@@ -307,12 +307,12 @@ asked_from words (Make seed count) line =
       };
       whole = tt;
     }
-asked_from words (Serve service) line =
+asked_from arguments (Serve service) line =
     let counted = as_many (positions line.parts) service.collections line.collections_are in
     let few : length (positions line.parts) ≤ length collection_names = omega (arith, counted, line.few) in
     let fits : Fits serve_form line.parts = record { flags = λ name h. no_name name h; valued = λ name h. serve_once line name h; all = few } in
-    let taken = taken_by serve_form is_serve words line.parts line.called fits in
-    let named = words_are line.parts taken.rows taken.tells few in
+    let taken = taken_by serve_form is_serve arguments line.parts line.called fits in
+    let named = arguments_are line.parts taken.rows taken.tells few in
     record {
       quiet = taken.quiet;
       rows = taken.rows;
@@ -340,9 +340,9 @@ same_flag false true e = absurd (cc)
 same_text_of : (a b : Bool) → Some (text_of a) ≡ Some (text_of b) → text_of a ≡ text_of b
 same_text_of a b e = cc
 
-same_cap : (o : Option Text) (a b : ℕ) → IsCapText o a → IsCapText o b → a ≡ b
-same_cap None a b h g = h ∙ sym g
-same_cap (Some text) a b h g = sym h.value ∙ g.value
+same_retained_limit : (o : Option Text) (a b : ℕ) → IsRetainedLimitText o a → IsRetainedLimitText o b → a ≡ b
+same_retained_limit None a b h g = h ∙ sym g
+same_retained_limit (Some text) a b h g = sym h.value ∙ g.value
 
 same_number : (least most : ℕ) (o : Option Text) (a b : ℕ) → IsNumberText least most o a → IsNumberText least most o b → a ≡ b
 same_number least most None a b h g = absurd h
@@ -358,14 +358,14 @@ same_service rows a b h g =
     let connections = same_number 1 MAX_CONNECTIONS (first_of (codes "connections") rows) a.connections b.connections h.connections_is g.connections_is in
     let stores = same_given IsFile (first_of (codes "store") rows) a.store b.store h.store_is g.store_is in
     let bases = same_given IsBase (first_of (codes "base") rows) a.base b.base h.base_is g.base_is in
-    let collections = same_collections (words_at collection_names rows) a.collections b.collections h.collections_are g.collections_are in
+    let collections = same_collections (arguments_at collection_names rows) a.collections b.collections h.collections_are g.collections_are in
     λ i. record { port = ports i; connections = connections i; store = stores i; base = bases i; collections = collections i }
 
 same_request : (rows : List Row) (a b : PlainRequest) → command_name a ≡ command_name b → IsAskedBy rows a → IsAskedBy rows b → WholeIs rows a → WholeIs rows b → a ≡ b
 same_request rows (Match whole most pattern) (Match whole' most' pattern') e h g w v =
     let texts_same : text_of whole ≡ text_of whole' = same_text_of whole whole' (sym w ∙ v) in
     let flags_same = same_flag whole whole' texts_same in
-    let caps_same = same_cap (first_of (codes "cap") rows) most most' h.cap_is g.cap_is in
+    let caps_same = same_retained_limit (first_of (codes "cap") rows) most most' h.retained_limit_is g.retained_limit_is in
     let patterns : Some pattern ≡ Some pattern' = sym h.pattern_is ∙ g.pattern_is in
     cc
 same_request rows Check Check e h g w v = refl
@@ -377,10 +377,10 @@ same_request rows (Make seed count) (Make seed' count') e h g w v =
 same_request rows (Serve service) (Serve service') e h g w v = ap Serve (same_service rows service service' h g)
 same_request rows a b e h g w v = differ (command_name a) (command_name b) refl e
 
-pub one_request : (words : List Text) (first second : PlainRequest) → IsCommandLine words first → IsCommandLine words second → first ≡ second
-one_request words first second one two =
-    let a = asked_from words first one in
-    let b = asked_from words second two in
+pub one_request : (arguments : List Text) (first second : PlainRequest) → IsCommandLine arguments first → IsCommandLine arguments second → first ≡ second
+one_request arguments first second one two =
+    let a = asked_from arguments first one in
+    let b = asked_from arguments second two in
     let same = same_pair (command_name first) (command_name second) a.rows b.rows (sym a.found ∙ b.found) in
     same_request a.rows first second same.0 a.asked (subst (λ (rs : List Row). IsAskedBy rs second) (sym same.1) b.asked) a.whole
     (subst (λ (rs : List Row). WholeIs rs second) (sym same.1) b.whole)
@@ -391,16 +391,16 @@ pub no_match : (command : Text) (rows : List Row) → command ≡ codes "match" 
 no_match command rows is none (Match whole most pattern) asked = none whole most pattern asked.1
 no_match command rows is none request asked = differ (codes "match") (command_name request) refl (sym is ∙ asked.0)
 
--- a request is refused only where the words ask for none
-pub none_asked : (words : List Text) (command : Text) (rows : List Row) → subcommand_of program_app words ≡ Some (command, rows)
-    → ((request : PlainRequest) → ¬ IsAskedIn command rows request) → (request : PlainRequest) → ¬ IsCommandLine words request
-none_asked words command rows found none request line =
-    let asked = asked_from words request line in
+-- a request is refused only where the arguments ask for none
+pub none_asked : (arguments : List Text) (command : Text) (rows : List Row) → subcommand_of program_app arguments ≡ Some (command, rows)
+    → ((request : PlainRequest) → ¬ IsAskedIn command rows request) → (request : PlainRequest) → ¬ IsCommandLine arguments request
+none_asked arguments command rows found none request line =
+    let asked = asked_from arguments request line in
     let same = same_pair command (command_name request) rows asked.rows (sym found ∙ asked.found) in
     none request (same.0, subst (λ (rs : List Row). IsAskedBy rs request) (sym same.1) asked.asked)
 
 -- and an error is no want of memory only where they ask for none
-pub failed : (words : List Text) (e : Error) → HasKind (fault_of program_app words) e → ¬ (kind_of e ≡ OutOfMemory) → (request : PlainRequest) → ¬ IsCommandLine words request
-failed words e (inl memory) other request line = other memory
-failed words e (inr among) other request line =
-    subst (λ (ks : Kinds). IsAmong (kind_of e) ks) (asked_from words request line).quiet among
+pub failed : (arguments : List Text) (e : Error) → HasKind (fault_of program_app arguments) e → ¬ (kind_of e ≡ OutOfMemory) → (request : PlainRequest) → ¬ IsCommandLine arguments request
+failed arguments e (inl memory) other request line = other memory
+failed arguments e (inr among) other request line =
+    subst (λ (ks : Kinds). IsAmong (kind_of e) ks) (asked_from arguments request line).quiet among

@@ -1,4 +1,4 @@
--- What `clap` does at the end of a command's words: a flag that wasn't given gets a default, and a position must have its row.
+-- What `clap` does at the end of a command's arguments: a flag that wasn't given gets a default, and a position must have its row.
 use Rattle.std.proofs.lemmas.Bool.{false≢true}
 use Rattle.std.proofs.lemmas.List.Sums.{fold-append}
 use Rattle.std.proofs.Common.{◌≡◌, ◌≤◌, ℕ, suc, Bool, true, false, not, ◌&&◌, ◌||◌, cond, if◌then◌else◌, List, [], ◌∷◌, ◌++◌, map, length, fold, Some, None, codes, bytes_eq, refl, sym, ap, ◌∙◌, subst, arith}
@@ -12,7 +12,7 @@ use Rattle.command_line.specs.inner.Forms.{Form}
 use Rattle.command_line.proofs.HasLemmas.{Text, are_distinct, and_left, and_right, eq_self, has, not_true, or_right, same_text}
 use Rattle.command_line.proofs.FormLemmas.{built_flag, built_option, built_position, built_positions, built_rules}
 use Rattle.command_line.proofs.RowsLemmas.{at_absent, value_row}
-use Rattle.command_line.proofs.PartRowsLemmas.{has-append, row_at, word_rows}
+use Rattle.command_line.proofs.PartRowsLemmas.{has-append, row_at, argument_rows}
 
 -- the row of a flag that wasn't given
 abbrev pub default_row : Text → Row
@@ -155,30 +155,30 @@ any_same f g (x ∷ names) same =
     ap (λ (b : Bool). b || list_any f names) (same x (ap (λ (b : Bool). b || has x names) (eq_self x)))
     ∙ ap (λ (b : Bool). g x || b) (any_same f g names (λ y h. same y (or_right (bytes_eq x y) (has y names) h)))
 
--- the words give each position just where there are as many
-given_rest : (p word : Text) (left words : List Text) → are_distinct (p ∷ left) ≡ true
-    → list_any (λ name. not (is_given name (value_row p word ∷ word_rows left words))) left ≡ list_any (λ name. not (is_given name (word_rows left words))) left
-given_rest p word left words d = any_same (λ name. not (is_given name (value_row p word ∷ word_rows left words))) (λ name. not (is_given name (word_rows left words))) left (λ x h. other x h)
+-- the arguments give each position just where there are as many
+given_rest : (p argument : Text) (left arguments : List Text) → are_distinct (p ∷ left) ≡ true
+    → list_any (λ name. not (is_given name (value_row p argument ∷ argument_rows left arguments))) left ≡ list_any (λ name. not (is_given name (argument_rows left arguments))) left
+given_rest p argument left arguments d = any_same (λ name. not (is_given name (value_row p argument ∷ argument_rows left arguments))) (λ name. not (is_given name (argument_rows left arguments))) left (λ x h. other x h)
   where
-    other : (x : Text) → has x left ≡ true → not (is_given x (value_row p word ∷ word_rows left words)) ≡ not (is_given x (word_rows left words))
+    other : (x : Text) → has x left ≡ true → not (is_given x (value_row p argument ∷ argument_rows left arguments)) ≡ not (is_given x (argument_rows left arguments))
     other x h = go (bytes_eq p x) refl
       where
-        go : (t : Bool) → bytes_eq p x ≡ t → not (is_given x (value_row p word ∷ word_rows left words)) ≡ not (is_given x (word_rows left words))
+        go : (t : Bool) → bytes_eq p x ≡ t → not (is_given x (value_row p argument ∷ argument_rows left arguments)) ≡ not (is_given x (argument_rows left arguments))
         go true t = absurd (false≢true (sym (not_true _ (and_left _ _ d)) ∙ subst (λ (y : Text). has y left ≡ true) (sym (same_text p x t)) h))
         go false t = rw t refl
 
-given_first : (p word : Text) (left words : List Text) → is_given p (value_row p word ∷ word_rows left words) ≡ true
-given_first p word left words = rw (eq_self p) refl
+given_first : (p argument : Text) (left arguments : List Text) → is_given p (value_row p argument ∷ argument_rows left arguments) ≡ true
+given_first p argument left arguments = rw (eq_self p) refl
 
-pub all_given_to : (left words : List Text) → are_distinct left ≡ true → list_any (λ name. not (is_given name (word_rows left words))) left ≡ false → length left ≤ length words
-all_given_to [] words d h = omega arith
+pub all_given_to : (left arguments : List Text) → are_distinct left ≡ true → list_any (λ name. not (is_given name (argument_rows left arguments))) left ≡ false → length left ≤ length arguments
+all_given_to [] arguments d h = omega arith
 all_given_to (p ∷ left) [] d h = absurd (false≢true (sym h))
-all_given_to (p ∷ left) (word ∷ words) d h =
-    let rest' : list_any (λ name. not (is_given name (value_row p word ∷ word_rows left words))) left ≡ false = rw (given_first p word left words) at h in
-    omega (arith, all_given_to left words (and_right _ _ d) (sym (given_rest p word left words d) ∙ rest'))
+all_given_to (p ∷ left) (argument ∷ arguments) d h =
+    let rest' : list_any (λ name. not (is_given name (value_row p argument ∷ argument_rows left arguments))) left ≡ false = rw (given_first p argument left arguments) at h in
+    omega (arith, all_given_to left arguments (and_right _ _ d) (sym (given_rest p argument left arguments d) ∙ rest'))
 
-pub all_given_from : (left words : List Text) → are_distinct left ≡ true → length left ≤ length words → list_any (λ name. not (is_given name (word_rows left words))) left ≡ false
-all_given_from [] words d h = refl
+pub all_given_from : (left arguments : List Text) → are_distinct left ≡ true → length left ≤ length arguments → list_any (λ name. not (is_given name (argument_rows left arguments))) left ≡ false
+all_given_from [] arguments d h = refl
 all_given_from (p ∷ left) [] d h = absurd (omega arith)
-all_given_from (p ∷ left) (word ∷ words) d h =
-    rw (given_first p word left words) (given_rest p word left words d ∙ all_given_from left words (and_right _ _ d) (omega arith))
+all_given_from (p ∷ left) (argument ∷ arguments) d h =
+    rw (given_first p argument left arguments) (given_rest p argument left arguments d ∙ all_given_from left arguments (and_right _ _ d) (omega arith))

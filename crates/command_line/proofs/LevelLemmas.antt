@@ -1,4 +1,4 @@
--- One command of the line: `clap` takes the words behind it just where they have parts that fit, and then its rows say what the parts say.
+-- One command of the line: `clap` takes the arguments behind it just where they have parts that fit, and then its rows say what the parts say.
 use Rattle.std.proofs.lemmas.Bool.{false≢true}
 use Rattle.std.proofs.Common.{◌≡◌, ◌↔◌, ◌≤◌, ℕ, Bool, true, false, not, ◌&&◌, ◌||◌, if◌then◌else◌, List, [], ◌∷◌, map, length, fold, Option, Some, None, option_and_then, slice_get, codes, bytes_eq, refl, sym, ap, ◌∙◌, subst, arith, le_antisymm}
 use Rattle.std.specs.List.{list_any}
@@ -19,10 +19,10 @@ use Rattle.command_line.proofs.RowsLemmas.{Fresh, both_quiet, flag_row, part_row
 use Rattle.command_line.proofs.StepLemmas.{leaf}
 use Rattle.command_line.proofs.WalkLemmas.{walk_from}
 use Rattle.command_line.proofs.CutLemmas.{AreUtf8, walk_to}
-use Rattle.command_line.proofs.PartRowsLemmas.{AreNamed, first_named, fresh_from, fresh_once, has_named, named_of, row_at, rows_named, rows_of_flags, rows_of_values, rows_of_words, word_once, word_rows}
+use Rattle.command_line.proofs.PartRowsLemmas.{AreNamed, first_named, fresh_from, fresh_once, has_named, named_of, row_at, rows_named, rows_of_flags, rows_of_values, rows_of_arguments, argument_once, argument_rows}
 use Rattle.command_line.proofs.DefaultsLemmas.{all_given_from, all_given_to, any_same, default_row, fold_rules, no_defaults_fault, row_with_defaults, wants_rules}
 
--- so many words are positions of the command: all, or as many as there are at most
+-- so many arguments are positions of the command: all, or as many as there are at most
 abbrev pub AreCounted : Bool → ℕ → ℕ → Type 0
 AreCounted true count wanted = count ≡ wanted
 AreCounted false count wanted = count ≤ wanted
@@ -46,7 +46,7 @@ flag_text (flag ∷ flags) = codes "true"
 pub record Tells (form : Form) (parts : List Part) (rows : List Row) : Type 0 where
   pub flags : (name : Text) → has name form.options.flags ≡ true → one_of name rows ≡ Some (flag_text (flags_of name parts))
   pub valued : (name : Text) → has name form.options.valued ≡ true → first_of name rows ≡ slice_get (values_of name parts) 0
-  pub words : (name : Text) → has name form.positions ≡ true → first_of name rows ≡ first_of name (word_rows form.positions (positions parts))
+  pub arguments : (name : Text) → has name form.positions ≡ true → first_of name rows ≡ first_of name (argument_rows form.positions (positions parts))
 
 no_row_from : (name : Text) (rows : List Row) → rows_named name rows ≡ [] → has_row name rows ≡ false
 no_row_from name rows e = go (has_row name rows) refl
@@ -86,8 +86,8 @@ module _ (form : Form) (sound : is_sound_form form ≡ true) (parts : List Part)
   value_rows : (name : Text) → has name form.options.valued ≡ true → rows_named name own ≡ map (value_row name) (values_of name parts)
   value_rows name h = rows_of_values form.options name (option_no_flag form sound name h) parts named form.positions (option_no_position form sound name h)
 
-  other_rows : (name : Text) → has name form.options.flags ≡ false → has name form.options.valued ≡ false → rows_named name own ≡ rows_named name (word_rows form.positions (positions parts))
-  other_rows name not_flag not_valued = rows_of_words form.options name not_flag not_valued parts named form.positions
+  other_rows : (name : Text) → has name form.options.flags ≡ false → has name form.options.valued ≡ false → rows_named name own ≡ rows_named name (argument_rows form.positions (positions parts))
+  other_rows name not_flag not_valued = rows_of_arguments form.options name not_flag not_valued parts named form.positions
 
   tells_flag : (name : Text) → has name form.options.flags ≡ true → (flags : List Text) → flags_of name parts ≡ flags → one_of name final ≡ Some (flag_text (flags_of name parts))
   tells_flag name h [] e =
@@ -111,38 +111,38 @@ module _ (form : Form) (sound : is_sound_form form ≡ true) (parts : List Part)
       let row : row_at name final ≡ Some (value_row name value) = row_final name ∙ rw (some_row_from name own _ _ some', first) refl in
       ap (option_and_then (λ r. slice_get r.values 0)) row ∙ rw e refl
 
-  -- a position's row is that of its word
-  row_of_word : (name : Text) → has name form.positions ≡ true → row_at name final ≡ row_at name (word_rows form.positions (positions parts))
-  row_of_word name h = row_final name ∙ go (rows_named name own) refl
+  -- a position's row is that of its argument
+  row_of_argument : (name : Text) → has name form.positions ≡ true → row_at name final ≡ row_at name (argument_rows form.positions (positions parts))
+  row_of_argument name h = row_final name ∙ go (rows_named name own) refl
     where
       not_flag : has name form.options.flags ≡ false
       not_flag = position_no_flag form sound name h
 
-      words : List Row
-      words = word_rows form.positions (positions parts)
+      arguments : List Row
+      arguments = argument_rows form.positions (positions parts)
 
-      same : rows_named name own ≡ rows_named name (word_rows form.positions (positions parts))
+      same : rows_named name own ≡ rows_named name (argument_rows form.positions (positions parts))
       same = other_rows name not_flag (position_no_option form sound name h)
 
-      first : row_at name own ≡ row_at name (word_rows form.positions (positions parts))
-      first = first_named name own ∙ ap (λ (rs : List Row). slice_get rs 0) same ∙ sym (first_named name (word_rows form.positions (positions parts)))
+      first : row_at name own ≡ row_at name (argument_rows form.positions (positions parts))
+      first = first_named name own ∙ ap (λ (rs : List Row). slice_get rs 0) same ∙ sym (first_named name (argument_rows form.positions (positions parts)))
 
       go : (rs : List Row) → rows_named name own ≡ rs
-          → (if has_row name own then row_at name own else (if has name form.options.flags then Some (default_row name) else None)) ≡ row_at name (word_rows form.positions (positions parts))
-      go [] e = rw (no_row_from name own e, not_flag) (sym (first_named name (word_rows form.positions (positions parts)) ∙ ap (λ (rs : List Row). slice_get rs 0) (sym same ∙ e)))
+          → (if has_row name own then row_at name own else (if has name form.options.flags then Some (default_row name) else None)) ≡ row_at name (argument_rows form.positions (positions parts))
+      go [] e = rw (no_row_from name own e, not_flag) (sym (first_named name (argument_rows form.positions (positions parts)) ∙ ap (λ (rs : List Row). slice_get rs 0) (sym same ∙ e)))
       go (r ∷ rs) e = rw (some_row_from name own r rs e) first
 
   tells : Tells form parts final
   tells = record {
     flags = λ name h. tells_flag name h (flags_of name parts) refl;
     valued = λ name h. tells_value name h (values_of name parts) refl;
-    words = λ name h. ap (option_and_then (λ r. slice_get r.values 0)) (row_of_word name h);
+    arguments = λ name h. ap (option_and_then (λ r. slice_get r.values 0)) (row_of_argument name h);
   }
 
   -- which positions are missing
-  missing : list_any (λ a. a.required && not (is_given a.id final)) (built_rules form) ≡ (form.needs_all && list_any (λ name. not (is_given name (word_rows form.positions (positions parts)))) form.positions)
-  missing = wants_rules form final ∙ ap (λ (b : Bool). form.needs_all && b) (any_same (λ name. not (is_given name final)) (λ name. not (is_given name (word_rows form.positions (positions parts)))) form.positions
-      (λ name h. ap (λ (o : Option Row). not (option_map_or (λ r. explicit_source r.source) o false)) (row_of_word name h)))
+  missing : list_any (λ a. a.required && not (is_given a.id final)) (built_rules form) ≡ (form.needs_all && list_any (λ name. not (is_given name (argument_rows form.positions (positions parts)))) form.positions)
+  missing = wants_rules form final ∙ ap (λ (b : Bool). form.needs_all && b) (any_same (λ name. not (is_given name final)) (λ name. not (is_given name (argument_rows form.positions (positions parts)))) form.positions
+      (λ name h. ap (λ (o : Option Row). not (option_map_or (λ r. explicit_source r.source) o false)) (row_of_argument name h)))
 
   fits_from : Fresh [] own → AreCounted form.needs_all (length (positions parts)) (length form.positions) → Fits form parts
   fits_from fresh all = record {
@@ -157,10 +157,10 @@ module _ (form : Form) (sound : is_sound_form form ≡ true) (parts : List Part)
       go : (name : Text) (a b : Bool) → has name form.options.flags ≡ a → has name form.options.valued ≡ b → length (rows_named name own) ≤ 1
       go name true b h g = omega (arith, fits.flags name h, ap length (flag_rows name h), length-map (flags_of name parts) flag_row)
       go name false true h g = omega (arith, fits.valued name g, ap length (value_rows name g), length-map (values_of name parts) (value_row name))
-      go name false false h g = omega (arith, ap length (other_rows name h g), word_once name form.positions (positions parts) (positions_distinct form sound))
+      go name false false h g = omega (arith, ap length (other_rows name h g), argument_once name form.positions (positions parts) (positions_distinct form sound))
 
   -- the last checks
-  check_quiet : (check_fault (leaf form) final false ≡ []) ↔ ((form.needs_all && list_any (λ name. not (is_given name (word_rows form.positions (positions parts)))) form.positions) ≡ false)
+  check_quiet : (check_fault (leaf form) final false ≡ []) ↔ ((form.needs_all && list_any (λ name. not (is_given name (argument_rows form.positions (positions parts)))) form.positions) ≡ false)
   check_quiet = rw missing (last _)
     where
       last : (b : Bool) → ((if b then MissingRequiredArgument ∷ [] else []) ≡ []) ↔ (b ≡ false)
@@ -170,7 +170,7 @@ module _ (form : Form) (sound : is_sound_form form ≡ true) (parts : List Part)
   all_to : check_fault (leaf form) final false ≡ [] → length (positions parts) ≤ length form.positions → AreCounted form.needs_all (length (positions parts)) (length form.positions)
   all_to quiet few = go form.needs_all (check_quiet.0 quiet)
     where
-      go : (needed : Bool) → (needed && list_any (λ name. not (is_given name (word_rows form.positions (positions parts)))) form.positions) ≡ false
+      go : (needed : Bool) → (needed && list_any (λ name. not (is_given name (argument_rows form.positions (positions parts)))) form.positions) ≡ false
           → AreCounted needed (length (positions parts)) (length form.positions)
       go true given = le_antisymm few (all_given_to form.positions (positions parts) (positions_distinct form sound) given)
       go false given = few
@@ -179,16 +179,16 @@ module _ (form : Form) (sound : is_sound_form form ≡ true) (parts : List Part)
   all_from all = check_quiet.1 (go form.needs_all all)
     where
       go : (needed : Bool) → AreCounted needed (length (positions parts)) (length form.positions)
-          → (needed && list_any (λ name. not (is_given name (word_rows form.positions (positions parts)))) form.positions) ≡ false
+          → (needed && list_any (λ name. not (is_given name (argument_rows form.positions (positions parts)))) form.positions) ≡ false
       go true all = all_given_from form.positions (positions parts) (positions_distinct form sound) (omega (arith, all))
       go false all = refl
 
--- the mistakes of a command in the words behind it
+-- the mistakes of a command in the arguments behind it
 abbrev pub command_fault : Form → List Text → Kinds
-command_fault form words = level_fault (leaf form) [] nothing_held words false []
+command_fault form arguments = level_fault (leaf form) [] nothing_held arguments false []
 
 abbrev pub command_rows : Form → List Text → List Row
-command_rows form words = rows_after (built_rules form) [] words
+command_rows form arguments = rows_after (built_rules form) [] arguments
 
 level_quiet : (a b c d : Kinds) → (or_else a (or_else [] (or_else b (or_else c d))) ≡ []) ↔ ((a ≡ []) × (b ≡ []) × (c ≡ []) × (d ≡ []))
 level_quiet a b c d = (
@@ -200,17 +200,17 @@ level_quiet a b c d = (
   λ h. (both_quiet a (or_else b (or_else c d))).1 (h.0, (both_quiet b (or_else c d)).1 (h.1, (both_quiet c d).1 (h.2, h.3))),
 )
 
--- words with parts that fit
-pub record IsTaken (form : Form) (words : List Text) (parts : List Part) : Type 0 where
-  pub are_parts : AreParts form.options words parts
+-- arguments with parts that fit
+pub record IsTaken (form : Form) (arguments : List Text) (parts : List Part) : Type 0 where
+  pub are_parts : AreParts form.options arguments parts
   pub fits : Fits form parts
 
-module _ (form : Form) (sound : is_sound_form form ≡ true) (words : List Text) where
-  pub level_from : (parts : List Part) → IsTaken form words parts → (command_fault form words ≡ []) × Tells form parts (command_rows form words)
+module _ (form : Form) (sound : is_sound_form form ≡ true) (arguments : List Text) where
+  pub level_from : (parts : List Part) → IsTaken form arguments parts → (command_fault form arguments ≡ []) × Tells form parts (command_rows form arguments)
   level_from parts taken =
       let named = named_of form.options taken.are_parts in
       let done = walk_from form sound taken.are_parts [] None 0 form.positions refl refl (counted_few form.needs_all _ _ taken.fits.all) (fresh_of form sound parts named taken.fits) in
-      let rows : command_rows form words ≡ fold with_default (part_rows form.positions parts) (built_rules form)
+      let rows : command_rows form arguments ≡ fold with_default (part_rows form.positions parts) (built_rules form)
       = ap (λ (rs : List Row). fold with_default rs (built_rules form)) done.ends in (
         (level_quiet _ _ _ _).1 (
           done.quiet.0,
@@ -221,13 +221,13 @@ module _ (form : Form) (sound : is_sound_form form ≡ true) (words : List Text)
         subst (λ (rs : List Row). Tells form parts rs) (sym rows) (tells form sound parts named),
       )
 
-  pub level_to : AreUtf8 words → command_fault form words ≡ [] → (parts : List Part) × IsTaken form words parts
+  pub level_to : AreUtf8 arguments → command_fault form arguments ≡ [] → (parts : List Part) × IsTaken form arguments parts
   level_to utf8 quiet =
       let four = (level_quiet _ _ _ _).0 quiet in
-      let cut = walk_to form sound words utf8 (four.0, four.1) in
+      let cut = walk_to form sound arguments utf8 (four.0, four.1) in
       let named = named_of form.options cut.are_parts in
       let done = walk_from form sound cut.are_parts [] None 0 form.positions refl refl cut.fits cut.fresh in
-      let rows : command_rows form words ≡ fold with_default (part_rows form.positions cut.parts) (built_rules form)
+      let rows : command_rows form arguments ≡ fold with_default (part_rows form.positions cut.parts) (built_rules form)
       = ap (λ (rs : List Row). fold with_default rs (built_rules form)) done.ends in
       let last = subst (λ (rs : List Row). check_fault (leaf form) rs false ≡ []) rows four.3 in (
         cut.parts,

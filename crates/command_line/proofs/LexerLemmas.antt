@@ -1,4 +1,4 @@
--- What a word is: an option's name with or without a value, `--`, or no option.
+-- What a argument is: an option's name with or without a value, `--`, or no option.
 use Rattle.std.proofs.lemmas.Bool.{false≢true}
 use Rattle.std.proofs.Common.{◌≡◌, ◌+◌, ◌==◌, ℕ, suc, Bool, true, false, ◌||◌, [], ◌∷◌, ◌++◌, Some, None, bytes_eq, inl, inr, refl, sym, ap, ◌∙◌, subst, arith}
 use Rattle.std.specs.List.{before_first, after_first, position_or_len}
@@ -91,26 +91,26 @@ pub joined_is_long : (name value : Text) → is_name name ≡ true → bytes_eq 
 joined_is_long [] value h = absurd (false≢true h)
 joined_is_long (x ∷ xs) value h = refl
 
--- what a word is: `--`, `--NAME`, `--NAME=VALUE`, `-` with more, or no option
-pub data Look (word : Text) : Type 0 where
-  dashes : word ≡ 45 ∷ 45 ∷ [] → Look word
-  alone : (name : Text) → word ≡ 45 ∷ 45 ∷ name → bytes_eq word (45 ∷ 45 ∷ []) ≡ false → long_of word ≡ Some (name, None) → Look word
-  with_value : (name value : Text) → word ≡ 45 ∷ 45 ∷ (name ++ 61 ∷ value) → bytes_eq word (45 ∷ 45 ∷ []) ≡ false → long_of word ≡ Some (name, Some value) → Look word
-  short : (x : ℕ) (xs : Text) → word ≡ 45 ∷ x ∷ xs → bytes_eq word (45 ∷ 45 ∷ []) ≡ false → long_of word ≡ None → short_of word ≡ Some (x ∷ xs) → Look word
-  plain : IsNoOption word → Look word
+-- what a argument is: `--`, `--NAME`, `--NAME=VALUE`, `-` with more, or no option
+pub data Look (argument : Text) : Type 0 where
+  dashes : argument ≡ 45 ∷ 45 ∷ [] → Look argument
+  alone : (name : Text) → argument ≡ 45 ∷ 45 ∷ name → bytes_eq argument (45 ∷ 45 ∷ []) ≡ false → long_of argument ≡ Some (name, None) → Look argument
+  with_value : (name value : Text) → argument ≡ 45 ∷ 45 ∷ (name ++ 61 ∷ value) → bytes_eq argument (45 ∷ 45 ∷ []) ≡ false → long_of argument ≡ Some (name, Some value) → Look argument
+  short : (x : ℕ) (xs : Text) → argument ≡ 45 ∷ x ∷ xs → bytes_eq argument (45 ∷ 45 ∷ []) ≡ false → long_of argument ≡ None → short_of argument ≡ Some (x ∷ xs) → Look argument
+  plain : IsNoOption argument → Look argument
 
--- and what `clap` sees of a word that is no option
-pub record IsPlainWord (word : Text) : Type 0 where
-  pub not_dashes : bytes_eq word (45 ∷ 45 ∷ []) ≡ false
-  pub not_long : long_of word ≡ None
-  pub not_short : short_of word ≡ None
+-- and what `clap` sees of a argument that is no option
+pub record IsPlainArgument (argument : Text) : Type 0 where
+  pub not_dashes : bytes_eq argument (45 ∷ 45 ∷ []) ≡ false
+  pub not_long : long_of argument ≡ None
+  pub not_short : short_of argument ≡ None
 
-pub plain_word_is : (word : Text) → IsNoOption word → IsPlainWord word
-plain_word_is word (inl e) = subst IsPlainWord (sym e) (record { not_dashes = refl; not_long = refl; not_short = refl })
-plain_word_is [] (inr n) = record { not_dashes = refl; not_long = refl; not_short = refl }
-plain_word_is (x ∷ xs) (inr n) = go (x == 45) refl
+pub plain_argument_is : (argument : Text) → IsNoOption argument → IsPlainArgument argument
+plain_argument_is argument (inl e) = subst IsPlainArgument (sym e) (record { not_dashes = refl; not_long = refl; not_short = refl })
+plain_argument_is [] (inr n) = record { not_dashes = refl; not_long = refl; not_short = refl }
+plain_argument_is (x ∷ xs) (inr n) = go (x == 45) refl
   where
-    go : (t : Bool) → (x == 45) ≡ t → IsPlainWord (x ∷ xs)
+    go : (t : Bool) → (x == 45) ≡ t → IsPlainArgument (x ∷ xs)
     go true t = absurd (n (ap (λ (y : ℕ). Some y) ((Decides-eqb x 45).0 t)))
     go false t = record { not_dashes = rw t refl; not_long = rw t refl; not_short = rw t refl }
 
@@ -122,7 +122,7 @@ look_long x xs = go (has_byte 61 (x ∷ xs)) refl
         with_value (before_first is_equals (x ∷ xs)) (after_first is_equals (x ∷ xs)) (ap (λ (ys : Text). 45 ∷ 45 ∷ ys) (joined_again (x ∷ xs) t)) refl (rw t refl)
     go false t = alone (x ∷ xs) refl refl (rw (before_all (x ∷ xs) t, t) refl)
 
-pub look : (word : Text) → Look word
+pub look : (argument : Text) → Look argument
 look [] = plain (inr (λ e. absurd (cc)))
 look (x ∷ xs) = go (x == 45) refl
   where

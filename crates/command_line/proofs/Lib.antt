@@ -12,7 +12,7 @@ pub mod DefaultsLemmas
 pub mod LevelLemmas
 pub mod LineLemmas
 pub mod CollectionLemmas
-pub mod WordsLemmas
+pub mod ArgumentsLemmas
 pub mod DistinctLemmas
 pub mod CommandLinesLemmas
 pub mod FoundLemmas

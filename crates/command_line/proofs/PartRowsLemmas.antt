@@ -15,30 +15,30 @@ rows_named name rows = filter (λ r. bytes_eq r.id name) rows
 abbrev pub row_at : Text → List Row → Option Row
 row_at name rows = find (λ r. bytes_eq r.id name) rows
 
--- the rows of some words, each at the next position
-abbrev pub word_rows : List Text → List Text → List Row
-word_rows [] words = []
-word_rows (name ∷ left) [] = []
-word_rows (name ∷ left) (word ∷ words) = value_row name word ∷ word_rows left words
+-- the rows of some arguments, each at the next position
+abbrev pub argument_rows : List Text → List Text → List Row
+argument_rows [] arguments = []
+argument_rows (name ∷ left) [] = []
+argument_rows (name ∷ left) (argument ∷ arguments) = value_row name argument ∷ argument_rows left arguments
 
 -- each option among the parts is one of the command
 abbrev pub AreNamed : Options → List Part → Type 0
 AreNamed options [] = Unit {0}
 AreNamed options (Flag name ∷ parts) = (has name options.flags ≡ true) × AreNamed options parts
 AreNamed options (Valued name value ∷ parts) = (has name options.valued ≡ true) × AreNamed options parts
-AreNamed options (Position word ∷ parts) = AreNamed options parts
+AreNamed options (Position argument ∷ parts) = AreNamed options parts
 
-words_named : (options : Options) (words : List Text) → AreNamed options (map Position words)
-words_named options [] = tt
-words_named options (word ∷ words) = words_named options words
+arguments_named : (options : Options) (arguments : List Text) → AreNamed options (map Position arguments)
+arguments_named options [] = tt
+arguments_named options (argument ∷ arguments) = arguments_named options arguments
 
-pub named_of : (options : Options) {words : List Text} {parts : List Part} → AreParts options words parts → AreNamed options parts
+pub named_of : (options : Options) {arguments : List Text} {parts : List Part} → AreParts options arguments parts → AreNamed options parts
 named_of options none = tt
 named_of options (flag {name} c d) = (has_from options.flags name c, named_of options d)
 named_of options (joined {name} {value} c d) = (has_from options.valued name c, named_of options d)
 named_of options (apart {name} {value} c p d) = (has_from options.valued name c, named_of options d)
 named_of options (position p d) = named_of options d
-named_of options (rest {words}) = words_named options words
+named_of options (rest {arguments}) = arguments_named options arguments
 
 -- names of which one stands in a list and the other doesn't
 apart_names : (a b : Text) (names : List Text) → has a names ≡ true → has b names ≡ false → bytes_eq a b ≡ false
@@ -74,8 +74,8 @@ rows_of_values options name not_flag (Valued other value ∷ parts) named left h
         → rows_named name (part_rows left (Valued other value ∷ parts)) ≡ map (value_row name) (values_of name (Valued other value ∷ parts))
     go true t rec = rw t (ap (λ (x : Text). value_row x value ∷ rows_named name (part_rows left parts)) (same_text other name t) ∙ ap (λ (rs : List Row). value_row name value ∷ rs) rec)
     go false t rec = rw t rec
-rows_of_values options name not_flag (Position word ∷ parts) named [] h = rows_of_values options name not_flag parts named [] h
-rows_of_values options name not_flag (Position word ∷ parts) named (p ∷ left) h =
+rows_of_values options name not_flag (Position argument ∷ parts) named [] h = rows_of_values options name not_flag parts named [] h
+rows_of_values options name not_flag (Position argument ∷ parts) named (p ∷ left) h =
     rw (absent_first p name left h) (rows_of_values options name not_flag parts named left (absent_rest p name left h))
 
 -- the rows of a flag
@@ -90,38 +90,38 @@ rows_of_flags options name not_valued (Flag other ∷ parts) named left h = go (
     go false t rec = rw t rec
 rows_of_flags options name not_valued (Valued other value ∷ parts) named left h =
     rw (apart_names other name options.valued named.0 not_valued) (rows_of_flags options name not_valued parts named.1 left h)
-rows_of_flags options name not_valued (Position word ∷ parts) named [] h = rows_of_flags options name not_valued parts named [] h
-rows_of_flags options name not_valued (Position word ∷ parts) named (p ∷ left) h =
+rows_of_flags options name not_valued (Position argument ∷ parts) named [] h = rows_of_flags options name not_valued parts named [] h
+rows_of_flags options name not_valued (Position argument ∷ parts) named (p ∷ left) h =
     rw (absent_first p name left h) (rows_of_flags options name not_valued parts named left (absent_rest p name left h))
 
--- and those of a position, which are those of the words
-pub rows_of_words : (options : Options) (name : Text) → has name options.flags ≡ false → has name options.valued ≡ false → (parts : List Part) → AreNamed options parts → (left : List Text)
-    → rows_named name (part_rows left parts) ≡ rows_named name (word_rows left (positions parts))
-rows_of_words options name not_flag not_valued [] named [] = refl
-rows_of_words options name not_flag not_valued [] named (p ∷ left) = refl
-rows_of_words options name not_flag not_valued (Flag other ∷ parts) named left =
-    rw (apart_names other name options.flags named.0 not_flag) (rows_of_words options name not_flag not_valued parts named.1 left)
-rows_of_words options name not_flag not_valued (Valued other value ∷ parts) named left =
-    rw (apart_names other name options.valued named.0 not_valued) (rows_of_words options name not_flag not_valued parts named.1 left)
-rows_of_words options name not_flag not_valued (Position word ∷ parts) named [] = rows_of_words options name not_flag not_valued parts named []
-rows_of_words options name not_flag not_valued (Position word ∷ parts) named (p ∷ left) =
-    ap (λ (rs : List Row). cond (bytes_eq p name) (value_row p word ∷ rs) rs) (rows_of_words options name not_flag not_valued parts named left)
+-- and those of a position, which are those of the arguments
+pub rows_of_arguments : (options : Options) (name : Text) → has name options.flags ≡ false → has name options.valued ≡ false → (parts : List Part) → AreNamed options parts → (left : List Text)
+    → rows_named name (part_rows left parts) ≡ rows_named name (argument_rows left (positions parts))
+rows_of_arguments options name not_flag not_valued [] named [] = refl
+rows_of_arguments options name not_flag not_valued [] named (p ∷ left) = refl
+rows_of_arguments options name not_flag not_valued (Flag other ∷ parts) named left =
+    rw (apart_names other name options.flags named.0 not_flag) (rows_of_arguments options name not_flag not_valued parts named.1 left)
+rows_of_arguments options name not_flag not_valued (Valued other value ∷ parts) named left =
+    rw (apart_names other name options.valued named.0 not_valued) (rows_of_arguments options name not_flag not_valued parts named.1 left)
+rows_of_arguments options name not_flag not_valued (Position argument ∷ parts) named [] = rows_of_arguments options name not_flag not_valued parts named []
+rows_of_arguments options name not_flag not_valued (Position argument ∷ parts) named (p ∷ left) =
+    ap (λ (rs : List Row). cond (bytes_eq p name) (value_row p argument ∷ rs) rs) (rows_of_arguments options name not_flag not_valued parts named left)
 
-pub word_absent : (name : Text) (left words : List Text) → has name left ≡ false → rows_named name (word_rows left words) ≡ []
-word_absent name [] words h = refl
-word_absent name (p ∷ left) [] h = refl
-word_absent name (p ∷ left) (word ∷ words) h = rw (absent_first p name left h) (word_absent name left words (absent_rest p name left h))
+pub argument_absent : (name : Text) (left arguments : List Text) → has name left ≡ false → rows_named name (argument_rows left arguments) ≡ []
+argument_absent name [] arguments h = refl
+argument_absent name (p ∷ left) [] h = refl
+argument_absent name (p ∷ left) (argument ∷ arguments) h = rw (absent_first p name left h) (argument_absent name left arguments (absent_rest p name left h))
 
-pub word_once : (name : Text) (left words : List Text) → are_distinct left ≡ true → length (rows_named name (word_rows left words)) ≤ 1
-word_once name [] words d = omega arith
-word_once name (p ∷ left) [] d = omega arith
-word_once name (p ∷ left) (word ∷ words) d = go (bytes_eq p name) refl (word_once name left words (and_right _ _ d))
+pub argument_once : (name : Text) (left arguments : List Text) → are_distinct left ≡ true → length (rows_named name (argument_rows left arguments)) ≤ 1
+argument_once name [] arguments d = omega arith
+argument_once name (p ∷ left) [] d = omega arith
+argument_once name (p ∷ left) (argument ∷ arguments) d = go (bytes_eq p name) refl (argument_once name left arguments (and_right _ _ d))
   where
-    go : (t : Bool) → bytes_eq p name ≡ t → length (rows_named name (word_rows left words)) ≤ 1
-        → length (cond (bytes_eq p name) (value_row p word ∷ rows_named name (word_rows left words)) (rows_named name (word_rows left words))) ≤ 1
+    go : (t : Bool) → bytes_eq p name ≡ t → length (rows_named name (argument_rows left arguments)) ≤ 1
+        → length (cond (bytes_eq p name) (value_row p argument ∷ rows_named name (argument_rows left arguments)) (rows_named name (argument_rows left arguments))) ≤ 1
     go true t rec =
         let other : has name left ≡ false = subst (λ (x : Text). has x left ≡ false) (same_text p name t) (not_true _ (and_left _ _ d)) in
-        let none' = word_absent name left words other in
+        let none' = argument_absent name left arguments other in
         rw (t, none') (omega arith)
     go false t rec = rw t rec
 

@@ -1,4 +1,4 @@
--- A walk without a mistake, word by word, and what is pending in it: an option's value or a position, which is used with the next word.
+-- A walk without a mistake, argument by argument, and what is pending in it: an option's value or a position, which is used with the next argument.
 use Rattle.std.proofs.Common.{◌≡◌, ◌↔◌, ◌<◌, ◌+◌, ℕ, zero, suc, Bool, true, false, ◌||◌, List, [], ◌∷◌, ◌++◌, drop, length, fold, Some, None, option_map, slice_get, bytes_eq, append_assoc, sym, ap, ◌∙◌, subst, arith}
 use Rattle.clap.specs.Faults.{settle_fault, turn_fault, walk_fault}
 use Rattle.clap.specs.Walk.{Row, Walk, arg_by_id, arg_by_index, has_row, settled, walked}
@@ -8,42 +8,42 @@ use Rattle.command_line.proofs.FormLemmas.{built_option, built_position, built_r
 use Rattle.command_line.proofs.RowsLemmas.{both_quiet, position_quiet, option_quiet, used_option, used_position, value_row}
 use Rattle.command_line.proofs.StepLemmas.{Settles, Steps, leaf, rows_with}
 
--- no mistake from a state on, to the end of the words
+-- no mistake from a state on, to the end of the arguments
 abbrev pub Quiet : Form → Walk → List Text → Type 0
-Quiet form from words = (walk_fault (leaf form) [] from words ≡ []) × (settle_fault (built_rules form) false (fold (walked (built_rules form) []) from words).held ≡ [])
+Quiet form from arguments = (walk_fault (leaf form) [] from arguments ≡ []) × (settle_fault (built_rules form) false (fold (walked (built_rules form) []) from arguments).held ≡ [])
 
--- the rows at the end of the words
+-- the rows at the end of the arguments
 abbrev pub end_rows : Form → Walk → List Text → List Row
-end_rows form from words = (settled (built_rules form) (fold (walked (built_rules form) []) from words).held).rows
+end_rows form from arguments = (settled (built_rules form) (fold (walked (built_rules form) []) from arguments).held).rows
 
-pub record Done (form : Form) (from : Walk) (words : List Text) (rows : List Row) : Type 0 where
-  pub quiet : Quiet form from words
-  pub ends : end_rows form from words ≡ rows
+pub record Done (form : Form) (from : Walk) (arguments : List Text) (rows : List Row) : Type 0 where
+  pub quiet : Quiet form from arguments
+  pub ends : end_rows form from arguments ≡ rows
 
-module _ (form : Form) (from to : Walk) (word : Text) (words : List Text) (P : Type 0) (step : Steps form from word to P) where
-  pub quiet_first : Quiet form from (word ∷ words) → P × Quiet form to words
+module _ (form : Form) (from to : Walk) (argument : Text) (arguments : List Text) (P : Type 0) (step : Steps form from argument to P) where
+  pub quiet_first : Quiet form from (argument ∷ arguments) → P × Quiet form to arguments
   unfolding walk_fault
   quiet_first q =
       let two = (both_quiet _ _).0 q.0 in
-      (step.quiet_when.0 two.0, subst (λ (w : Walk). Quiet form w words) step.walks (two.1, q.1))
+      (step.quiet_when.0 two.0, subst (λ (w : Walk). Quiet form w arguments) step.walks (two.1, q.1))
 
-  pub done_first : P → (rows : List Row) → Done form to words rows → Done form from (word ∷ words) rows
+  pub done_first : P → (rows : List Row) → Done form to arguments rows → Done form from (argument ∷ arguments) rows
   unfolding walk_fault
   done_first p rows done =
-      let done_here = subst (λ (w : Walk). Done form w words rows) (sym step.walks) done in
+      let done_here = subst (λ (w : Walk). Done form w arguments rows) (sym step.walks) done in
       record {
         quiet = ((both_quiet _ _).1 (step.quiet_when.1 p, done_here.quiet.0), done_here.quiet.1);
         ends = done_here.ends;
       }
 
   -- with one more row, as the word's own
-  pub done_with : P → (now grown more : List Row) (r : Row) → grown ≡ now ++ r ∷ [] → Done form to words (grown ++ more) → Done form from (word ∷ words) (now ++ (r ∷ more))
+  pub done_with : P → (now grown more : List Row) (r : Row) → grown ≡ now ++ r ∷ [] → Done form to arguments (grown ++ more) → Done form from (argument ∷ arguments) (now ++ (r ∷ more))
   done_with p now grown more r same done =
-      done_first p (now ++ (r ∷ more)) (subst (λ (rs : List Row). Done form to words rs) (ap (λ (rs : List Row). rs ++ more) same ∙ append_assoc now (r ∷ []) more) done)
+      done_first p (now ++ (r ∷ more)) (subst (λ (rs : List Row). Done form to arguments rs) (ap (λ (rs : List Row). rs ++ more) same ∙ append_assoc now (r ∷ []) more) done)
 
-pub turn_of : (form : Form) (from : Walk) (word : Text) (words : List Text) → Quiet form from (word ∷ words) → turn_fault (leaf form) [] from word ≡ []
+pub turn_of : (form : Form) (from : Walk) (argument : Text) (arguments : List Text) → Quiet form from (argument ∷ arguments) → turn_fault (leaf form) [] from argument ≡ []
 unfolding walk_fault
-turn_of form from word words q = ((both_quiet _ _).0 q.0).0
+turn_of form from argument arguments q = ((both_quiet _ _).0 q.0).0
 
 -- the first position that is left
 drop_first : (xs : List Text) (k : ℕ) (x : Text) (left : List Text) → drop k xs ≡ x ∷ left → (k < length xs) × (drop (suc k) xs ≡ left) × (has x xs ≡ true)
@@ -79,23 +79,23 @@ module _ (form : Form) (sound : is_sound_form form ≡ true) where
   pub none_left : (k : ℕ) → drop k form.positions ≡ [] → arg_by_index (built_rules form) (1 + k) ≡ None
   none_left k e = index_after form k ∙ ap (λ (l : List Text). option_map (built_position form.needs_all (1 + k)) (slice_get l 0)) e
 
-  pub position_settles : (rows : List Row) (name word : Text) → has name form.positions ≡ true → Settles form rows (Some (name, word ∷ [])) ↔ (has_row name rows ≡ false)
-  position_settles rows name word h =
+  pub position_settles : (rows : List Row) (name argument : Text) → has name form.positions ≡ true → Settles form rows (Some (name, argument ∷ [])) ↔ (has_row name rows ≡ false)
+  position_settles rows name argument h =
       let found = id_position form name (position_no_flag form sound name h) (position_no_option form sound name h) h in
-      rw found.1 (position_quiet form.needs_all found.0 name word rows)
+      rw found.1 (position_quiet form.needs_all found.0 name argument rows)
 
-  pub position_rows : (rows : List Row) (name word : Text) → has name form.positions ≡ true → has_row name rows ≡ false
-      → rows_with form rows (Some (name, word ∷ [])) ≡ rows ++ value_row name word ∷ []
-  position_rows rows name word h fresh =
+  pub position_rows : (rows : List Row) (name argument : Text) → has name form.positions ≡ true → has_row name rows ≡ false
+      → rows_with form rows (Some (name, argument ∷ [])) ≡ rows ++ value_row name argument ∷ []
+  position_rows rows name argument h fresh =
       let found = id_position form name (position_no_flag form sound name h) (position_no_option form sound name h) h in
-      rw found.1 (used_position form.needs_all found.0 name word rows fresh)
+      rw found.1 (used_position form.needs_all found.0 name argument rows fresh)
 
   pub option_found : (name : Text) → has name form.options.valued ≡ true → arg_by_id (built_rules form) name ≡ Some (built_option name)
   option_found name h = id_option form name (option_no_flag form sound name h) h
 
-  pub option_settles : (rows : List Row) (name word : Text) → has name form.options.valued ≡ true → Settles form rows (Some (name, word ∷ [])) ↔ (has_row name rows ≡ false)
-  option_settles rows name word h = rw (option_found name h) (option_quiet name word rows)
+  pub option_settles : (rows : List Row) (name argument : Text) → has name form.options.valued ≡ true → Settles form rows (Some (name, argument ∷ [])) ↔ (has_row name rows ≡ false)
+  option_settles rows name argument h = rw (option_found name h) (option_quiet name argument rows)
 
-  pub option_rows : (rows : List Row) (name word : Text) → has name form.options.valued ≡ true → has_row name rows ≡ false
-      → rows_with form rows (Some (name, word ∷ [])) ≡ rows ++ value_row name word ∷ []
-  option_rows rows name word h fresh = rw (option_found name h) (used_option name word rows fresh)
+  pub option_rows : (rows : List Row) (name argument : Text) → has name form.options.valued ≡ true → has_row name rows ≡ false
+      → rows_with form rows (Some (name, argument ∷ [])) ≡ rows ++ value_row name argument ∷ []
+  option_rows rows name argument h fresh = rw (option_found name h) (used_option name argument rows fresh)

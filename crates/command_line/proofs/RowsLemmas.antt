@@ -22,8 +22,8 @@ abbrev pub part_rows : List Text → List Part → List Row
 part_rows left [] = []
 part_rows left (Flag name ∷ parts) = flag_row name ∷ part_rows left parts
 part_rows left (Valued name value ∷ parts) = value_row name value ∷ part_rows left parts
-part_rows [] (Position word ∷ parts) = part_rows [] parts
-part_rows (name ∷ left) (Position word ∷ parts) = value_row name word ∷ part_rows left parts
+part_rows [] (Position argument ∷ parts) = part_rows [] parts
+part_rows (name ∷ left) (Position argument ∷ parts) = value_row name argument ∷ part_rows left parts
 
 -- each further row has a name of its own
 abbrev pub Fresh : List Row → List Row → Type 0

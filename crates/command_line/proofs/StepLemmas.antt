@@ -1,4 +1,4 @@
--- One word of `clap`'s walk over the words behind a command of flags, options with a value and positions.
+-- One argument of `clap`'s walk over the arguments behind a command of flags, options with a value and positions.
 use Rattle.std.proofs.Common.{◌≡◌, ◌↔◌, ◌<◌, ◌+◌, ℕ, suc, Bool, true, false, min, if◌then◌else◌, List, [], ◌∷◌, Option, Some, None, slice_get, bytes_eq, chars, encode_utf8_all, is_some, IsUtf8, refl, sym, ap, ◌∙◌, arith}
 use Rattle.std.proofs.lemmas.Str.{IsUtf8-drop, IsCharBoundary-after_ascii, encodes-chars}
 use Rattle.clap.specs.declared.error.kind.ErrorKind.TheVariants.{TooManyValues}
@@ -10,7 +10,7 @@ use Rattle.clap.specs.Walk.{Held, Row, Rule, Waiting, Walk, arg_by_id, arg_by_in
 use Rattle.command_line.specs.inner.Forms.{Form}
 use Rattle.command_line.proofs.HasLemmas.{Text, has, and_false, eq_self}
 use Rattle.command_line.proofs.FormLemmas.{built_flag, built_option, built_position, built_rules, long_flag, long_option, long_none, no_short}
-use Rattle.command_line.proofs.LexerLemmas.{IsPlainWord}
+use Rattle.command_line.proofs.LexerLemmas.{IsPlainArgument}
 use Rattle.command_line.proofs.RowsLemmas.{both_quiet, flag_quiet, option_quiet}
 
 -- the command once it is built below the command line
@@ -49,10 +49,10 @@ module _ (form : Form) where
   abbrev pub rows_with : List Row → Pending → List Row
   rows_with rows pending = settled_rows (built_rules form) pending rows
 
-  -- the word leads from one state to the next, and is no mistake just where that holds
-  pub record Steps (from : Walk) (word : Text) (to : Walk) (quiet : Type 0) : Type 0 where
-    pub walks : walked (built_rules form) [] from word ≡ to
-    pub quiet_when : (turn_fault (leaf form) [] from word ≡ []) ↔ quiet
+  -- the argument leads from one state to the next, and is no mistake just where that holds
+  pub record Steps (from : Walk) (argument : Text) (to : Walk) (quiet : Type 0) : Type 0 where
+    pub walks : walked (built_rules form) [] from argument ≡ to
+    pub quiet_when : (turn_fault (leaf form) [] from argument ≡ []) ↔ quiet
 
 first_of_two : (a : Kinds) → (or_else a [] ≡ []) ↔ (a ≡ [])
 first_of_two [] = (λ h. refl, λ h. refl)
@@ -66,30 +66,30 @@ both_then a b P used_when = (
 )
 
 module _ (form : Form) (rows : List Row) (pending : Pending) (n : ℕ) where
-  pub step_flag : (name word : Text) → has name form.options.flags ≡ true → bytes_eq word (45 ∷ 45 ∷ []) ≡ false → long_of word ≡ Some (name, None)
-      → Steps form (stands rows pending idle n false) word (stands (used (built_flag name) [] (rows_with form rows pending)) None idle n false)
+  pub step_flag : (name argument : Text) → has name form.options.flags ≡ true → bytes_eq argument (45 ∷ 45 ∷ []) ≡ false → long_of argument ≡ Some (name, None)
+      → Steps form (stands rows pending idle n false) argument (stands (used (built_flag name) [] (rows_with form rows pending)) None idle n false)
       (Settles form rows pending × (has_row name (rows_with form rows pending) ≡ false))
   unfolding walked
-  step_flag name word h d l = record {
+  step_flag name argument h d l = record {
     walks = rw (d, l, long_flag form name h) refl;
     quiet_when = rw (d, l, long_flag form name h) (both_then _ _ _ (flag_quiet name (rows_with form rows pending)));
   }
 
-  pub step_joined : (name value word : Text) → has name form.options.flags ≡ false → has name form.options.valued ≡ true
-      → bytes_eq word (45 ∷ 45 ∷ []) ≡ false → long_of word ≡ Some (name, Some value)
-      → Steps form (stands rows pending idle n false) word (stands (used (built_option name) (value ∷ []) (rows_with form rows pending)) None idle n false)
+  pub step_joined : (name value argument : Text) → has name form.options.flags ≡ false → has name form.options.valued ≡ true
+      → bytes_eq argument (45 ∷ 45 ∷ []) ≡ false → long_of argument ≡ Some (name, Some value)
+      → Steps form (stands rows pending idle n false) argument (stands (used (built_option name) (value ∷ []) (rows_with form rows pending)) None idle n false)
       (Settles form rows pending × (has_row name (rows_with form rows pending) ≡ false))
   unfolding walked
-  step_joined name value word not_flag h d l = record {
+  step_joined name value argument not_flag h d l = record {
     walks = rw (d, l, long_option form name not_flag h) refl;
     quiet_when = rw (d, l, long_option form name not_flag h) (both_then _ _ _ (option_quiet name value (rows_with form rows pending)));
   }
 
-  pub step_apart : (name word : Text) → has name form.options.flags ≡ false → has name form.options.valued ≡ true
-      → bytes_eq word (45 ∷ 45 ∷ []) ≡ false → long_of word ≡ Some (name, None)
-      → Steps form (stands rows pending idle n false) word (stands (rows_with form rows pending) (Some (name, [])) (option name) n false) (Settles form rows pending)
+  pub step_apart : (name argument : Text) → has name form.options.flags ≡ false → has name form.options.valued ≡ true
+      → bytes_eq argument (45 ∷ 45 ∷ []) ≡ false → long_of argument ≡ Some (name, None)
+      → Steps form (stands rows pending idle n false) argument (stands (rows_with form rows pending) (Some (name, [])) (option name) n false) (Settles form rows pending)
   unfolding walked
-  step_apart name word not_flag h d l = record {
+  step_apart name argument not_flag h d l = record {
     walks = rw (d, l, long_option form name not_flag h) refl;
     quiet_when = rw (d, l, long_option form name not_flag h) (first_of_two _);
   }
@@ -102,55 +102,55 @@ module _ (form : Form) (rows : List Row) (pending : Pending) (n : ℕ) where
 index_fits : (k : ℕ) → k < 1000 → min (1 + k + 1) usize_max ≡ 1 + suc k
 index_fits k few = omega arith
 
--- a word behind `--`, or one that is no option
+-- a argument behind `--`, or one that is no option
 module _ (form : Form) (rows : List Row) (pending : Pending) (k : ℕ) (few : k < 1000) (name : Text)
     (next : arg_by_index (built_rules form) (1 + k) ≡ Some (built_position form.needs_all (1 + k) name)) where
-  pub step_trailing : (waiting : Waiting) (word : Text)
-      → Steps form (stands rows pending waiting (1 + k) true) word (stands (rows_with form rows pending) (Some (name, word ∷ [])) idle (1 + suc k) true) (Settles form rows pending)
+  pub step_trailing : (waiting : Waiting) (argument : Text)
+      → Steps form (stands rows pending waiting (1 + k) true) argument (stands (rows_with form rows pending) (Some (name, argument ∷ [])) idle (1 + suc k) true) (Settles form rows pending)
   unfolding walked
-  step_trailing waiting word = record {
+  step_trailing waiting argument = record {
     walks = rw (next, and_false (is_pending (built_position form.needs_all (1 + k) name) pending), index_fits k few) refl;
     quiet_when = rw (next, and_false (is_pending (built_position form.needs_all (1 + k) name) pending)) (λ h. h, λ h. h);
   }
 
-  pub step_position : (word : Text) → IsPlainWord word
-      → Steps form (stands rows pending idle (1 + k) false) word (stands (rows_with form rows pending) (Some (name, word ∷ [])) idle (1 + suc k) false) (Settles form rows pending)
+  pub step_position : (argument : Text) → IsPlainArgument argument
+      → Steps form (stands rows pending idle (1 + k) false) argument (stands (rows_with form rows pending) (Some (name, argument ∷ [])) idle (1 + suc k) false) (Settles form rows pending)
   unfolding walked
-  step_position word p = record {
+  step_position argument p = record {
     walks = rw (p.not_dashes, p.not_long, p.not_short, next, and_false (is_pending (built_position form.needs_all (1 + k) name) pending), index_fits k few) refl;
     quiet_when = rw (p.not_dashes, p.not_long, p.not_short, next, and_false (is_pending (built_position form.needs_all (1 + k) name) pending)) (λ h. h, λ h. h);
   }
 
 -- the value of an option whose name stood alone
-pub step_value : (form : Form) (rows : List Row) (n : ℕ) (name word : Text) → arg_by_id (built_rules form) name ≡ Some (built_option name) → IsPlainWord word
-    → Steps form (stands rows (Some (name, [])) (option name) n false) word (stands rows (Some (name, word ∷ [])) idle n false) (Unit {0})
+pub step_value : (form : Form) (rows : List Row) (n : ℕ) (name argument : Text) → arg_by_id (built_rules form) name ≡ Some (built_option name) → IsPlainArgument argument
+    → Steps form (stands rows (Some (name, [])) (option name) n false) argument (stands rows (Some (name, argument ∷ [])) idle n false) (Unit {0})
 unfolding walked
-step_value form rows n name word found p = record {
+step_value form rows n name argument found p = record {
   walks = rw (p.not_dashes, p.not_long, p.not_short, found, eq_self name) refl;
   quiet_when = rw (p.not_dashes, p.not_long, p.not_short) (λ h. tt, λ h. refl);
 }
 
 -- a step that is a mistake: no position is left
-pub no_trailing : (form : Form) (rows : List Row) (pending : Pending) (waiting : Waiting) (n : ℕ) (word : Text) → arg_by_index (built_rules form) n ≡ None
-    → turn_fault (leaf form) [] (stands rows pending waiting n true) word ≡ [] → ⊥
-no_trailing form rows pending waiting n word none h = let bad = rw none at h in absurd (cc)
+pub no_trailing : (form : Form) (rows : List Row) (pending : Pending) (waiting : Waiting) (n : ℕ) (argument : Text) → arg_by_index (built_rules form) n ≡ None
+    → turn_fault (leaf form) [] (stands rows pending waiting n true) argument ≡ [] → ⊥
+no_trailing form rows pending waiting n argument none h = let bad = rw none at h in absurd (cc)
 
-pub no_position : (form : Form) (rows : List Row) (pending : Pending) (n : ℕ) (word : Text) → arg_by_index (built_rules form) n ≡ None → IsPlainWord word
-    → turn_fault (leaf form) [] (stands rows pending idle n false) word ≡ [] → ⊥
-no_position form rows pending n word none p h = let bad = rw (p.not_dashes, p.not_long, p.not_short, none) at h in absurd (cc)
+pub no_position : (form : Form) (rows : List Row) (pending : Pending) (n : ℕ) (argument : Text) → arg_by_index (built_rules form) n ≡ None → IsPlainArgument argument
+    → turn_fault (leaf form) [] (stands rows pending idle n false) argument ≡ [] → ⊥
+no_position form rows pending n argument none p h = let bad = rw (p.not_dashes, p.not_long, p.not_short, none) at h in absurd (cc)
 
 -- an option that the command doesn't have
-pub unknown_option : (form : Form) (rows : List Row) (pending : Pending) (n : ℕ) (name word : Text) (value : Option Text)
-    → has name form.options.flags ≡ false → has name form.options.valued ≡ false → bytes_eq word (45 ∷ 45 ∷ []) ≡ false → long_of word ≡ Some (name, value)
-    → turn_fault (leaf form) [] (stands rows pending idle n false) word ≡ [] → ⊥
-unknown_option form rows pending n name word value not_flag nor d l h =
+pub unknown_option : (form : Form) (rows : List Row) (pending : Pending) (n : ℕ) (name argument : Text) (value : Option Text)
+    → has name form.options.flags ≡ false → has name form.options.valued ≡ false → bytes_eq argument (45 ∷ 45 ∷ []) ≡ false → long_of argument ≡ Some (name, value)
+    → turn_fault (leaf form) [] (stands rows pending idle n false) argument ≡ [] → ⊥
+unknown_option form rows pending n name argument value not_flag nor d l h =
     let bad = rw (d, l, long_none form name not_flag nor) at h in absurd (cc)
 
 -- a flag with a value
-pub flag_with_value : (form : Form) (rows : List Row) (pending : Pending) (n : ℕ) (name value word : Text)
-    → has name form.options.flags ≡ true → bytes_eq word (45 ∷ 45 ∷ []) ≡ false → long_of word ≡ Some (name, Some value)
-    → turn_fault (leaf form) [] (stands rows pending idle n false) word ≡ [] → ⊥
-flag_with_value form rows pending n name value word is_flag d l h =
+pub flag_with_value : (form : Form) (rows : List Row) (pending : Pending) (n : ℕ) (name value argument : Text)
+    → has name form.options.flags ≡ true → bytes_eq argument (45 ∷ 45 ∷ []) ≡ false → long_of argument ≡ Some (name, Some value)
+    → turn_fault (leaf form) [] (stands rows pending idle n false) argument ≡ [] → ⊥
+flag_with_value form rows pending n name value argument is_flag d l h =
     let bad = rw (d, l, long_flag form name is_flag) at h in absurd (cc)
 
 -- `-` with more: no option of a command is named so
@@ -187,10 +187,10 @@ long_settles c (Some a) value h q = go (takes_values a) value q
     go false None q = ((both_quiet _ _).0 q).0
     go false (Some v) q = absurd (cc)
 
-pub waiting_long : (form : Form) (rows : List Row) (pending : Pending) (n : ℕ) (name other word : Text) (value : Option Text)
-    → bytes_eq word (45 ∷ 45 ∷ []) ≡ false → long_of word ≡ Some (other, value)
-    → turn_fault (leaf form) [] (stands rows pending (option name) n false) word ≡ [] → Settles form rows pending
-waiting_long form rows pending n name other word value d l h =
+pub waiting_long : (form : Form) (rows : List Row) (pending : Pending) (n : ℕ) (name other argument : Text) (value : Option Text)
+    → bytes_eq argument (45 ∷ 45 ∷ []) ≡ false → long_of argument ≡ Some (other, value)
+    → turn_fault (leaf form) [] (stands rows pending (option name) n false) argument ≡ [] → Settles form rows pending
+waiting_long form rows pending n name other argument value d l h =
     long_settles (built_rules form) (arg_by_long (built_rules form) other) value (held rows pending) ((both_quiet _ _).0 (rw (d, l) at h)).0
 
 pub waiting_short : (form : Form) (rows : List Row) (pending : Pending) (n : ℕ) (name : Text) (x : ℕ) (xs : Text) → IsUtf8 (45 ∷ x ∷ xs)

@@ -1,4 +1,4 @@
--- The command lines of the program: for each command, which words ask for it with which values.
+-- The command lines of the program: for each command, which arguments ask for it with which values.
 use Rattle.std.specs.Prelude.{◌≡◌, ◌≢◌, ◌≤◌, ◌⊎◌, ⊤, ℕ, List, [], ◌∷◌, ◌++◌, length, map, codes, Bool, true, false, Option, Some, None, String, string_bytes, bytes_eq, nat_eq, if◌then◌else◌}
 use Rattle.std.specs.List.{IsDistinct}
 use Rattle.std.specs.Str.Parse.{IsNumeral, digits_value}
@@ -6,27 +6,27 @@ use Rattle.std.specs.declared.alloc.Global.{Global}
 use Rattle.command_line.specs.Parts.{Part, Flag, Valued, Position, Options, AreParts, positions}
 use Rattle.match_generator.specs.declared.log.TheConstants.{MAX_SEED, MAX_COUNT}
 use Rattle.stix_ids.specs.Uuid.{IsUuidOf}
-use Rattle.command_line.specs.declared.numbers.TheConstants.{DEFAULT_CAP, MAX_CAP, MAX_PORT, MAX_CONNECTIONS}
+use Rattle.command_line.specs.declared.numbers.TheConstants.{DEFAULT_RETAINED_LIMIT, MAX_RETAINED_LIMIT, MAX_PORT, MAX_CONNECTIONS}
 use Rattle.command_line.specs.declared.collections.TheConstants.{MAX_COLLECTIONS, MAX_TITLE}
 use Rattle.command_line.specs.declared.base.TheConstants.{MAX_BASE}
 
--- the texts of the words
+-- the texts of the arguments
 abbrev pub texts : List (String Global) → List (List ℕ)
-texts words = map string_bytes words
+texts arguments = map string_bytes arguments
 
 -- the flags of that name
 abbrev pub flags_of : List ℕ → List Part → List (List ℕ)
 flags_of name [] = []
 flags_of name (Flag other ∷ parts) = if bytes_eq other name then other ∷ flags_of name parts else flags_of name parts
 flags_of name (Valued other value ∷ parts) = flags_of name parts
-flags_of name (Position word ∷ parts) = flags_of name parts
+flags_of name (Position argument ∷ parts) = flags_of name parts
 
 -- the values that are given to the option of that name, in turn
 abbrev pub values_of : List ℕ → List Part → List (List ℕ)
 values_of name [] = []
 values_of name (Flag other ∷ parts) = values_of name parts
 values_of name (Valued other value ∷ parts) = if bytes_eq other name then value ∷ values_of name parts else values_of name parts
-values_of name (Position word ∷ parts) = values_of name parts
+values_of name (Position argument ∷ parts) = values_of name parts
 
 -- a flag stands there once, or not at all
 abbrev pub IsFlag : List (List ℕ) → Bool → Type 0
@@ -48,10 +48,10 @@ IsNumberOr usual least most [] number = number ≡ usual
 IsNumberOr usual least most (text ∷ []) number = IsNumberIn least most text number
 IsNumberOr usual least most (text ∷ other ∷ texts) number = ⊥
 
--- the command, and then words of these parts
-pub record IsCalledWith (command : List ℕ) (options : Options) (words : List (List ℕ)) (parts : List Part) : Type 0 where
+-- the command, and then arguments of these parts
+pub record IsCalledWith (command : List ℕ) (options : Options) (arguments : List (List ℕ)) (parts : List Part) : Type 0 where
   pub rest : List (List ℕ)
-  pub line : words ≡ command ∷ rest
+  pub line : arguments ≡ command ∷ rest
   pub are_parts : AreParts options rest parts
 
 abbrev pub match_options : Options
@@ -60,30 +60,30 @@ match_options = record { flags = codes "whole" ∷ []; valued = codes "cap" ∷ 
 abbrev pub no_options : Options
 no_options = record { flags = []; valued = [] }
 
--- match [--whole] [--cap N] PATTERN
-pub record IsMatchLine (words : List (List ℕ)) (whole : Bool) (cap : ℕ) (pattern : List ℕ) : Type 0 where
+-- match [--whole] [--retained limit N] PATTERN
+pub record IsMatchLine (arguments : List (List ℕ)) (whole : Bool) (retained_limit : ℕ) (pattern : List ℕ) : Type 0 where
   pub parts : List Part
-  pub called : IsCalledWith (codes "match") match_options words parts
+  pub called : IsCalledWith (codes "match") match_options arguments parts
   pub whole_is : IsFlag (flags_of (codes "whole") parts) whole
-  pub cap_is : IsNumberOr DEFAULT_CAP 1 MAX_CAP (values_of (codes "cap") parts) cap
+  pub retained_limit_is : IsNumberOr DEFAULT_RETAINED_LIMIT 1 MAX_RETAINED_LIMIT (values_of (codes "cap") parts) retained_limit
   pub pattern_is : positions parts ≡ pattern ∷ []
 
 -- check
-pub record IsCheckLine (words : List (List ℕ)) : Type 0 where
+pub record IsCheckLine (arguments : List (List ℕ)) : Type 0 where
   pub parts : List Part
-  pub called : IsCalledWith (codes "check") no_options words parts
+  pub called : IsCalledWith (codes "check") no_options arguments parts
   pub alone : positions parts ≡ []
 
 -- show PATTERN
-pub record IsShowLine (words : List (List ℕ)) (pattern : List ℕ) : Type 0 where
+pub record IsShowLine (arguments : List (List ℕ)) (pattern : List ℕ) : Type 0 where
   pub parts : List Part
-  pub called : IsCalledWith (codes "show") no_options words parts
+  pub called : IsCalledWith (codes "show") no_options arguments parts
   pub pattern_is : positions parts ≡ pattern ∷ []
 
 -- make SEED COUNT
-pub record IsMakeLine (words : List (List ℕ)) (seed count : ℕ) : Type 0 where
+pub record IsMakeLine (arguments : List (List ℕ)) (seed count : ℕ) : Type 0 where
   pub parts : List Part
-  pub called : IsCalledWith (codes "make") no_options words parts
+  pub called : IsCalledWith (codes "make") no_options arguments parts
   pub seed_text : List ℕ
   pub count_text : List ℕ
   pub both : positions parts ≡ seed_text ∷ count_text ∷ []
@@ -127,21 +127,21 @@ pub record PlainCollection : Type 0 where
   pub title : List ℕ
 
 -- UUID:RIGHTS:TITLE
-pub record IsCollectionOf (word : List ℕ) (collection : PlainCollection) : Type 0 where
+pub record IsCollectionOf (argument : List ℕ) (collection : PlainCollection) : Type 0 where
   pub uuid : List ℕ
   pub rights : List ℕ
-  pub word_is : word ≡ uuid ++ (codes ":" ++ (rights ++ (codes ":" ++ collection.title)))
+  pub argument_is : argument ≡ uuid ++ (codes ":" ++ (rights ++ (codes ":" ++ collection.title)))
   pub id_is : IsUuidOf uuid collection.id
   pub rights_are : AreRights rights collection.can_read collection.can_write
   pub titled : 1 ≤ length collection.title
   pub short : length collection.title ≤ MAX_TITLE
 
--- each word is the collection at its place
+-- each argument is the collection at its place
 abbrev pub AreCollectionsOf : List (List ℕ) → List PlainCollection → Type 0
 AreCollectionsOf [] [] = ⊤
 AreCollectionsOf [] (collection ∷ collections) = ⊥
-AreCollectionsOf (word ∷ words) [] = ⊥
-AreCollectionsOf (word ∷ words) (collection ∷ collections) = IsCollectionOf word collection × AreCollectionsOf words collections
+AreCollectionsOf (argument ∷ arguments) [] = ⊥
+AreCollectionsOf (argument ∷ arguments) (collection ∷ collections) = IsCollectionOf argument collection × AreCollectionsOf arguments collections
 
 -- what is to be served: at which port, how many connections, from which file and under which URL, and which collections
 pub record PlainService : Type 0 where
@@ -155,9 +155,9 @@ abbrev pub serve_options : Options
 serve_options = record { flags = []; valued = codes "port" ∷ codes "connections" ∷ codes "store" ∷ codes "base" ∷ [] }
 
 -- serve --port P --connections N [--store FILE] [--base URL] COLLECTION...
-pub record IsServeLine (words : List (List ℕ)) (service : PlainService) : Type 0 where
+pub record IsServeLine (arguments : List (List ℕ)) (service : PlainService) : Type 0 where
   pub parts : List Part
-  pub called : IsCalledWith (codes "serve") serve_options words parts
+  pub called : IsCalledWith (codes "serve") serve_options arguments parts
   pub port_is : IsNumberOf 1 MAX_PORT (values_of (codes "port") parts) service.port
   pub connections_is : IsNumberOf 1 MAX_CONNECTIONS (values_of (codes "connections") parts) service.connections
   pub store_is : IsValueOrNone IsFile (values_of (codes "store") parts) service.store
@@ -167,18 +167,18 @@ pub record IsServeLine (words : List (List ℕ)) (service : PlainService) : Type
   pub few : length service.collections ≤ MAX_COLLECTIONS
   pub differ : IsDistinct nat_eq (map (λ collection. collection.id) service.collections)
 
--- what words ask for, without where it lies in memory
+-- what arguments ask for, without where it lies in memory
 pub data PlainRequest : Type 0 where
-  Match : (whole : Bool) (cap : ℕ) (pattern : List ℕ) → PlainRequest
+  Match : (whole : Bool) (retained_limit : ℕ) (pattern : List ℕ) → PlainRequest
   Check : PlainRequest
   Show : (pattern : List ℕ) → PlainRequest
   Make : (seed count : ℕ) → PlainRequest
   Serve : (service : PlainService) → PlainRequest
 
--- the words are a command line, and ask for that
+-- the arguments are a command line, and ask for that
 abbrev pub IsCommandLine : List (List ℕ) → PlainRequest → Type 0
-IsCommandLine words (Match whole cap pattern) = IsMatchLine words whole cap pattern
-IsCommandLine words Check = IsCheckLine words
-IsCommandLine words (Show pattern) = IsShowLine words pattern
-IsCommandLine words (Make seed count) = IsMakeLine words seed count
-IsCommandLine words (Serve service) = IsServeLine words service
+IsCommandLine arguments (Match whole retained_limit pattern) = IsMatchLine arguments whole retained_limit pattern
+IsCommandLine arguments Check = IsCheckLine arguments
+IsCommandLine arguments (Show pattern) = IsShowLine arguments pattern
+IsCommandLine arguments (Make seed count) = IsMakeLine arguments seed count
+IsCommandLine arguments (Serve service) = IsServeLine arguments service

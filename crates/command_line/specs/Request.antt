@@ -1,4 +1,4 @@
--- What words ask for, from the code's request.
+-- What arguments ask for, from the code's request.
 use Rattle.std.specs.Prelude.{map, option_map}
 use Rattle.command_line.specs.declared.request.CollectionRequest.{CollectionRequest}
 use Rattle.command_line.specs.declared.request.Request.{Request}
@@ -22,7 +22,7 @@ plain_service asked = record {
 
 -- the request, without where it lies in memory
 abbrev pub plain_request : Request → PlainRequest
-plain_request (request.Match wanted) = Match wanted.whole wanted.cap wanted.pattern.now
+plain_request (request.Match wanted) = Match wanted.whole wanted.retained_limit wanted.pattern.now
 plain_request request.Check = Check
 plain_request (request.Show pattern) = Show pattern.now
 plain_request (request.Make seed count) = Make seed count

@@ -1,4 +1,4 @@
-//! Collections in words.
+//! Collections in arguments.
 
 ghost use Rattle.std.specs.Prelude.{◌≡◌, ◌≢◌, ◌++◌, ℕ, List, Bool, IfNone, IfSome, codes, length};
 ghost use Rattle.command_line.specs.CommandLines.{PlainCollection, AreRights, IsCollectionOf};
@@ -17,13 +17,13 @@ pub const MAX_TITLE: usize = 256;
 /// How many bytes a UUID has.
 const UUID_LENGTH: usize = 36;
 
-/// The collection of a word.
-pub(crate) fn collection_of(word: &str) -> Option<CollectionRequest<'_>>
-    ensures some { IfSome result (λ asked. IsCollectionOf word.now (plain_collection asked)) }
+/// The collection of a argument.
+pub(crate) fn collection_of(argument: &str) -> Option<CollectionRequest<'_>>
+    ensures some { IfSome result (λ asked. IsCollectionOf argument.now (plain_collection asked)) }
     ensures none { IfNone result ((collection : PlainCollection)
-        → ¬ IsCollectionOf word.now collection) }
+        → ¬ IsCollectionOf argument.now collection) }
 {
-    let (uuid, rest) = cut_behind_uuid(word)?;
+    let (uuid, rest) = cut_behind_uuid(argument)?;
     let id = read_uuid(uuid)?;
     let (rights, title) = rest.split_once(':')?;
     let (can_read, can_write) = rights_of(rights)?;
@@ -39,13 +39,13 @@ pub(crate) fn collection_of(word: &str) -> Option<CollectionRequest<'_>>
 }
 
 /// What stands before and behind the colon where a UUID ends.
-fn cut_behind_uuid(word: &str) -> Option<(&str, &str)>
-    ensures some { IfSome result (λ cut. word.now ≡ cut.0.now ++ (codes ":" ++ cut.1.now)) }
+fn cut_behind_uuid(argument: &str) -> Option<(&str, &str)>
+    ensures some { IfSome result (λ cut. argument.now ≡ cut.0.now ++ (codes ":" ++ cut.1.now)) }
     ensures long { IfSome result (λ cut. length cut.0.now ≡ UUID_LENGTH) }
     ensures none { IfNone result ((front back : List ℕ) → length front ≡ UUID_LENGTH
-        → word.now ≢ front ++ (codes ":" ++ back)) }
+        → argument.now ≢ front ++ (codes ":" ++ back)) }
 {
-    let (uuid, behind) = word.split_at_checked(UUID_LENGTH)?;
+    let (uuid, behind) = argument.split_at_checked(UUID_LENGTH)?;
     let rest = behind.strip_prefix(':')?;
     Some((uuid, rest))
 }

@@ -3,8 +3,8 @@
 ghost use Rattle.std.specs.Prelude.{◌≡◌, ℕ, List};
 ghost use Rattle.command_line.specs.CommandLines.{PlainRequest, IsCommandLine};
 
-/// Words ask for one thing at most.
+/// Arguments ask for one thing at most.
 pub fn one_request()
-    ensures { (words : List (List ℕ)) (first second : PlainRequest)
-        → IsCommandLine words first → IsCommandLine words second → first ≡ second }
+    ensures { (arguments : List (List ℕ)) (first second : PlainRequest)
+        → IsCommandLine arguments first → IsCommandLine arguments second → first ≡ second }
 {}

@@ -1,12 +1,12 @@
-//! The words of a command line, and what they ask for. A command line is a command and then its
-//! options and positions in any order: `match [--whole] [--cap N] PATTERN`, `check`, `show PATTERN`,
+//! The arguments of a command line, and what they ask for. A command line is a command and then its
+//! options and positions in any order: `match [--whole] [--retained_limit N] PATTERN`, `check`, `show PATTERN`,
 //! `make SEED COUNT` or `serve --port P --connections N [--store FILE] [--base URL] COLLECTION...`. A
-//! COLLECTION is `UUID:RIGHTS:TITLE`, with `r`, `w` or `rw` as its rights. [`read_words`] answers the
-//! request of the words, or that they are no command line; it reads them with `clap`, and its
+//! COLLECTION is `UUID:RIGHTS:TITLE`, with `r`, `w` or `rw` as its rights. [`read_arguments`] answers the
+//! request of the arguments, or that they are no command line; it reads them with `clap`, and its
 //! contract is the rule without `clap`.
 //!
-//! The words `match`, `--cap=7`, `--` and `-x` ask for the matches of the pattern `-x`, of which at
-//! most 7 may be live; with another `--cap` they ask for nothing.
+//! The arguments `match`, `--retained_limit=7`, `--` and `-x` ask for the matches of the pattern `-x`, of which at
+//! most 7 may be live; with another `--retained_limit` they ask for nothing.
 #![tactic(auto)]
 
 mod base;
@@ -17,11 +17,11 @@ mod parser;
 mod read;
 mod request;
 mod serve;
-mod words;
+mod arguments;
 
 pub use base::MAX_BASE;
 pub use collections::{MAX_COLLECTIONS, MAX_TITLE};
-pub use numbers::{DEFAULT_CAP, MAX_CAP, MAX_CONNECTIONS, MAX_PORT, number_in};
-pub use read::read_words;
-pub use request::{CollectionRequest, MatchRequest, Request, ServeRequest, WordsRefusal};
-pub use words::program_words;
+pub use numbers::{DEFAULT_RETAINED_LIMIT, MAX_RETAINED_LIMIT, MAX_CONNECTIONS, MAX_PORT, number_in};
+pub use read::read_arguments;
+pub use request::{CollectionRequest, MatchRequest, Request, ServeRequest, ArgumentsRefusal};
+pub use arguments::program_arguments;

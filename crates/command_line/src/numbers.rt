@@ -1,13 +1,13 @@
-//! Numbers in words: one to ten decimal digits in a range.
+//! Numbers in arguments: one to ten decimal digits in a range.
 
 ghost use Rattle.std.specs.Prelude.{◌≡◌, ◌↔◌, ℕ, Some};
 ghost use Rattle.command_line.specs.CommandLines.{IsNumberIn};
 
-/// The greatest number of things that may be live in a match, where the words name none.
-pub const DEFAULT_CAP: u32 = 200_000;
+/// The greatest number of things that may be live in a match, where the arguments name none.
+pub const DEFAULT_RETAINED_LIMIT: u32 = 200_000;
 
 /// The greatest such number that they may name.
-pub const MAX_CAP: u32 = 1_000_000;
+pub const MAX_RETAINED_LIMIT: u32 = 1_000_000;
 
 /// The greatest port.
 pub const MAX_PORT: u32 = 65_535;

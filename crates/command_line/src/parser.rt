@@ -74,7 +74,7 @@ fn add_command<'a>(
     Ok(())
 }
 
-/// The program without commands. It has no help and no version, and its words don't begin with its
+/// The program without commands. It has no help and no version, and its arguments don't begin with its
 /// name.
 fn bare_program<'a>(alloc: Global) -> Command<'a>
     ensures { app_of result ≡ bare_app }
@@ -149,12 +149,12 @@ fn program<'a>(alloc: Global) -> Result<Command<'a>, AllocError>
     bare_program(alloc).subcommands(commands)
 }
 
-/// What `clap` finds in the words.
-pub(crate) fn parse<'a>(alloc: Global, words: &'a [String]) -> Result<ArgMatches<'a>, Error>
+/// What `clap` finds in the arguments.
+pub(crate) fn parse<'a>(alloc: Global, arguments: &'a [String]) -> Result<ArgMatches<'a>, Error>
     ensures matches { IfOk result
-        (λ m. subcommand_rows_of m ≡ subcommand_of program_app (texts words.entry.now)) }
-    ensures exact { FailsBy (fault_of program_app (texts words.entry.now)) result }
+        (λ m. subcommand_rows_of m ≡ subcommand_of program_app (texts arguments.entry.now)) }
+    ensures exact { FailsBy (fault_of program_app (texts arguments.entry.now)) result }
 {
     let program = program(alloc)?;
-    program.try_get_matches_from(words)
+    program.try_get_matches_from(arguments)
 }

@@ -1,15 +1,15 @@
-//! A request from words.
+//! A request from arguments.
 
 ghost use Rattle.std.specs.Prelude.{◌≡◌, ◌≢◌, ◌↔◌, ℕ, List, Bool, IfErr, IfNone, IfOk, IfSome, Some, codes, option_copied};
 ghost use Rattle.clap.specs.Words.{first_of, kind_of, one_of};
 ghost use Rattle.clap.specs.declared.error.kind.ErrorKind.TheVariants.{OutOfMemory};
 ghost use Rattle.command_line.specs.CommandLines.{texts, PlainRequest, IsCommandLine};
 ghost use Rattle.command_line.specs.Request.{plain_request};
-ghost use Rattle.command_line.specs.inner.Rows.{IsAskedIn, IsCapText, IsFlagText, IsMakeIn, IsMatchIn, IsNumberText, rows_in};
+ghost use Rattle.command_line.specs.inner.Rows.{IsAskedIn, IsRetainedLimitText, IsFlagText, IsMakeIn, IsMatchIn, IsNumberText, rows_in};
 
-use crate::numbers::{DEFAULT_CAP, MAX_CAP, number_in};
+use crate::numbers::{DEFAULT_RETAINED_LIMIT, MAX_RETAINED_LIMIT, number_in};
 use crate::parser::parse;
-use crate::request::{MatchRequest, Request, WordsRefusal};
+use crate::request::{MatchRequest, Request, ArgumentsRefusal};
 use crate::serve::serve_in;
 use clap::error::ErrorKind;
 use clap::{ArgMatches, Error};
@@ -17,35 +17,35 @@ use flow_values::NoMemory;
 use match_generator::{MAX_COUNT, MAX_SEED};
 use std::alloc::Global;
 
-/// What the words after the program's name ask for.
-pub fn read_words<'a>(alloc: Global, words: &'a [String]) -> Result<Request<'a>, WordsRefusal>
+/// What the arguments after the program's name ask for.
+pub fn read_arguments<'a>(alloc: Global, arguments: &'a [String]) -> Result<Request<'a>, ArgumentsRefusal>
     ensures ok { IfOk result
-        (λ request. IsCommandLine (texts words.entry.now) (plain_request request)) }
-    ensures no_line { IfErr result (λ refusal. refusal ≡ WordsRefusal.NoLine
-        → (request : PlainRequest) → ¬ IsCommandLine (texts words.entry.now) request) }
+        (λ request. IsCommandLine (texts arguments.entry.now) (plain_request request)) }
+    ensures no_line { IfErr result (λ refusal. refusal ≡ ArgumentsRefusal.NoLine
+        → (request : PlainRequest) → ¬ IsCommandLine (texts arguments.entry.now) request) }
 {
-    let matches = match parse(alloc, words) {
+    let matches = match parse(alloc, arguments) {
         Ok(matches) => matches,
         Err(error) => return Err(refusal_of(&error)),
     };
     let Some((command, values)) = matches.subcommand() else {
-        return Err(WordsRefusal::NoLine);
+        return Err(ArgumentsRefusal::NoLine);
     };
     match request_in(alloc, command, values) {
         Ok(Some(request)) => Ok(request),
-        Ok(None) => Err(WordsRefusal::NoLine),
-        Err(_) => Err(WordsRefusal::NoMemory),
+        Ok(None) => Err(ArgumentsRefusal::NoLine),
+        Err(_) => Err(ArgumentsRefusal::NoMemory),
     }
 }
 
 /// The refusal for an error of `clap`.
-fn refusal_of(error: &Error) -> WordsRefusal
-    ensures { (result ≡ WordsRefusal.NoMemory) ↔ (kind_of error.now ≡ OutOfMemory) }
+fn refusal_of(error: &Error) -> ArgumentsRefusal
+    ensures { (result ≡ ArgumentsRefusal.NoMemory) ↔ (kind_of error.now ≡ OutOfMemory) }
 {
     if error.kind() == ErrorKind::OutOfMemory {
-        WordsRefusal::NoMemory
+        ArgumentsRefusal::NoMemory
     } else {
-        WordsRefusal::NoLine
+        ArgumentsRefusal::NoLine
     }
 }
 
@@ -94,27 +94,27 @@ fn other_request_in<'a>(command: &str, values: &ArgMatches<'a>) -> Option<Reques
 /// What a `match` asks for.
 fn match_in<'a>(values: &ArgMatches<'a>) -> Option<MatchRequest<'a>>
     ensures some { IfSome result (λ request.
-        IsMatchIn (rows_in values.now) request.whole request.cap request.pattern.now) }
-    ensures none { IfNone result ((whole : Bool) (cap : ℕ) (pattern : List ℕ)
-        → ¬ IsMatchIn (rows_in values.now) whole cap pattern) }
+        IsMatchIn (rows_in values.now) request.whole request.retained_limit request.pattern.now) }
+    ensures none { IfNone result ((whole : Bool) (retained_limit : ℕ) (pattern : List ℕ)
+        → ¬ IsMatchIn (rows_in values.now) whole retained_limit pattern) }
 {
     let pattern = value_of(values, "pattern")?;
-    let cap = cap_in(value_of(values, "cap"))?;
+    let retained_limit = retained_limit_in(value_of(values, "cap"))?;
     let whole = is_given(values, "whole");
     Some(MatchRequest {
         whole,
-        cap: u64::from(cap),
+        retained_limit: u64::from(retained_limit),
         pattern,
     })
 }
 
-/// The cap of a text, or the usual one.
-fn cap_in(text: Option<&str>) -> Option<u32>
-    ensures { (cap : ℕ) → (result ≡ Some cap) ↔ IsCapText (option_copied text.entry) cap }
+/// The retained limit of a text, or the usual one.
+fn retained_limit_in(text: Option<&str>) -> Option<u32>
+    ensures { (retained_limit : ℕ) → (result ≡ Some retained_limit) ↔ IsRetainedLimitText (option_copied text.entry) retained_limit }
 {
     match text {
-        Some(text) => number_in(text, 1, MAX_CAP),
-        None => Some(DEFAULT_CAP),
+        Some(text) => number_in(text, 1, MAX_RETAINED_LIMIT),
+        None => Some(DEFAULT_RETAINED_LIMIT),
     }
 }
 

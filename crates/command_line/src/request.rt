@@ -1,11 +1,11 @@
-//! What words may ask for.
+//! What arguments may ask for.
 
 use flow_values::Items;
 
-/// What the words ask for.
+/// What the arguments ask for.
 #[derive(Debug, Drop)]
 pub enum Request<'a> {
-    /// `match [--whole] [--cap N] PATTERN`
+    /// `match [--whole] [--retained_limit N] PATTERN`
     Match(MatchRequest<'a>),
     /// `check`
     Check,
@@ -31,7 +31,7 @@ pub struct MatchRequest<'a> {
     /// Whether the input is one bundle, and not one on each line.
     pub whole: bool,
     /// How much may be live at once.
-    pub cap: u64,
+    pub retained_limit: u64,
     /// The text of the pattern.
     pub pattern: &'a str,
 }
@@ -64,9 +64,9 @@ pub struct CollectionRequest<'a> {
     pub title: &'a str,
 }
 
-/// Why words ask for nothing.
+/// Why arguments ask for nothing.
 #[derive(Clone, Copy, Debug, PartialEq, Eq)]
-pub enum WordsRefusal {
+pub enum ArgumentsRefusal {
     /// They are no command line.
     NoLine,
     /// Memory ran out.

@@ -8,7 +8,7 @@ ghost use Rattle.command_line.specs.CommandLines.{AreCollectionsOf, IsBase, IsFi
 ghost use Rattle.command_line.specs.CommandLines.{PlainCollection, PlainService};
 ghost use Rattle.command_line.specs.Request.{plain_collection, plain_service};
 ghost use Rattle.command_line.specs.declared.numbers.TheConstants.{MAX_PORT};
-ghost use Rattle.command_line.specs.inner.Rows.{IsNumberText, IsServeIn, IsTextOrNone, rows_in, words_at};
+ghost use Rattle.command_line.specs.inner.Rows.{IsNumberText, IsServeIn, IsTextOrNone, rows_in, arguments_at};
 
 use crate::base::is_base;
 use crate::collections::collection_of;
@@ -104,18 +104,18 @@ fn collections_in<'a>(
     names: &[&str],
 ) -> Result<Option<Items<CollectionRequest<'a>>>, NoMemory>
     ensures some { IfOk result (λ found. IfSome found (λ asked. AreCollectionsOf
-        (words_at (map (λ name. name.now) names.now) (rows_in values.now))
+        (arguments_at (map (λ name. name.now) names.now) (rows_in values.now))
         (map plain_collection asked))) }
     ensures none { IfOk result (λ found. IfNone found ((collections : List PlainCollection)
-        → ¬ AreCollectionsOf (words_at (map (λ name. name.now) names.now) (rows_in values.now))
+        → ¬ AreCollectionsOf (arguments_at (map (λ name. name.now) names.now) (rows_in values.now))
         collections)) }
 {
     let mut collections = Items::new(alloc);
     for name in names {
-        let Some(word) = value_of(values, name) else {
+        let Some(argument) = value_of(values, name) else {
             continue;
         };
-        let Some(collection) = collection_of(word) else {
+        let Some(collection) = collection_of(argument) else {
             return Ok(None);
         };
         collections.push(collection)?;

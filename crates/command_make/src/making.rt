@@ -5,9 +5,9 @@ ghost use Rattle.match_generator.specs.declared.log.TheConstants.{MAX_SEED, MAX_
 ghost use Rattle.pattern_reader.specs.Read.{IsReadAs};
 ghost use Rattle.command_make.specs.MakeEndings.{made_pattern, AreNumbersOf, numbers_text, EndsMake, StopsEarly, make_status};
 
-use command_line::DEFAULT_CAP;
+use command_line::DEFAULT_RETAINED_LIMIT;
 use command_reasons::{write_no_memory, write_write_fault};
-use flow_edges::{Sink, write_pieces, write_whole};
+use flow_edges::{Sink, write_all_vectored, write_whole};
 use flow_memory::QuietSink;
 use flow_values::Fault;
 use itoa::Buffer;
@@ -116,7 +116,7 @@ fn matched(alloc: Global, pattern: &Pattern, seed: u32, count: u32) -> Result<Nu
     ensures err { IfErr result (StopsEarly seed count) }
 {
     leaves_are_brackets();
-    let Ok(mut matcher) = Matcher::new(alloc, pattern, u64::from(DEFAULT_CAP)) else {
+    let Ok(mut matcher) = Matcher::new(alloc, pattern, u64::from(DEFAULT_RETAINED_LIMIT)) else {
         return Err(MakeEnding::NoMemory);
     };
     let mut log = GeneratedLog::new(seed, count);
@@ -135,7 +135,7 @@ fn matched(alloc: Global, pattern: &Pattern, seed: u32, count: u32) -> Result<Nu
         // Neither stream fails, and of 100,000 observations no more than 199,999 things are live.
         MatchEnd::ReadFault
         | MatchEnd::WriteFault
-        | MatchEnd::Crowded { .. }
+        | MatchEnd::OverLimit { .. }
         | MatchEnd::NoMemory => Err(MakeEnding::NoMemory),
     }
 }
@@ -165,7 +165,7 @@ fn write_texts<O: Sink>(
         ++ (codes " last " ++ (last.now ++ codes "\n")))))) (O.written output.old) (O.written output.new) result }
     ensures causes { Counted (IsErr result) (O.faults output.old) (O.faults output.new) }
 {
-    write_pieces(
+    write_all_vectored(
         output,
         &[
             b"observations ",

@@ -12,7 +12,7 @@ read_fault-status ended = (there ended, λ is. ap (λ (e : MatchEnd). match_stat
   there (end.Input line rule) is = absurd (omega arith)
   there end.ReadFault is = refl
   there end.WriteFault is = absurd (omega arith)
-  there (end.Crowded number cap) is = absurd (omega arith)
+  there (end.OverLimit number retained_limit) is = absurd (omega arith)
   there end.NoMemory is = absurd (omega arith)
 
 pub write_fault-status : (ended : MatchEnd) → (match_status (Ended ended) ≡ 6) ↔ (ended ≡ end.WriteFault)
@@ -22,5 +22,5 @@ write_fault-status ended = (there ended, λ is. ap (λ (e : MatchEnd). match_sta
   there (end.Input line rule) is = absurd (omega arith)
   there end.ReadFault is = absurd (omega arith)
   there end.WriteFault is = refl
-  there (end.Crowded number cap) is = absurd (omega arith)
+  there (end.OverLimit number retained_limit) is = absurd (omega arith)
   there end.NoMemory is = absurd (omega arith)

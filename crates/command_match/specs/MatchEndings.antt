@@ -10,7 +10,7 @@ use Rattle.match_run.specs.declared.match_end.MatchEnd.{MatchEnd}
 use Rattle.match_run.specs.declared.match_end.MatchEnd.TheVariants as end
 use Rattle.command_match.specs.declared.matching.MatchEnding.{MatchEnding}
 use Rattle.command_match.specs.declared.matching.MatchEnding.TheVariants.{PatternRefused, Ended, NoMemory}
-use Rattle.command_reasons.specs.Reasons.{IsRefusedPattern, pattern_reason, crowded_reason}
+use Rattle.command_reasons.specs.Reasons.{IsRefusedPattern, pattern_reason, over_limit_reason}
 use Rattle.command_match.specs.Tasks.{MatchTask}
 use Rattle.flow_edges.specs.Streams.{Streams, AreUntouched}
 
@@ -19,7 +19,7 @@ pub record MatchesInput (request : MatchTask) (before after : Streams) (ended : 
   pub pattern : Pattern
   pub read : IsReadAs request.pattern pattern
   pub matcher : MatcherState
-  pub answers : AnswersMatch request.mode pattern request.cap before after matcher ended
+  pub answers : AnswersMatch request.mode pattern request.retained_limit before after matcher ended
 
 abbrev pub EndsMatch : MatchTask → Streams → Streams → MatchEnding → Type 0
 EndsMatch request before after (PatternRefused refusal) = IsRefusedPattern request.pattern refusal × AreUntouched before after
@@ -34,7 +34,7 @@ match_status (PatternRefused refusal) = 3
 match_status (Ended (end.Input line rule)) = 4
 match_status (Ended end.ReadFault) = 5
 match_status (Ended end.WriteFault) = 6
-match_status (Ended (end.Crowded number cap)) = 7
+match_status (Ended (end.OverLimit number retained_limit)) = 7
 
 abbrev pub IsMatchReason : MatchEnding → List ℕ → Type 0
 IsMatchReason (Ended (end.Done observations bindings last)) text = text ≡ []
@@ -44,4 +44,4 @@ IsMatchReason (PatternRefused refusal) text = text ≡ pattern_reason refusal
 IsMatchReason (Ended (end.Input line rule)) text = IsInputRefusalText line rule text
 IsMatchReason (Ended end.ReadFault) text = text ≡ codes "read fault\n"
 IsMatchReason (Ended end.WriteFault) text = text ≡ codes "write fault\n"
-IsMatchReason (Ended (end.Crowded number cap)) text = text ≡ crowded_reason number cap
+IsMatchReason (Ended (end.OverLimit number retained_limit)) text = text ≡ over_limit_reason number retained_limit

@@ -12,9 +12,9 @@ mode_of false = Lines
 -- what a `match` is to do: how the input is cut, how much may be live, and the pattern
 pub record MatchTask : Type 0 where
   pub mode : Mode
-  pub cap : ℕ
+  pub retained_limit : ℕ
   pub pattern : List ℕ
 
 -- what is asked for
 abbrev pub request_of : MatchRequest → MatchTask
-request_of request = record { mode = mode_of request.whole; cap = request.cap; pattern = request.pattern.now }
+request_of request = record { mode = mode_of request.whole; retained_limit = request.retained_limit; pattern = request.pattern.now }

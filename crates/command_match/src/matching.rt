@@ -9,7 +9,7 @@ ghost use Rattle.command_match.specs.MatchEndings.{EndsMatch, match_status};
 
 use command_line::MatchRequest;
 use command_reasons::{
-    write_crowded, write_no_memory, write_pattern_reason, write_read_fault, write_write_fault,
+    write_over_limit, write_no_memory, write_pattern_reason, write_read_fault, write_write_fault,
 };
 use flow_edges::{Sink, Source, write_whole};
 use flow_values::{Fault, NoMemory};
@@ -45,7 +45,7 @@ impl MatchEnding {
             MatchEnding::Ended(MatchEnd::Input { .. }) => 4,
             MatchEnding::Ended(MatchEnd::ReadFault) => 5,
             MatchEnding::Ended(MatchEnd::WriteFault) => 6,
-            MatchEnding::Ended(MatchEnd::Crowded { .. }) => 7,
+            MatchEnding::Ended(MatchEnd::OverLimit { .. }) => 7,
             MatchEnding::Ended(MatchEnd::NoMemory) | MatchEnding::NoMemory => 1,
         }
     }
@@ -63,8 +63,8 @@ impl MatchEnding {
             }
             MatchEnding::Ended(MatchEnd::ReadFault) => write_read_fault(reasons),
             MatchEnding::Ended(MatchEnd::WriteFault) => write_write_fault(reasons),
-            MatchEnding::Ended(MatchEnd::Crowded { number, cap }) => {
-                write_crowded(*number, *cap, reasons)
+            MatchEnding::Ended(MatchEnd::OverLimit { number, retained_limit }) => {
+                write_over_limit(*number, *retained_limit, reasons)
             }
             MatchEnding::Ended(MatchEnd::NoMemory) | MatchEnding::NoMemory => {
                 write_no_memory(reasons)
@@ -89,7 +89,7 @@ fn match_pattern<I: Source, O: Sink>(
     ensures output { Counted (match_status result ≡ 6) (O.faults output.old) (O.faults output.new) }
 {
     leaves_are_brackets();
-    let mut matcher = match Matcher::new(alloc, pattern, request.cap) {
+    let mut matcher = match Matcher::new(alloc, pattern, request.retained_limit) {
         Ok(matcher) => matcher,
         Err(NoMemory) => return MatchEnding::NoMemory,
     };

@@ -1,15 +1,15 @@
--- What an ending says of the words, of the pages that came, and of what was lost.
+-- What an ending says of the arguments, of the pages that came, and of what was lost.
 use Rattle.std.proofs.Common.{◌≡◌, ◌≢◌, ◌⊎◌, ◌↔◌, inl, inr, ℕ, ◌+◌, ◌-◌, ◌^◌, ◌≤◌, min, List, [], ◌∷◌, ◌++◌, length, Option, None, Some, Ok, IfSome, unwrap_or, refl, sym, ap, subst, ◌∙◌, arith}
 use Rattle.std.proofs.lemmas.Bool.{cases_lt}
 use Rattle.std.proofs.lemmas.List.{append-nil}
 use Rattle.stix_json.specs.declared.entry.Entry.{Entry}
 use Rattle.taxii_rows.specs.StoreState.{StoreState}
-use Rattle.taxii_client.specs.Outside.{LinkView, DialView}
+use Rattle.taxii_client.specs.Environment.{LinkView, DialView}
 use Rattle.taxii_client.specs.Pulls.{PassThrough, InTurn as PagesInTurn}
 use Rattle.taxii_client.specs.declared.target.Target.{Target}
 use Rattle.taxii_client.specs.declared.fetch_end.FetchEnd.{FetchEnd}
-use Rattle.taxii_client.specs.declared.turn.Turn.{Turn}
-use Rattle.taxii_client.specs.declared.turn.Turn.TheVariants.{First}
+use Rattle.taxii_client.specs.declared.cursor.Cursor.{Cursor}
+use Rattle.taxii_client.specs.declared.cursor.Cursor.TheVariants.{First}
 use Rattle.taxii_store.specs.declared.load_refusal.LoadRefusal.TheVariants as Load
 use Rattle.taxii_client.specs.declared.store_refusal.StoreRefusal.TheVariants as Store
 use Rattle.command_mirror.specs.declared.ending.MirrorEnding.{MirrorEnding}
@@ -18,19 +18,19 @@ use Rattle.taxii_client.specs.declared.stop.CopyStop.{CopyStop}
 use Rattle.taxii_client.specs.declared.stop.CopyStop.TheVariants.{NotLoaded, NotFetched, NotAbsorbed}
 use Rattle.taxii_client.specs.declared.stop.FetchStop.TheVariants as Stop
 use Rattle.taxii_client.specs.Copying.{Copying}
-use Rattle.command_mirror.specs.Words.{AskForNothing}
+use Rattle.command_mirror.specs.Arguments.{AskForNothing}
 use Rattle.taxii_client.specs.Attempts.{Attempt, InTurn, undialled, links_of, lost_links, pages_of, entries_of, CountsDials}
-use Rattle.taxii_client.specs.Filling.{Outside}
-use Rattle.taxii_client.specs.Endings.{Stops, StopsLost, StopsAt, StopsShort, StopsBefore, WhyNot, Copies}
+use Rattle.taxii_client.specs.Filling.{Environment}
+use Rattle.taxii_client.specs.Endings.{Stops, StopsLost, StopsAt, StopsShort, StopsBefore, ExplainsStop, Copies}
 use Rattle.taxii_client.specs.declared.totals.Totals.{Totals}
 use Rattle.flow_edges.specs.Flow.{written_with, WritesPart}
 use Rattle.command_mirror.specs.Summary.{summary_text}
-use Rattle.command_mirror.specs.Endings.{EndsMirror, Concludes, AskSo, EndsWords, stop_status, mirror_status}
+use Rattle.command_mirror.specs.Endings.{EndsMirror, Concludes, AskSo, EndsArguments, stop_status, mirror_status}
 use Rattle.command_mirror.specs.Runs.{CopiesAll, LosesAll, HoldsMirrored}
 use Rattle.taxii_client.proofs.AttemptLemmas.{pages_turn, all_failed, lost_counts, undialled_lost, pages_same}
 
 abbrev no_rows : StoreState
-no_rows = record { rows = []; mark = 0 }
+no_rows = record { rows = []; watermark = 0 }
 
 -- the statuses of a copy that stopped
 stop_is : (stop : CopyStop) → (stop_status stop ≢ 0) × (stop_status stop ≢ 2) × (stop_status stop ≢ 6)
@@ -48,7 +48,7 @@ stop_is (NotAbsorbed Store.NoMemory) = (λ is. cc, λ is. cc, λ is. cc)
 pub stop_never_six : (stop : CopyStop) → stop_status stop ≢ 6
 stop_never_six stop = (stop_is stop).2
 
-module _ (L : Type 0) (view : L → LinkView) (before now : Outside L) (written written_now : Option (List ℕ)) where
+module _ (L : Type 0) (view : L → LinkView) (before now : Environment L) (written written_now : Option (List ℕ)) where
   pub no_usage : (asked : Copying) (ending : MirrorEnding) → EndsMirror view asked before now written written_now ending → mirror_status ending ≢ 2
   no_usage asked Usage ends is = absurd ends
   no_usage asked Done ends is = cc
@@ -56,18 +56,18 @@ module _ (L : Type 0) (view : L → LinkView) (before now : Outside L) (written 
   no_usage asked (Stopped stop) ends is = (stop_is stop).1 is
   no_usage asked NoMemory ends is = cc
 
-  pub usage_exactly : (words : List (List ℕ)) (ending : MirrorEnding) → EndsWords view words before now written written_now ending → (mirror_status ending ≡ 2) ↔ AskForNothing words
-  usage_exactly words ending (inl (nothing, is, same, told)) = (λ status. nothing, λ none. ap mirror_status is)
-  usage_exactly words ending (inr so) = (
+  pub usage_exactly : (arguments : List (List ℕ)) (ending : MirrorEnding) → EndsArguments view arguments before now written written_now ending → (mirror_status ending ≡ 2) ↔ AskForNothing arguments
+  usage_exactly arguments ending (inl (nothing, is, same, observable)) = (λ status. nothing, λ none. ap mirror_status is)
+  usage_exactly arguments ending (inr so) = (
     λ status. absurd (no_usage so.asked ending so.holds status),
-    λ nothing. absurd (nothing so.asked so.words_ask),
+    λ nothing. absurd (nothing so.asked so.arguments_ask),
   )
 
-  -- of the ending what holds of a copy holds where the words ask for one
-  pub of_copy : (Holds : Copying → Type 0) (words : List (List ℕ)) (ending : MirrorEnding) → EndsWords view words before now written written_now ending
-      → mirror_status ending ≢ 2 → ((asked : Copying) → EndsMirror view asked before now written written_now ending → Holds asked) → AskSo words Holds
-  of_copy Holds words ending (inl (nothing, is, same, told)) other says = absurd (other (ap mirror_status is))
-  of_copy Holds words ending (inr so) other says = record { asked = so.asked; words_ask = so.words_ask; holds = says so.asked so.holds }
+  -- of the ending what holds of a copy holds where the arguments ask for one
+  pub of_copy : (Holds : Copying → Type 0) (arguments : List (List ℕ)) (ending : MirrorEnding) → EndsArguments view arguments before now written written_now ending
+      → mirror_status ending ≢ 2 → ((asked : Copying) → EndsMirror view asked before now written written_now ending → Holds asked) → AskSo arguments Holds
+  of_copy Holds arguments ending (inl (nothing, is, same, observable)) other says = absurd (other (ap mirror_status is))
+  of_copy Holds arguments ending (inr so) other says = record { asked = so.asked; arguments_ask = so.arguments_ask; holds = says so.asked so.holds }
 
   -- what was told at the end of a copy
   pub concluded : (asked : Copying) (totals : Totals) (ending : MirrorEnding) → Copies view asked before now (Ok totals) → Concludes totals written written_now ending
@@ -83,14 +83,14 @@ module _ (L : Type 0) (view : L → LinkView) (before now : Outside L) (written 
   pub copies_all : (asked : Copying) (ending : MirrorEnding) → mirror_status ending ≡ 0 → EndsMirror view asked before now written written_now ending
       → CopiesAll view before now written written_now asked
   copies_all asked Usage is ends = absurd ends
-  copies_all asked Done is (copied, told) =
+  copies_all asked Done is (copied, observable) =
       let stops = copied.stops in
-      let turns = subst (λ (those : List (Attempt L)). InTurn view asked.target First those stops.turn) (append-nil stops.attempts) stops.in_turn in record {
+      let turns = subst (λ (those : List (Attempt L)). InTurn view asked.target First those stops.cursor) (append-nil stops.attempts) stops.in_turn in record {
         pages = pages_of stops.attempts;
-        pull = subst (λ (t : Turn). PagesInTurn view asked.target First (pages_of stops.attempts) t) copied.over (pages_turn view asked.target First stops.turn stops.attempts turns stops.go_on);
+        pull = subst (λ (t : Cursor). PagesInTurn view asked.target First (pages_of stops.attempts) t) copied.over (pages_turn view asked.target First stops.cursor stops.attempts turns stops.proceed);
         absorbed = stops.absorbed;
         fills = stops.fills;
-        summary = told;
+        summary = observable;
       }
   copies_all asked WriteFault is ends = absurd (cc is)
   copies_all asked (Stopped stop) is ends = absurd ((stop_is stop).0 is)
@@ -102,12 +102,12 @@ module _ (L : Type 0) (view : L → LinkView) (before now : Outside L) (written 
   loses asked lost =
       let stops = lost.stops in
       let attempts = stops.attempts in
-      let turns = subst (λ (those : List (Attempt L)). InTurn view asked.target First those stops.turn) (append-nil attempts) stops.in_turn in
+      let turns = subst (λ (those : List (Attempt L)). InTurn view asked.target First those stops.cursor) (append-nil attempts) stops.in_turn in
       let counts = subst (λ (those : List (Attempt L)). CountsDials (undialled those) before.dial.faults now.dial.faults) (append-nil attempts) stops.counts in
-      let all = lost_counts attempts (undialled_lost view asked.target First stops.turn attempts turns) in record {
+      let all = lost_counts attempts (undialled_lost view asked.target First stops.cursor attempts turns) in record {
         attempts = attempts;
-        through = subst (λ (those : List (Attempt L)). PassThrough asked.target (links_of those) before.dial.told now.dial.told) (append-nil attempts) stops.through;
-        failed = all_failed view asked.target First stops.turn attempts turns;
+        through = subst (λ (those : List (Attempt L)). PassThrough asked.target (links_of those) before.dial.observable now.dial.observable) (append-nil attempts) stops.through;
+        failed = all_failed view asked.target First stops.cursor attempts turns;
         all = lost.all;
         bound = within before.dial.faults (undialled attempts) now.dial.faults (length (lost_links attempts)) asked.tries counts.rose (omega (arith, all, lost.all));
       }
@@ -142,7 +142,7 @@ module _ (L : Type 0) (view : L → LinkView) (before now : Outside L) (written 
       → pages_of (stops.attempts ++ last) ≡ pages_of stops.attempts → length left ≤ 1 → (status ≢ 1 → status ≢ 9 → status ≢ 14 → left ≡ []) → HoldsMirrored view before now status asked
   holds_at asked status last left stops same few none = record {
     attempts = stops.attempts ++ last;
-    turn = stops.turn;
+    cursor = stops.cursor;
     in_turn = stops.in_turn;
     through = stops.through;
     absorbed = stops.absorbed;
@@ -169,49 +169,49 @@ module _ (L : Type 0) (view : L → LinkView) (before now : Outside L) (written 
       holds_at asked status [] (stops.entries ∷ []) stops.stops (ap pages_of (append-nil stops.stops.attempts)) (omega arith) (λ a b c. absurd (known a b c))
 
   -- no page was asked for
-  holds_none : (asked : Copying) (status : ℕ) → PassThrough asked.target [] before.dial.told before.dial.told → StopsBefore before now → HoldsMirrored view before now status asked
+  holds_none : (asked : Copying) (status : ℕ) → PassThrough asked.target [] before.dial.observable before.dial.observable → StopsBefore before now → HoldsMirrored view before now status asked
   holds_none asked status none stops = record {
     attempts = [];
-    turn = First;
+    cursor = First;
     in_turn = refl;
-    through = subst (λ (d : DialView L). PassThrough asked.target [] before.dial.told d.told) (sym stops.dial) none;
+    through = subst (λ (d : DialView L). PassThrough asked.target [] before.dial.observable d.observable) (sym stops.dial) none;
     absorbed = [];
     left = [];
     pages_are = refl;
     few = omega arith;
     none = λ a b c. refl;
-    first = unwrap_or before.kept.told no_rows;
-    loaded = loaded before.kept.told;
-    last = unwrap_or before.kept.told no_rows;
+    first = unwrap_or before.kept.observable no_rows;
+    loaded = loaded before.kept.observable;
+    last = unwrap_or before.kept.observable no_rows;
     mirrored = refl;
-    kept = subst (λ (told : Option StoreState). IfSome told (λ state. state ≡ unwrap_or before.kept.told no_rows)) (sym stops.rows) (kept before.kept.told);
+    kept = subst (λ (observable : Option StoreState). IfSome observable (λ state. state ≡ unwrap_or before.kept.observable no_rows)) (sym stops.rows) (kept before.kept.observable);
   }
     where
-      loaded : (told : Option StoreState) → IfSome told (λ state. unwrap_or told no_rows ≡ state)
+      loaded : (observable : Option StoreState) → IfSome observable (λ state. unwrap_or observable no_rows ≡ state)
       loaded None = tt
       loaded (Some state) = refl
 
-      kept : (told : Option StoreState) → IfSome told (λ state. state ≡ unwrap_or told no_rows)
+      kept : (observable : Option StoreState) → IfSome observable (λ state. state ≡ unwrap_or observable no_rows)
       kept None = tt
       kept (Some state) = refl
 
-  pub holds_mirrored : ((target : Target) → PassThrough target [] before.dial.told before.dial.told) → (asked : Copying) (ending : MirrorEnding)
+  pub holds_mirrored : ((target : Target) → PassThrough target [] before.dial.observable before.dial.observable) → (asked : Copying) (ending : MirrorEnding)
       → EndsMirror view asked before now written written_now ending → HoldsMirrored view before now (mirror_status ending) asked
   holds_mirrored none asked Usage ends = absurd ends
-  holds_mirrored none asked Done (copied, told) = holds_all asked 0 copied.stops
-  holds_mirrored none asked WriteFault (copied, told) = holds_all asked 6 copied.stops
-  holds_mirrored none asked (Stopped (NotLoaded Load.NoMemory)) (ends, told) = holds_none asked 1 (none asked.target) ends
-  holds_mirrored none asked (Stopped (NotLoaded Load.KeeperFault)) (ends, told) = holds_none asked 9 (none asked.target) ends
-  holds_mirrored none asked (Stopped (NotLoaded (Load.BadRow after))) (ends, told) = holds_none asked 10 (none asked.target) ends.0
-  holds_mirrored none asked (Stopped (NotFetched Stop.LinkLost)) (ends, told) = holds_all asked 5 ends.stops
-  holds_mirrored none asked (Stopped (NotFetched (Stop.Refused refusal))) (ends, told) = holds_end asked 11 _ ends
-  holds_mirrored none asked (Stopped (NotFetched Stop.TooManyPages)) (ends, told) = holds_all asked 13 ends.stops
-  holds_mirrored none asked (Stopped (NotFetched Stop.NoMemory)) (ends, told) = holds_end asked 1 _ ends
-  holds_mirrored none asked (Stopped (NotAbsorbed Store.DatesUsedUp)) (ends, told) = holds_short asked 14 (WhyNot asked Store.DatesUsedUp) ends (λ a b c. c refl)
-  holds_mirrored none asked (Stopped (NotAbsorbed Store.Fault)) (ends, told) = holds_short asked 9 (WhyNot asked Store.Fault) ends (λ a b c. b refl)
-  holds_mirrored none asked (Stopped (NotAbsorbed Store.NoMemory)) (ends, told) = holds_short asked 1 (WhyNot asked Store.NoMemory) ends (λ a b c. a refl)
-  holds_mirrored none asked NoMemory (same, told) = holds_none asked 1 (none asked.target) (record {
-    dial = ap (λ (o : Outside L). o.dial) same;
-    rows = ap (λ (o : Outside L). o.kept.told) same;
-    moments = ap (λ (o : Outside L). o.moments) same;
+  holds_mirrored none asked Done (copied, observable) = holds_all asked 0 copied.stops
+  holds_mirrored none asked WriteFault (copied, observable) = holds_all asked 6 copied.stops
+  holds_mirrored none asked (Stopped (NotLoaded Load.NoMemory)) (ends, observable) = holds_none asked 1 (none asked.target) ends
+  holds_mirrored none asked (Stopped (NotLoaded Load.KeeperFault)) (ends, observable) = holds_none asked 9 (none asked.target) ends
+  holds_mirrored none asked (Stopped (NotLoaded (Load.BadRow after))) (ends, observable) = holds_none asked 10 (none asked.target) ends.0
+  holds_mirrored none asked (Stopped (NotFetched Stop.LinkLost)) (ends, observable) = holds_all asked 5 ends.stops
+  holds_mirrored none asked (Stopped (NotFetched (Stop.Refused refusal))) (ends, observable) = holds_end asked 11 _ ends
+  holds_mirrored none asked (Stopped (NotFetched Stop.TooManyPages)) (ends, observable) = holds_all asked 13 ends.stops
+  holds_mirrored none asked (Stopped (NotFetched Stop.NoMemory)) (ends, observable) = holds_end asked 1 _ ends
+  holds_mirrored none asked (Stopped (NotAbsorbed Store.DatesUsedUp)) (ends, observable) = holds_short asked 14 (ExplainsStop asked Store.DatesUsedUp) ends (λ a b c. c refl)
+  holds_mirrored none asked (Stopped (NotAbsorbed Store.Fault)) (ends, observable) = holds_short asked 9 (ExplainsStop asked Store.Fault) ends (λ a b c. b refl)
+  holds_mirrored none asked (Stopped (NotAbsorbed Store.NoMemory)) (ends, observable) = holds_short asked 1 (ExplainsStop asked Store.NoMemory) ends (λ a b c. a refl)
+  holds_mirrored none asked NoMemory (same, observable) = holds_none asked 1 (none asked.target) (record {
+    dial = ap (λ (o : Environment L). o.dial) same;
+    rows = ap (λ (o : Environment L). o.kept.observable) same;
+    moments = ap (λ (o : Environment L). o.moments) same;
   })

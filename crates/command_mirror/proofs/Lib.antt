@@ -1,3 +1,3 @@
-mod WordLemmas
+mod ArgumentLemmas
 mod CauseLemmas
 mod EndLemmas

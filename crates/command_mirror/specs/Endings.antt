@@ -1,11 +1,11 @@
--- What an ending says of what was asked for and of the outside; its status, and its reason.
+-- What an ending says of what was asked for and of the environment; its status, and its reason.
 use Rattle.std.specs.Prelude.{◌≡◌, ◌⊎◌, ℕ, List, [], codes, Option}
 use Rattle.flow_edges.specs.Flow.{written_with, WritesPart}
-use Rattle.taxii_client.specs.Outside.{LinkView}
+use Rattle.taxii_client.specs.Environment.{LinkView}
 use Rattle.taxii_store.specs.declared.load_refusal.LoadRefusal.TheVariants as Load
 use Rattle.taxii_client.specs.declared.store_refusal.StoreRefusal.TheVariants as Store
 use Rattle.taxii_client.specs.Copying.{Copying}
-use Rattle.taxii_client.specs.Filling.{Outside}
+use Rattle.taxii_client.specs.Filling.{Environment}
 use Rattle.taxii_client.specs.Totals.{totals_of}
 use Rattle.taxii_client.specs.Endings.{StopsBehind, EndsCopy}
 use Rattle.taxii_client.specs.declared.stop.CopyStop.{CopyStop}
@@ -18,11 +18,11 @@ use Rattle.taxii_rows.specs.Causes.{text_of}
 use Rattle.command_reasons.specs.Reasons.{bad_row_reason, store_fault_reason}
 use Rattle.command_mirror.specs.declared.ending.MirrorEnding.{MirrorEnding}
 use Rattle.command_mirror.specs.declared.ending.MirrorEnding.TheVariants.{Usage, Done, WriteFault, Stopped, NoMemory}
-use Rattle.command_mirror.specs.Words.{AskFor, AskForNothing}
+use Rattle.command_mirror.specs.Arguments.{AskFor, AskForNothing}
 use Rattle.command_mirror.specs.Summary.{summary_text}
 
 -- what an ending says of a copy, and of what was written
-abbrev pub EndsMirror : {L : Type 0} → (L → LinkView) → Copying → Outside L → Outside L → Option (List ℕ) → Option (List ℕ) → MirrorEnding → Type 0
+abbrev pub EndsMirror : {L : Type 0} → (L → LinkView) → Copying → Environment L → Environment L → Option (List ℕ) → Option (List ℕ) → MirrorEnding → Type 0
 EndsMirror view asked before now written written_now Usage = ⊥
 EndsMirror view asked before now written written_now Done =
     (copied : StopsBehind view asked before now) × (written_now ≡ written_with (summary_text (totals_of copied.stops.absorbed)) written)
@@ -31,17 +31,17 @@ EndsMirror view asked before now written written_now WriteFault =
 EndsMirror view asked before now written written_now (Stopped stop) = EndsCopy view asked before now stop × (written_now ≡ written)
 EndsMirror view asked before now written written_now NoMemory = (now ≡ before) × (written_now ≡ written)
 
--- the words ask for a copy, of which that holds
-pub record AskSo (words : List (List ℕ)) (Holds : Copying → Type 0) : Type 0 where
+-- the arguments ask for a copy, of which that holds
+pub record AskSo (arguments : List (List ℕ)) (Holds : Copying → Type 0) : Type 0 where
   pub asked : Copying
-  pub words_ask : AskFor words asked
+  pub arguments_ask : AskFor arguments asked
   pub holds : Holds asked
 
--- the words ask for nothing, and that is the ending; or they ask for a copy, of which it says that
-abbrev pub EndsWords : {L : Type 0} → (L → LinkView) → List (List ℕ) → Outside L → Outside L → Option (List ℕ) → Option (List ℕ) → MirrorEnding → Type 0
-EndsWords view words before now written written_now ending =
-    (AskForNothing words × (ending ≡ Usage) × (now ≡ before) × (written_now ≡ written))
-    ⊎ AskSo words (λ asked. EndsMirror view asked before now written written_now ending)
+-- the arguments ask for nothing, and that is the ending; or they ask for a copy, of which it says that
+abbrev pub EndsArguments : {L : Type 0} → (L → LinkView) → List (List ℕ) → Environment L → Environment L → Option (List ℕ) → Option (List ℕ) → MirrorEnding → Type 0
+EndsArguments view arguments before now written written_now ending =
+    (AskForNothing arguments × (ending ≡ Usage) × (now ≡ before) × (written_now ≡ written))
+    ⊎ AskSo arguments (λ asked. EndsMirror view asked before now written written_now ending)
 
 -- ---- statuses and reasons
 

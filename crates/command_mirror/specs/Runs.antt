@@ -4,30 +4,30 @@ use Rattle.flow_edges.specs.Flow.{written_with}
 use Rattle.stix_json.specs.declared.entry.Entry.{Entry}
 use Rattle.taxii_rows.specs.declared.fault_cause.FaultCause.{FaultCause}
 use Rattle.taxii_rows.specs.StoreState.{StoreState}
-use Rattle.taxii_client.specs.Outside.{LinkView}
+use Rattle.taxii_client.specs.Environment.{LinkView}
 use Rattle.taxii_client.specs.Pulls.{Page, PassThrough, IsPull}
-use Rattle.taxii_client.specs.declared.turn.Turn.{Turn}
-use Rattle.taxii_client.specs.declared.turn.Turn.TheVariants.{First, Over}
+use Rattle.taxii_client.specs.declared.cursor.Cursor.{Cursor}
+use Rattle.taxii_client.specs.declared.cursor.Cursor.TheVariants.{First, Over}
 use Rattle.taxii_client.specs.Absorbing.{Absorbed}
 use Rattle.taxii_client.specs.Mirrored.{Mirrored}
 use Rattle.command_mirror.specs.declared.ending.MirrorEnding.{MirrorEnding}
 use Rattle.taxii_client.specs.Copying.{Copying}
 use Rattle.taxii_client.specs.Attempts.{Attempt, InTurn, losses, links_of, lost_links, pages_of, entries_of, LinkFailed}
-use Rattle.taxii_client.specs.Filling.{Outside, Fills}
+use Rattle.taxii_client.specs.Filling.{Environment, Fills}
 use Rattle.taxii_client.specs.Totals.{totals_of}
 use Rattle.command_mirror.specs.Summary.{summary_text}
-use Rattle.command_mirror.specs.Endings.{EndsWords, mirror_status, reason_of}
+use Rattle.command_mirror.specs.Endings.{EndsArguments, mirror_status, reason_of}
 
 -- the program ended in one of its ways, with that status and that reason; `cause` is why the keeper failed, if it did
-pub record Ends {L : Type 0} (view : L → LinkView) (words : List (List ℕ)) (before now : Outside L) (written written_now : Option (List ℕ)) (status : ℕ)
+pub record Ends {L : Type 0} (view : L → LinkView) (arguments : List (List ℕ)) (before now : Environment L) (written written_now : Option (List ℕ)) (status : ℕ)
     (cause : FaultCause) (Writes : List ℕ → Type 0) : Type 0 where
   pub ending : MirrorEnding
   pub status_is : status ≡ mirror_status ending
-  pub stands : EndsWords view words before now written written_now ending
+  pub stands : EndsArguments view arguments before now written written_now ending
   pub reason : Writes (reason_of cause ending)
 
 -- the pages that came are a pull of all that was asked for, all were absorbed, and the summary of that was written
-pub record CopiesAll {L : Type 0} (view : L → LinkView) (before now : Outside L) (written written_now : Option (List ℕ)) (asked : Copying) : Type 0 where
+pub record CopiesAll {L : Type 0} (view : L → LinkView) (before now : Environment L) (written written_now : Option (List ℕ)) (asked : Copying) : Type 0 where
   pub pages : List (Page L)
   pub pull : IsPull view asked.target pages Over
   pub absorbed : List Absorbed
@@ -36,27 +36,27 @@ pub record CopiesAll {L : Type 0} (view : L → LinkView) (before now : Outside 
 
 -- as many attempts were lost as may be: by a link of this run that failed or whose bytes ended inside its reply, or by the dial, whose
 -- count rose by as many as the others are. That is known of a count only before it ends
-pub record LosesAll {L : Type 0} (view : L → LinkView) (before now : Outside L) (asked : Copying) : Type 0 where
+pub record LosesAll {L : Type 0} (view : L → LinkView) (before now : Environment L) (asked : Copying) : Type 0 where
   pub attempts : List (Attempt L)
-  pub through : PassThrough asked.target (links_of attempts) before.dial.told now.dial.told
+  pub through : PassThrough asked.target (links_of attempts) before.dial.observable now.dial.observable
   pub failed : All (LinkFailed view) (lost_links attempts)
   pub all : losses attempts ≡ asked.tries
   pub bound : (2 ^ 64 - 1 ≤ now.dial.faults) ⊎ (before.dial.faults + asked.tries ≤ now.dial.faults + length (lost_links attempts))
 
 -- the keeper has what the pages of all replies, in order, make of the rows that it had; at 9 and 14 perhaps without the last page, and at 1
 -- with it or without it
-pub record HoldsMirrored {L : Type 0} (view : L → LinkView) (before now : Outside L) (status : ℕ) (asked : Copying) : Type 0 where
+pub record HoldsMirrored {L : Type 0} (view : L → LinkView) (before now : Environment L) (status : ℕ) (asked : Copying) : Type 0 where
   pub attempts : List (Attempt L)
-  pub turn : Turn
-  pub in_turn : InTurn view asked.target First attempts turn
-  pub through : PassThrough asked.target (links_of attempts) before.dial.told now.dial.told
+  pub cursor : Cursor
+  pub in_turn : InTurn view asked.target First attempts cursor
+  pub through : PassThrough asked.target (links_of attempts) before.dial.observable now.dial.observable
   pub absorbed : List Absorbed
   pub left : List (List Entry)
   pub pages_are : entries_of (pages_of attempts) ≡ map (λ page. page.entries) absorbed ++ left
   pub few : length left ≤ 1
   pub none : status ≢ 1 → status ≢ 9 → status ≢ 14 → left ≡ []
   pub first : StoreState
-  pub loaded : IfSome before.kept.told (λ state. first ≡ state)
+  pub loaded : IfSome before.kept.observable (λ state. first ≡ state)
   pub last : StoreState
   pub mirrored : Mirrored asked.target.collection first absorbed last
-  pub kept : IfSome now.kept.told (λ state. state ≡ last)
+  pub kept : IfSome now.kept.observable (λ state. state ≡ last)

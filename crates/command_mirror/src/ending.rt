@@ -15,7 +15,7 @@ use taxii_store::LoadRefusal;
 /// How the program ends.
 #[derive(Debug, Drop)]
 pub enum MirrorEnding {
-    /// The words ask for nothing.
+    /// The arguments ask for nothing.
     Usage,
     /// All pages were absorbed, and that was told.
     Done,
@@ -97,7 +97,7 @@ fn write_stop<S: Sink>(stop: &CopyStop, cause: FaultCause, reasons: &mut S) -> R
     }
 }
 
-/// Writes what the words are.
+/// Writes what the arguments are.
 fn write_usage<S: Sink>(reasons: &mut S) -> Result<(), Fault>
     ensures text { WritesWhole (codes "usage: stix_mirror HOST PORT ROOT COLLECTION FILE TRIES [--since TIME]\n") (S.written reasons.old) (S.written reasons.new) result }
     ensures causes { Counted (IsErr result) (S.faults reasons.old) (S.faults reasons.new) }

@@ -1,11 +1,11 @@
-//! The mirror: a collection of a TAXII 2.1 server copied page by page into a store, as words ask for it. A page that
+//! The mirror: a collection of a TAXII 2.1 server copied page by page into a store, as arguments ask for it. A page that
 //! is lost on its way is asked for again, and none is absorbed twice.
 #![tactic(auto)]
 
 mod ending;
 mod run;
 mod summary;
-mod words;
+mod arguments;
 
 pub use ending::MirrorEnding;
 pub use run::run_mirror;

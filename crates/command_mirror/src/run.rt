@@ -1,22 +1,22 @@
 ghost use Rattle.std.specs.Prelude.{◌≡◌, ◌↔◌, ◌≤◌};
 ghost use Rattle.flow_edges.specs.Faults.{Counted};
 ghost use Rattle.command_line.specs.CommandLines.{texts};
-ghost use Rattle.taxii_client.specs.Outside.{link_view};
+ghost use Rattle.taxii_client.specs.Environment.{link_view};
 ghost use Rattle.command_reasons.specs.Reasons.{WritesReason};
-ghost use Rattle.command_peer.specs.Words.{IsHost};
-ghost use Rattle.command_mirror.specs.Words.{AskForNothing, copying_of};
-ghost use Rattle.taxii_client.specs.Filling.{outside};
-ghost use Rattle.command_mirror.specs.Endings.{AskSo, Concludes, EndsMirror, EndsWords, mirror_status, reason_of};
+ghost use Rattle.command_peer.specs.Arguments.{IsHost};
+ghost use Rattle.command_mirror.specs.Arguments.{AskForNothing, copying_of};
+ghost use Rattle.taxii_client.specs.Filling.{environment};
+ghost use Rattle.command_mirror.specs.Endings.{AskSo, Concludes, EndsMirror, EndsArguments, mirror_status, reason_of};
 ghost use Rattle.command_mirror.specs.Runs.{Ends, CopiesAll, LosesAll, HoldsMirrored};
 
 use crate::ending::MirrorEnding;
 use crate::summary::write_summary;
-use crate::words::{MirrorRequest, read_request};
+use crate::arguments::{MirrorRequest, read_request};
 use flow_edges::Sink;
 use flow_links::{Clock, Dial};
 use flow_values::NoMemory;
 use std::alloc::Global;
-use taxii_client::pull_laws::pulls_go_on;
+use taxii_client::pull_laws::pulls_continue;
 use taxii_client::{Totals, copy};
 use taxii_rows::{FaultCause, Keeper};
 
@@ -43,8 +43,8 @@ fn answer<D: Dial, K: Keeper, C: Clock, O: Sink>(
     requires host { IsHost request.now.peer.host.now }
     requires tries { 1 ≤ request.now.store.tries }
     ensures ends { EndsMirror (link_view D.Link.left D.Link.written D.Link.Source.faults D.Link.Sink.faults) (copying_of request.now)
-        (outside (D.told dial.old) (D.faults dial.old) (K.kept keeper.old) (C.moments clock.old))
-        (outside (D.told dial.new) (D.faults dial.new) (K.kept keeper.new) (C.moments clock.new)) (O.written output.old) (O.written output.new) result }
+        (environment (D.observable dial.old) (D.faults dial.old) (K.kept keeper.old) (C.moments clock.old))
+        (environment (D.observable dial.new) (D.faults dial.new) (K.kept keeper.new) (C.moments clock.new)) (O.written output.old) (O.written output.new) result }
     ensures store { Counted (mirror_status result ≡ 9) (K.faults keeper.old) (K.faults keeper.new) }
     ensures output { Counted (mirror_status result ≡ 6) (O.faults output.old) (O.faults output.new) }
 {
@@ -66,37 +66,37 @@ fn answer<D: Dial, K: Keeper, C: Clock, O: Sink>(
     }
 }
 
-/// Does what the words ask for.
-fn obey<D: Dial, K: Keeper, C: Clock, O: Sink>(
+/// Does what the arguments ask for.
+fn execute<D: Dial, K: Keeper, C: Clock, O: Sink>(
     alloc: Global,
-    words: &[String],
+    arguments: &[String],
     dial: &mut D,
     keeper: &mut K,
     clock: &mut C,
     output: &mut O,
 ) -> MirrorEnding
-    ensures ends { EndsWords (link_view D.Link.left D.Link.written D.Link.Source.faults D.Link.Sink.faults) (texts words.now)
-        (outside (D.told dial.old) (D.faults dial.old) (K.kept keeper.old) (C.moments clock.old))
-        (outside (D.told dial.new) (D.faults dial.new) (K.kept keeper.new) (C.moments clock.new)) (O.written output.old) (O.written output.new) result }
+    ensures ends { EndsArguments (link_view D.Link.left D.Link.written D.Link.Source.faults D.Link.Sink.faults) (texts arguments.now)
+        (environment (D.observable dial.old) (D.faults dial.old) (K.kept keeper.old) (C.moments clock.old))
+        (environment (D.observable dial.new) (D.faults dial.new) (K.kept keeper.new) (C.moments clock.new)) (O.written output.old) (O.written output.new) result }
     ensures untouched { mirror_status result ≡ 2 → (dial.new ≡ dial.old) × (keeper.new ≡ keeper.old) × (clock.new ≡ clock.old) × (output.new ≡ output.old) }
     ensures store { Counted (mirror_status result ≡ 9) (K.faults keeper.old) (K.faults keeper.new) }
     ensures output { Counted (mirror_status result ≡ 6) (O.faults output.old) (O.faults output.new) }
 {
-    match read_request(words) {
+    match read_request(arguments) {
         Some(request) => answer(alloc, &request, dial, keeper, clock, output),
         None => MirrorEnding::Usage,
     }
 }
 
-/// The program: copies the collection that the words after its name ask for into the store of a file, page by page,
+/// The program: copies the collection that the arguments after its name ask for into the store of a file, page by page,
 /// and answers its status.
 ///
 /// | Status | Comes |
 /// |---|---|
 /// | 0 | the last page came, all were absorbed, and that was told |
 /// | 1 | memory ran out |
-/// | 2 | exactly where the words ask for nothing |
-/// | 5 | exactly where as many fetches were lost as the words say |
+/// | 2 | exactly where the arguments ask for nothing |
+/// | 5 | exactly where as many fetches were lost as the arguments say |
 /// | 6 | only where the output counted a fault, and at each fault of it |
 /// | 9 | only where the keeper counted a fault, and at each fault of it |
 /// | 10 | exactly where a row of the file is bad |
@@ -108,33 +108,33 @@ fn obey<D: Dial, K: Keeper, C: Clock, O: Sink>(
 /// reason is told on `faults`; a failing write there changes nothing else.
 pub fn run_mirror<D: Dial, K: Keeper, C: Clock, O: Sink, E: Sink>(
     alloc: Global,
-    words: &[String],
+    arguments: &[String],
     dial: &mut D,
     keeper: &mut K,
     clock: &mut C,
     output: &mut O,
     faults: &mut E,
 ) -> u8
-    ensures ends { Ends (link_view D.Link.left D.Link.written D.Link.Source.faults D.Link.Sink.faults) (texts words.now)
-        (outside (D.told dial.old) (D.faults dial.old) (K.kept keeper.old) (C.moments clock.old))
-        (outside (D.told dial.new) (D.faults dial.new) (K.kept keeper.new) (C.moments clock.new)) (O.written output.old) (O.written output.new) result (K.blamed keeper.new)
+    ensures ends { Ends (link_view D.Link.left D.Link.written D.Link.Source.faults D.Link.Sink.faults) (texts arguments.now)
+        (environment (D.observable dial.old) (D.faults dial.old) (K.kept keeper.old) (C.moments clock.old))
+        (environment (D.observable dial.new) (D.faults dial.new) (K.kept keeper.new) (C.moments clock.new)) (O.written output.old) (O.written output.new) result (K.last_cause keeper.new)
         (λ reason. WritesReason reason (E.written faults.old) (E.written faults.new) (E.faults faults.old) (E.faults faults.new)) }
-    ensures refusals { (result ≡ 2) ↔ AskForNothing (texts words.now) }
+    ensures refusals { (result ≡ 2) ↔ AskForNothing (texts arguments.now) }
     ensures untouched { result ≡ 2 → (dial.new ≡ dial.old) × (keeper.new ≡ keeper.old) × (clock.new ≡ clock.old) × (output.new ≡ output.old) }
-    ensures all { result ≡ 0 → AskSo (texts words.now) (CopiesAll (link_view D.Link.left D.Link.written D.Link.Source.faults D.Link.Sink.faults)
-        (outside (D.told dial.old) (D.faults dial.old) (K.kept keeper.old) (C.moments clock.old))
-        (outside (D.told dial.new) (D.faults dial.new) (K.kept keeper.new) (C.moments clock.new)) (O.written output.old) (O.written output.new)) }
-    ensures lost { result ≡ 5 → AskSo (texts words.now) (LosesAll (link_view D.Link.left D.Link.written D.Link.Source.faults D.Link.Sink.faults)
-        (outside (D.told dial.old) (D.faults dial.old) (K.kept keeper.old) (C.moments clock.old))
-        (outside (D.told dial.new) (D.faults dial.new) (K.kept keeper.new) (C.moments clock.new))) }
-    ensures mirrored { ¬ (result ≡ 2) → AskSo (texts words.now) (HoldsMirrored (link_view D.Link.left D.Link.written D.Link.Source.faults D.Link.Sink.faults)
-        (outside (D.told dial.old) (D.faults dial.old) (K.kept keeper.old) (C.moments clock.old))
-        (outside (D.told dial.new) (D.faults dial.new) (K.kept keeper.new) (C.moments clock.new)) result) }
+    ensures all { result ≡ 0 → AskSo (texts arguments.now) (CopiesAll (link_view D.Link.left D.Link.written D.Link.Source.faults D.Link.Sink.faults)
+        (environment (D.observable dial.old) (D.faults dial.old) (K.kept keeper.old) (C.moments clock.old))
+        (environment (D.observable dial.new) (D.faults dial.new) (K.kept keeper.new) (C.moments clock.new)) (O.written output.old) (O.written output.new)) }
+    ensures lost { result ≡ 5 → AskSo (texts arguments.now) (LosesAll (link_view D.Link.left D.Link.written D.Link.Source.faults D.Link.Sink.faults)
+        (environment (D.observable dial.old) (D.faults dial.old) (K.kept keeper.old) (C.moments clock.old))
+        (environment (D.observable dial.new) (D.faults dial.new) (K.kept keeper.new) (C.moments clock.new))) }
+    ensures mirrored { ¬ (result ≡ 2) → AskSo (texts arguments.now) (HoldsMirrored (link_view D.Link.left D.Link.written D.Link.Source.faults D.Link.Sink.faults)
+        (environment (D.observable dial.old) (D.faults dial.old) (K.kept keeper.old) (C.moments clock.old))
+        (environment (D.observable dial.new) (D.faults dial.new) (K.kept keeper.new) (C.moments clock.new)) result) }
     ensures store { Counted (result ≡ 9) (K.faults keeper.old) (K.faults keeper.new) }
     ensures output { Counted (result ≡ 6) (O.faults output.old) (O.faults output.new) }
 {
-    pulls_go_on::<D>();
-    let ending = obey(alloc, words, dial, keeper, clock, output);
+    pulls_continue::<D>();
+    let ending = execute(alloc, arguments, dial, keeper, clock, output);
     finish(&ending, keeper.cause(), faults)
 }
 

@@ -3,7 +3,7 @@ ghost use Rattle.flow_edges.specs.Faults.{Counted};
 ghost use Rattle.flow_edges.specs.Flow.{WritesWhole, WritesPart};
 ghost use Rattle.command_mirror.specs.Summary.{counts_text, summary_text};
 
-use flow_edges::{Sink, write_pieces};
+use flow_edges::{Sink, write_all_vectored};
 use flow_values::Fault;
 use itoa::Buffer;
 use taxii_client::Totals;
@@ -37,7 +37,7 @@ fn write_counts<O: Sink>(
     ensures part { OnErr result (WritesPart (counts_text pages.now added.now present.now skipped.now) (O.written output.old) (O.written output.new)) }
     ensures causes { Counted (IsErr result) (O.faults output.old) (O.faults output.new) }
 {
-    write_pieces(
+    write_all_vectored(
         output,
         &[
             b"pages ",

@@ -1,7 +1,7 @@
 //! The forms of a host and of a root.
 
 ghost use Rattle.std.specs.Prelude.{◌≡◌, ◌↔◌, ◌++◌, List, ℕ, All, IsTrue, codes};
-ghost use Rattle.command_peer.specs.Words.{IsHost, IsHostByte, IsRoot, IsRootByte};
+ghost use Rattle.command_peer.specs.Arguments.{IsHost, IsHostByte, IsRoot, IsRootByte};
 
 use flow_links::MAX_HOST;
 

@@ -4,7 +4,7 @@ ghost use Rattle.flow_edges.specs.Flow.{WritesWhole};
 ghost use Rattle.taxii_client.specs.declared.reply_refusal.ReplyRefusal.TheVariants.{Status};
 ghost use Rattle.command_peer.specs.Refusal.{peer_reason};
 
-use flow_edges::{Sink, write_pieces, write_whole};
+use flow_edges::{Sink, write_all_vectored, write_whole};
 use flow_values::Fault;
 use itoa::Buffer;
 use taxii_client::ReplyRefusal;
@@ -31,5 +31,5 @@ fn write_status<S: Sink>(code: u16, reasons: &mut S) -> Result<(), Fault>
 {
     let mut buffer = Buffer::new();
     let code = buffer.format(code);
-    write_pieces(reasons, &[b"peer refused: Status ", code.as_bytes(), b"\n"])
+    write_all_vectored(reasons, &[b"peer refused: Status ", code.as_bytes(), b"\n"])
 }

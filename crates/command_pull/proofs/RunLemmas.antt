@@ -3,43 +3,43 @@ use Rattle.std.proofs.Common.{◌≡◌, inl, inr, ℕ, ◌+◌, ◌≤◌, ◌<
 use Rattle.std.proofs.lemmas.List.{append-nil}
 use Rattle.std.specs.Prelude.{All, fold}
 use Rattle.command_reasons.proofs.WritesWholeLemmas.{after_part}
-use Rattle.flow_edges.specs.Faults.{Rose}
+use Rattle.flow_edges.specs.Faults.{HasIncreased}
 use Rattle.flow_edges.specs.Flow.{written_with, WritesPrefix}
 use Rattle.flow_links.specs.Dials.{DialState}
 use Rattle.stix_json.specs.declared.entry.Entry.{Entry}
-use Rattle.taxii_client.specs.Outside.{LinkView, DialView}
+use Rattle.taxii_client.specs.Environment.{LinkView, DialView}
 use Rattle.taxii_client.specs.Fetches.{Fetched}
-use Rattle.taxii_client.specs.Pulls.{PullState, Lent, Page, PassThrough, IsPageAt, IsPull, turn_after, AsksFor, GivesPage, Dials, Answers}
+use Rattle.taxii_client.specs.Pulls.{PullState, Lent, Page, PassThrough, IsPageAt, IsPull, cursor_after, AsksFor, GivesPage, Dials, Answers}
 use Rattle.taxii_client.specs.declared.fetch_end.FetchEnd.{FetchEnd}
 use Rattle.taxii_client.specs.declared.fetch_end.FetchEnd.TheVariants as Fetch
 use Rattle.taxii_client.specs.declared.page_end.PageEnd.{PageEnd}
 use Rattle.taxii_client.specs.declared.page_end.PageEnd.TheVariants as End
 use Rattle.taxii_client.specs.declared.pull.TheConstants.{MAX_PAGES}
 use Rattle.taxii_client.specs.declared.target.Target.{Target}
-use Rattle.taxii_client.specs.declared.turn.Turn.{Turn}
-use Rattle.taxii_client.specs.declared.turn.Turn.TheVariants.{First}
+use Rattle.taxii_client.specs.declared.cursor.Cursor.{Cursor}
+use Rattle.taxii_client.specs.declared.cursor.Cursor.TheVariants.{First}
 use Rattle.command_pull.specs.declared.ending.PullEnding.TheVariants.{Lost}
 use Rattle.taxii_client.specs.Telling.{told_of, told_of_pages, bad_in, bad_in_pages, IsWritable}
-use Rattle.command_pull.specs.Pulling.{Outside, links_of, Pulls, WritesPages, DialIsQuiet, StopsAsking, StopsBehind, StopsWriting}
+use Rattle.command_pull.specs.Pulling.{Environment, links_of, Pulls, WritesPages, DialIsQuiet, StopsAsking, StopsBehind, StopsWriting}
 use Rattle.command_pull.specs.Endings.{EndsPull, AreTooFew}
 use Rattle.command_pull.proofs.WritingLemmas.{all-writable, written-none, written-more}
 
 -- these pages came, all were written, and the walk stands behind them
-pub record RunsSo {L : Type 0} (view : L → LinkView) (target : Target) (before now : Outside L) (state : PullState) (skipped : ℕ) : Type 0 where
+pub record RunsSo {L : Type 0} (view : L → LinkView) (target : Target) (before now : Environment L) (state : PullState) (skipped : ℕ) : Type 0 where
   pub pages : List (Page L)
-  pub pulls : Pulls view target before now pages state.turn [] skipped
+  pub pulls : Pulls view target before now pages state.cursor [] skipped
   pub quiet : DialIsQuiet before now
   pub writes : WritesPages pages before now
   pub target_is : state.target ≡ target
   pub count : state.pages ≡ length pages
 
-pub run-start : (L : Type 0) (view : L → LinkView) (target : Target) (outside : Outside L)
-    → PassThrough target [] outside.dial.told outside.dial.told → RunsSo view target outside outside (record { target = target; turn = First; pages = 0 }) 0
-run-start L view target outside none = record {
+pub run-start : (L : Type 0) (view : L → LinkView) (target : Target) (environment : Environment L)
+    → PassThrough target [] environment.dial.observable environment.dial.observable → RunsSo view target environment environment (record { target = target; cursor = First; pages = 0 }) 0
+run-start L view target environment none = record {
   pages = [];
   pulls = record { pull = refl; through = none; skipped_is = refl };
   quiet = refl;
-  writes = written-none outside.written;
+  writes = written-none environment.written;
   target_is = refl;
   count = refl;
 }
@@ -48,10 +48,10 @@ links-more : {L : Type 0} (pages : List (Page L)) (page : Page L) → links_of (
 links-more [] page = refl
 links-more (first ∷ pages) page = ap (λ (links : List (Lent _)). first.link ∷ links) (links-more pages page)
 
-told-more : {L : Type 0} (pages : List (Page L)) (page : Page L) → told_of_pages (pages ++ page ∷ []) ≡ told_of_pages pages ++ told_of page.envelope.entries
-told-more [] page = append-nil (told_of page.envelope.entries)
-told-more (first ∷ pages) page =
-    ap (λ (t : List ℕ). told_of first.envelope.entries ++ t) (told-more pages page)
+observable-more : {L : Type 0} (pages : List (Page L)) (page : Page L) → told_of_pages (pages ++ page ∷ []) ≡ told_of_pages pages ++ told_of page.envelope.entries
+observable-more [] page = append-nil (told_of page.envelope.entries)
+observable-more (first ∷ pages) page =
+    ap (λ (t : List ℕ). told_of first.envelope.entries ++ t) (observable-more pages page)
     ∙ sym (append_assoc (told_of first.envelope.entries) (told_of_pages pages) (told_of page.envelope.entries))
 
 fold-more : {A X : Type 0} (f : A → X → A) (a : A) (xs : List X) (x : X) → fold f a (xs ++ x ∷ []) ≡ f (fold f a xs) x
@@ -64,12 +64,12 @@ bad-more pages page = fold-more (λ (a : ℕ) (p : Page _). a + bad_in p.envelop
 -- a page came over a link that the dial gave for it
 pub record CameOver {L : Type 0} (view : L → LinkView) (before after : PullState) (dial now : DialView L) (entries : List Entry) : Type 0 where
   pub page : Page L
-  pub at : IsPageAt view before.target before.turn page
-  pub through : PassThrough before.target (page.link ∷ []) dial.told now.told
+  pub at : IsPageAt view before.target before.cursor page
+  pub through : PassThrough before.target (page.link ∷ []) dial.observable now.observable
   pub quiet : now.faults ≡ dial.faults
   pub entries_are : entries ≡ page.envelope.entries
   pub few : before.pages < MAX_PAGES
-  pub after_is : after ≡ record { target = before.target; turn = turn_after page.envelope; pages = before.pages + 1 }
+  pub after_is : after ≡ record { target = before.target; cursor = cursor_after page.envelope; pages = before.pages + 1 }
 
 pub came-over : {L : Type 0} (view : L → LinkView) (before after : PullState) (dial now : DialView L) (entries : List Entry)
     → GivesPage view before after dial now entries → CameOver view before after dial now entries
@@ -93,38 +93,38 @@ pub page-writable : {L : Type 0} (view : L → LinkView) (before after : PullSta
 page-writable view before after dial now entries gives =
     let came = came-over view before after dial now entries gives in
     let is = came.at.fetched.reads.answers.is_envelope in
-    subst (All IsWritable) (sym came.entries_are) (all-writable is.list came.page.envelope.entries is.judged)
+    subst (All IsWritable) (sym came.entries_are) (all-writable is.list came.page.envelope.entries is.checked)
 
-module _ (L : Type 0) (view : L → LinkView) (target : Target) (before : Outside L)
-    (goes : (v : L → LinkView) (t : Target) (pages : List (Page L)) (turn : Turn) (page : Page L)
-    → IsPull v t pages turn → IsPageAt v t turn page → IsPull v t (pages ++ page ∷ []) (turn_after page.envelope))
+module _ (L : Type 0) (view : L → LinkView) (target : Target) (before : Environment L)
+    (goes : (v : L → LinkView) (t : Target) (pages : List (Page L)) (cursor : Cursor) (page : Page L)
+    → IsPull v t pages cursor → IsPageAt v t cursor page → IsPull v t (pages ++ page ∷ []) (cursor_after page.envelope))
     (joins : (t : Target) (links more : List (Lent L)) (first middle last : Option (DialState L))
     → PassThrough t links first middle → PassThrough t more middle last → PassThrough t (links ++ more) first last) where
   links-joined : (pages : List (Page L)) (more : List (Lent L)) (middle last : Option (DialState L))
-      → PassThrough target (links_of pages ++ []) before.dial.told middle → PassThrough target more middle last
-      → PassThrough target (links_of pages ++ more) before.dial.told last
+      → PassThrough target (links_of pages ++ []) before.dial.observable middle → PassThrough target more middle last
+      → PassThrough target (links_of pages ++ more) before.dial.observable last
   links-joined pages more middle last through then =
-      joins target (links_of pages) more before.dial.told middle last
-      (subst (λ (links : List (Lent L)). PassThrough target links before.dial.told middle) (append-nil (links_of pages)) through) then
+      joins target (links_of pages) more before.dial.observable middle last
+      (subst (λ (links : List (Lent L)). PassThrough target links before.dial.observable middle) (append-nil (links_of pages)) through) then
 
-  module _ (now : Outside L) (state : PullState) (skipped : ℕ) (runs : RunsSo view target before now state skipped) where
+  module _ (now : Environment L) (state : PullState) (skipped : ℕ) (runs : RunsSo view target before now state skipped) where
     pulls-more : (after : PullState) (dial : DialView L) (written : Option (List ℕ)) (entries : List Entry) (came : CameOver view state after now.dial dial entries)
-        → Pulls view target before (record { dial = dial; written = written }) (runs.pages ++ came.page ∷ []) (turn_after came.page.envelope) [] (skipped + bad_in entries)
+        → Pulls view target before (record { dial = dial; written = written }) (runs.pages ++ came.page ∷ []) (cursor_after came.page.envelope) [] (skipped + bad_in entries)
     pulls-more after dial written entries came = record {
-      pull = goes view target runs.pages state.turn came.page runs.pulls.pull
-          (subst (λ (t : Target). IsPageAt view t state.turn came.page) runs.target_is came.at);
-      through = subst (λ (links : List (Lent L)). PassThrough target links before.dial.told dial.told)
+      pull = goes view target runs.pages state.cursor came.page runs.pulls.pull
+          (subst (λ (t : Target). IsPageAt view t state.cursor came.page) runs.target_is came.at);
+      through = subst (λ (links : List (Lent L)). PassThrough target links before.dial.observable dial.observable)
           (sym (append-nil (links_of (runs.pages ++ came.page ∷ [])) ∙ links-more runs.pages came.page))
-          (links-joined runs.pages (came.page.link ∷ []) now.dial.told dial.told runs.pulls.through
-          (subst (λ (t : Target). PassThrough t (came.page.link ∷ []) now.dial.told dial.told) runs.target_is came.through));
+          (links-joined runs.pages (came.page.link ∷ []) now.dial.observable dial.observable runs.pulls.through
+          (subst (λ (t : Target). PassThrough t (came.page.link ∷ []) now.dial.observable dial.observable) runs.target_is came.through));
       skipped_is = ap (λ (k : ℕ). k + bad_in entries) runs.pulls.skipped_is
           ∙ ap (λ (e : List Entry). bad_in_pages runs.pages + bad_in e) came.entries_are ∙ sym (bad-more runs.pages came.page);
     }
 
-    told-with : (after : PullState) (dial : DialView L) (entries : List Entry) (came : CameOver view state after now.dial dial entries)
+    observable-with : (after : PullState) (dial : DialView L) (entries : List Entry) (came : CameOver view state after now.dial dial entries)
         → told_of_pages (runs.pages ++ came.page ∷ []) ≡ told_of_pages runs.pages ++ told_of entries
-    told-with after dial entries came =
-        told-more runs.pages came.page ∙ ap (λ (e : List Entry). told_of_pages runs.pages ++ told_of e) (sym came.entries_are)
+    observable-with after dial entries came =
+        observable-more runs.pages came.page ∙ ap (λ (e : List Entry). told_of_pages runs.pages ++ told_of e) (sym came.entries_are)
 
     -- a page came and was written
     pub run-more : (after : PullState) (dial : DialView L) (written : Option (List ℕ)) (entries : List Entry) → GivesPage view state after now.dial dial entries
@@ -137,7 +137,7 @@ module _ (L : Type 0) (view : L → LinkView) (target : Target) (before : Outsid
           pulls = pulls-more after dial written entries came;
           quiet = came.quiet ∙ runs.quiet;
           writes = written-more (told_of_pages runs.pages) (told_of entries) before.written now.written written runs.writes is
-              ∙ ap (λ (t : List ℕ). written_with t before.written) (sym (told-with after dial entries came));
+              ∙ ap (λ (t : List ℕ). written_with t before.written) (sym (observable-with after dial entries came));
           target_is = runs.target_is;
           count = omega (arith, runs.count, length-append runs.pages (came.page ∷ []));
         })
@@ -149,20 +149,20 @@ module _ (L : Type 0) (view : L → LinkView) (target : Target) (before : Outsid
     run-cut after dial written entries gives part =
         let came = came-over view state after now.dial dial entries gives in record {
           pages = runs.pages ++ came.page ∷ [];
-          turn = turn_after came.page.envelope;
+          cursor = cursor_after came.page.envelope;
           pulls = pulls-more after dial written entries came;
           quiet = came.quiet ∙ runs.quiet;
-          part = subst (λ (t : List ℕ). WritesPrefix t before.written written) (sym (told-with after dial entries came))
+          part = subst (λ (t : List ℕ). WritesPrefix t before.written written) (sym (observable-with after dial entries came))
               (after_part (told_of_pages runs.pages) (told_of entries) before.written now.written written runs.writes part);
         }
 
     -- the walk rests, and stands where it stood
-    run-rests : (AreLast : List (Page L) → Turn → Type 0) (dial : DialView L) → AreLast runs.pages state.turn → dial ≡ now.dial
+    run-rests : (AreLast : List (Page L) → Cursor → Type 0) (dial : DialView L) → AreLast runs.pages state.cursor → dial ≡ now.dial
         → StopsBehind view target before (record { dial = dial; written = now.written }) AreLast skipped
     run-rests AreLast dial last same =
         subst (λ (d : DialView L). StopsBehind view target before (record { dial = d; written = now.written }) AreLast skipped) (sym same) (record {
           pages = runs.pages;
-          turn = state.turn;
+          cursor = state.cursor;
           last = last;
           pulls = record { pull = runs.pulls.pull; through = runs.pulls.through; skipped_is = runs.pulls.skipped_is };
           quiet = runs.quiet;
@@ -177,12 +177,12 @@ module _ (L : Type 0) (view : L → LinkView) (target : Target) (before : Outsid
         go : Dials view state.target asks.next now.dial dial (Err end) → StopsAsking view target before (record { dial = dial; written = now.written }) end skipped
         go (inl over) = record {
           pages = runs.pages;
-          turn = state.turn;
+          cursor = state.cursor;
           lost = over.link ∷ [];
           pulls = record {
             pull = runs.pulls.pull;
-            through = links-joined runs.pages (over.link ∷ []) now.dial.told dial.told runs.pulls.through
-                (subst (λ (t : Target). PassThrough t (over.link ∷ []) now.dial.told dial.told) runs.target_is over.through);
+            through = links-joined runs.pages (over.link ∷ []) now.dial.observable dial.observable runs.pulls.through
+                (subst (λ (t : Target). PassThrough t (over.link ∷ []) now.dial.observable dial.observable) runs.target_is over.through);
             skipped_is = runs.pulls.skipped_is;
           };
           loses = (
@@ -195,17 +195,17 @@ module _ (L : Type 0) (view : L → LinkView) (target : Target) (before : Outsid
         }
         go (inr fails) = record {
           pages = runs.pages;
-          turn = state.turn;
+          cursor = state.cursor;
           lost = [];
           pulls = record {
             pull = runs.pulls.pull;
-            through = subst (λ (d : Option (DialState L)). PassThrough target (links_of runs.pages ++ []) before.dial.told d) (sym fails.same) runs.pulls.through;
+            through = subst (λ (d : Option (DialState L)). PassThrough target (links_of runs.pages ++ []) before.dial.observable d) (sym fails.same) runs.pulls.through;
             skipped_is = runs.pulls.skipped_is;
           };
           loses = (
             (let is = fails.fault in cc),
             subst (λ (k : ℕ). k ≤ dial.faults) runs.quiet fails.later,
-            subst (λ (k : ℕ). Rose k dial.faults) runs.quiet fails.rose,
+            subst (λ (k : ℕ). HasIncreased k dial.faults) runs.quiet fails.rose,
           );
           writes = runs.writes;
         }

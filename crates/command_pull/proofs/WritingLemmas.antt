@@ -33,12 +33,12 @@ pub written-more : (a b : List ℕ) (before mid now : Option (List ℕ)) → mid
 written-more a b None mid now first second = second ∙ ap (λ (m : Option (List ℕ)). written_with b m) first
 written-more a b (Some l) mid now first second = second ∙ ap (λ (m : Option (List ℕ)). written_with b m) first ∙ ap Some (append_assoc l a b)
 
-told-cut : (i : ℕ) (entries : List Entry) (entry : Entry) → i < length entries → entry ≡ get_or entries i entry
+observable-cut : (i : ℕ) (entries : List Entry) (entry : Entry) → i < length entries → entry ≡ get_or entries i entry
     → told_of entries ≡ (told_of (take i entries) ++ line_of entry) ++ told_of (drop (suc i) entries)
-told-cut i [] entry within is = absurd (omega (arith, within))
-told-cut zero (first ∷ entries) entry within is = ap (λ (e : Entry). line_of e ++ told_of entries) (sym is)
-told-cut (suc i) (first ∷ entries) entry within is =
-    ap (λ (t : List ℕ). line_of first ++ t) (told-cut i entries entry (omega (arith, within)) is)
+observable-cut i [] entry within is = absurd (omega (arith, within))
+observable-cut zero (first ∷ entries) entry within is = ap (λ (e : Entry). line_of e ++ told_of entries) (sym is)
+observable-cut (suc i) (first ∷ entries) entry within is =
+    ap (λ (t : List ℕ). line_of first ++ t) (observable-cut i entries entry (omega (arith, within)) is)
     ∙ sym (append_assoc (line_of first) (told_of (take i entries) ++ line_of entry) (told_of (drop (suc i) entries)))
     ∙ ap (λ (t : List ℕ). t ++ told_of (drop (suc i) entries)) (sym (append_assoc (line_of first) (told_of (take i entries)) (line_of entry)))
 
@@ -46,7 +46,7 @@ told-cut (suc i) (first ∷ entries) entry within is =
 pub cut-of-page : (entries : List Entry) (i : ℕ) (entry : Entry) (first written : Option (List ℕ)) → i < length entries → entry ≡ get_or entries i entry
     → WritesPrefix (told_of (take i entries) ++ line_of entry) first written → WritesPrefix (told_of entries) first written
 cut-of-page entries i entry first written within is prefix =
-    subst (λ (t : List ℕ). WritesPrefix t first written) (sym (told-cut i entries entry within is))
+    subst (λ (t : List ℕ). WritesPrefix t first written) (sym (observable-cut i entries entry within is))
     (front_part (told_of (take i entries) ++ line_of entry) (told_of (drop (suc i) entries)) first written prefix)
 
 pub fails_so : {T E P : Type 0} (answer : Result T E) → P → OnErr answer P

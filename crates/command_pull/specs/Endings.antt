@@ -1,31 +1,31 @@
--- What an ending says of what was asked for and of the outside; its status, and its reason.
+-- What an ending says of what was asked for and of the environment; its status, and its reason.
 use Rattle.std.specs.Prelude.{◌≡◌, ◌≢◌, ◌⊎◌, ℕ, zero, suc, List, [], ◌++◌, codes, decimal, length}
 use Rattle.match_run.specs.declared.cut_short.CutShort.TheVariants as Cut
-use Rattle.taxii_client.specs.Outside.{LinkView}
+use Rattle.taxii_client.specs.Environment.{LinkView}
 use Rattle.taxii_client.specs.Pulls.{Page}
 use Rattle.taxii_client.specs.declared.fetch_end.FetchEnd.TheVariants as Fetch
 use Rattle.taxii_client.specs.declared.page_end.PageEnd.TheVariants as End
 use Rattle.taxii_client.specs.declared.pull.TheConstants.{MAX_PAGES}
 use Rattle.taxii_client.specs.declared.target.Target.{Target}
-use Rattle.taxii_client.specs.declared.turn.Turn.{Turn}
-use Rattle.taxii_client.specs.declared.turn.Turn.TheVariants.{Over}
+use Rattle.taxii_client.specs.declared.cursor.Cursor.{Cursor}
+use Rattle.taxii_client.specs.declared.cursor.Cursor.TheVariants.{Over}
 use Rattle.command_peer.specs.Refusal.{peer_reason}
 use Rattle.command_pull.specs.declared.ending.PullEnding.{PullEnding}
 use Rattle.command_pull.specs.declared.ending.PullEnding.TheVariants.{Usage, Done, Lost, CutShort, NoMemory}
 use Rattle.command_pull.specs.declared.ending.PullEnd.{PullEnd}
-use Rattle.command_pull.specs.Words.{AskFor, AskForNothing}
-use Rattle.command_pull.specs.Pulling.{Outside, StopsAsking, StopsBehind, StopsWriting}
+use Rattle.command_pull.specs.Arguments.{AskFor, AskForNothing}
+use Rattle.command_pull.specs.Pulling.{Environment, StopsAsking, StopsBehind, StopsWriting}
 
 -- the last page had no more behind it
-abbrev pub AreAll : {L : Type 0} → List (Page L) → Turn → Type 0
-AreAll pages turn = turn ≡ Over
+abbrev pub AreAll : {L : Type 0} → List (Page L) → Cursor → Type 0
+AreAll pages cursor = cursor ≡ Over
 
 -- as many pages came as a walk may have, and the last had more behind it
-abbrev pub AreTooFew : {L : Type 0} → List (Page L) → Turn → Type 0
-AreTooFew pages turn = (length pages ≡ MAX_PAGES) × (turn ≢ Over)
+abbrev pub AreTooFew : {L : Type 0} → List (Page L) → Cursor → Type 0
+AreTooFew pages cursor = (length pages ≡ MAX_PAGES) × (cursor ≢ Over)
 
 -- what an ending says of the pages of a target
-abbrev pub EndsPull : {L : Type 0} → (L → LinkView) → Target → Outside L → Outside L → ℕ → PullEnding → Type 0
+abbrev pub EndsPull : {L : Type 0} → (L → LinkView) → Target → Environment L → Environment L → ℕ → PullEnding → Type 0
 EndsPull view target before now skipped Usage = ⊥
 EndsPull view target before now skipped Done = StopsBehind view target before now AreAll skipped
 EndsPull view target before now skipped (Lost End.Fault) = StopsAsking view target before now Fetch.Fault skipped
@@ -36,17 +36,17 @@ EndsPull view target before now skipped (Lost End.NoMemory) = StopsAsking view t
 EndsPull view target before now skipped (CutShort short) = StopsWriting view target before now skipped
 EndsPull view target before now skipped NoMemory = (skipped ≡ 0) × (now ≡ before)
 
--- the words ask for a collection of a target, of whose pages that holds
-pub record AskSo (words : List (List ℕ)) (Holds : Target → Type 0) : Type 0 where
+-- the arguments ask for a collection of a target, of whose pages that holds
+pub record AskSo (arguments : List (List ℕ)) (Holds : Target → Type 0) : Type 0 where
   pub target : Target
-  pub asked : AskFor words target
+  pub asked : AskFor arguments target
   pub holds : Holds target
 
--- the words ask for nothing, and that is the ending; or they ask for a collection, of which it says that
-abbrev pub EndsWords : {L : Type 0} → (L → LinkView) → List (List ℕ) → Outside L → Outside L → PullEnd → Type 0
-EndsWords view words before now end =
-    (AskForNothing words × (end ≡ record { skipped = 0; ending = Usage }) × (now ≡ before))
-    ⊎ AskSo words (λ target. EndsPull view target before now end.skipped end.ending)
+-- the arguments ask for nothing, and that is the ending; or they ask for a collection, of which it says that
+abbrev pub EndsArguments : {L : Type 0} → (L → LinkView) → List (List ℕ) → Environment L → Environment L → PullEnd → Type 0
+EndsArguments view arguments before now end =
+    (AskForNothing arguments × (end ≡ record { skipped = 0; ending = Usage }) × (now ≡ before))
+    ⊎ AskSo arguments (λ target. EndsPull view target before now end.skipped end.ending)
 
 abbrev pub pull_status : PullEnding → ℕ
 pull_status Done = 0

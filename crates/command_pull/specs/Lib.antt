@@ -1,4 +1,4 @@
-pub mod Words
+pub mod Arguments
 pub mod Pulling
 pub mod Endings
 pub mod Runs

@@ -5,7 +5,7 @@ ghost use Rattle.command_pull.specs.Endings.{skipped_text, end_reason};
 
 use command_peer::write_refusal;
 use command_reasons::{write_no_memory, write_write_fault};
-use flow_edges::{Sink, write_pieces, write_whole};
+use flow_edges::{Sink, write_all_vectored, write_whole};
 use flow_values::Fault;
 use itoa::Buffer;
 use taxii_client::PageEnd;
@@ -14,7 +14,7 @@ use match_run::CutShort;
 /// How the program ends.
 #[derive(Debug, Drop)]
 pub enum PullEnding {
-    /// The words ask for nothing.
+    /// The arguments ask for nothing.
     Usage,
     /// The last page came, and all was written.
     Done,
@@ -105,5 +105,5 @@ fn write_skipped<S: Sink>(skipped: u128, reasons: &mut S) -> Result<(), Fault>
     }
     let mut buffer = Buffer::new();
     let count = buffer.format(skipped);
-    write_pieces(reasons, &[b"skipped ", count.as_bytes(), b"\n"])
+    write_all_vectored(reasons, &[b"skipped ", count.as_bytes(), b"\n"])
 }

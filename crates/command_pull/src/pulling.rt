@@ -1,8 +1,8 @@
 ghost use Rattle.std.specs.Prelude.{◌≡◌, ◌≤◌, length};
 ghost use Rattle.flow_edges.specs.Faults.{Counted};
 ghost use Rattle.flow_links.specs.declared.dial.TheConstants.{MAX_HOST};
-ghost use Rattle.taxii_client.specs.Outside.{link_view};
-ghost use Rattle.command_pull.specs.Pulling.{outside};
+ghost use Rattle.taxii_client.specs.Environment.{link_view};
+ghost use Rattle.command_pull.specs.Pulling.{environment};
 ghost use Rattle.command_pull.specs.Endings.{EndsPull, pull_status};
 
 use crate::ending::{PullEnd, PullEnding};
@@ -10,7 +10,7 @@ use crate::writing::{count_bad, write_page};
 use flow_edges::Sink;
 use flow_links::Dial;
 use std::alloc::Global;
-use taxii_client::pull_laws::pulls_go_on;
+use taxii_client::pull_laws::pulls_continue;
 use taxii_client::{Pull, Target};
 
 /// Fetches the pages of a collection in turn, and writes what is good of each before the next one is asked for.
@@ -22,11 +22,11 @@ pub(crate) fn pull_all<D: Dial, O: Sink>(
 ) -> PullEnd
     requires short { length target.now.host ≤ MAX_HOST }
     ensures end { EndsPull (link_view D.Link.left D.Link.written D.Link.Source.faults D.Link.Sink.faults) target.now
-        (outside (D.told dial.old) (D.faults dial.old) (O.written output.old)) (outside (D.told dial.new) (D.faults dial.new) (O.written output.new))
+        (environment (D.observable dial.old) (D.faults dial.old) (O.written output.old)) (environment (D.observable dial.new) (D.faults dial.new) (O.written output.new))
         result.skipped result.ending }
     ensures output { Counted (pull_status result.ending ≡ 6) (O.faults output.old) (O.faults output.new) }
 {
-    pulls_go_on::<D>();
+    pulls_continue::<D>();
     let mut pull = Pull::new(alloc, target);
     let mut skipped: u128 = 0;
     'pages: loop {

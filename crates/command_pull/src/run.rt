@@ -2,16 +2,16 @@ ghost use Rattle.std.specs.Prelude.{◌≡◌, ◌↔◌, ℕ, List};
 ghost use Rattle.flow_edges.specs.Faults.{Counted};
 ghost use Rattle.command_line.specs.CommandLines.{texts};
 ghost use Rattle.command_reasons.specs.Reasons.{WritesReason};
-ghost use Rattle.taxii_client.specs.Outside.{link_view};
-ghost use Rattle.command_peer.specs.Words.{IsHost};
-ghost use Rattle.command_pull.specs.Words.{AskForNothing, target_of};
-ghost use Rattle.command_pull.specs.Pulling.{outside};
-ghost use Rattle.command_pull.specs.Endings.{EndsPull, EndsWords, pull_status, end_reason};
+ghost use Rattle.taxii_client.specs.Environment.{link_view};
+ghost use Rattle.command_peer.specs.Arguments.{IsHost};
+ghost use Rattle.command_pull.specs.Arguments.{AskForNothing, target_of};
+ghost use Rattle.command_pull.specs.Pulling.{environment};
+ghost use Rattle.command_pull.specs.Endings.{EndsPull, EndsArguments, pull_status, end_reason};
 ghost use Rattle.command_pull.specs.Runs.{Ends, PullsAll, CountsDial};
 
 use crate::ending::{PullEnd, PullEnding};
 use crate::pulling::pull_all;
-use crate::words::{PullRequest, read_request};
+use crate::arguments::{PullRequest, read_request};
 use flow_edges::Sink;
 use flow_links::Dial;
 use flow_values::NoMemory;
@@ -26,7 +26,7 @@ fn answer<D: Dial, O: Sink>(
 ) -> PullEnd
     requires { IsHost request.now.peer.host.now }
     ensures end { EndsPull (link_view D.Link.left D.Link.written D.Link.Source.faults D.Link.Sink.faults) (target_of request.now)
-        (outside (D.told dial.old) (D.faults dial.old) (O.written output.old)) (outside (D.told dial.new) (D.faults dial.new) (O.written output.new))
+        (environment (D.observable dial.old) (D.faults dial.old) (O.written output.old)) (environment (D.observable dial.new) (D.faults dial.new) (O.written output.new))
         result.skipped result.ending }
     ensures output { Counted (pull_status result.ending ≡ 6) (O.faults output.old) (O.faults output.new) }
 {
@@ -36,27 +36,27 @@ fn answer<D: Dial, O: Sink>(
     }
 }
 
-/// Does what the words ask for.
-fn obey<D: Dial, O: Sink>(alloc: Global, words: &[String], dial: &mut D, output: &mut O) -> PullEnd
-    ensures end { EndsWords (link_view D.Link.left D.Link.written D.Link.Source.faults D.Link.Sink.faults) (texts words.now)
-        (outside (D.told dial.old) (D.faults dial.old) (O.written output.old)) (outside (D.told dial.new) (D.faults dial.new) (O.written output.new)) result }
+/// Does what the arguments ask for.
+fn execute<D: Dial, O: Sink>(alloc: Global, arguments: &[String], dial: &mut D, output: &mut O) -> PullEnd
+    ensures end { EndsArguments (link_view D.Link.left D.Link.written D.Link.Source.faults D.Link.Sink.faults) (texts arguments.now)
+        (environment (D.observable dial.old) (D.faults dial.old) (O.written output.old)) (environment (D.observable dial.new) (D.faults dial.new) (O.written output.new)) result }
     ensures untouched { pull_status result.ending ≡ 2 → (dial.new ≡ dial.old) × (output.new ≡ output.old) }
     ensures output { Counted (pull_status result.ending ≡ 6) (O.faults output.old) (O.faults output.new) }
 {
-    match read_request(words) {
+    match read_request(arguments) {
         Some(request) => answer(alloc, &request, dial, output),
         None => PullEnd::before_pages(PullEnding::Usage),
     }
 }
 
-/// The program: writes all objects of the collection that the words after its name ask for, a line each, page by page,
+/// The program: writes all objects of the collection that the arguments after its name ask for, a line each, page by page,
 /// and answers its status.
 ///
 /// | Status | Comes |
 /// |---|---|
 /// | 0 | the last page came, and all good entries were written |
 /// | 1 | memory ran out |
-/// | 2 | exactly where the words ask for nothing |
+/// | 2 | exactly where the arguments ask for nothing |
 /// | 5 | only where the dial or a link that it gave counted a fault |
 /// | 6 | only where the output counted a fault, and at each fault of it |
 /// | 11 | exactly where a reply is refused |
@@ -67,23 +67,23 @@ fn obey<D: Dial, O: Sink>(alloc: Global, words: &[String], dial: &mut D, output:
 /// A failing write there changes nothing else.
 pub fn run_pull<D: Dial, O: Sink, E: Sink>(
     alloc: Global,
-    words: &[String],
+    arguments: &[String],
     dial: &mut D,
     output: &mut O,
     faults: &mut E,
 ) -> u8
-    ensures ends { Ends (link_view D.Link.left D.Link.written D.Link.Source.faults D.Link.Sink.faults) (texts words.now)
-        (outside (D.told dial.old) (D.faults dial.old) (O.written output.old)) (outside (D.told dial.new) (D.faults dial.new) (O.written output.new)) result
+    ensures ends { Ends (link_view D.Link.left D.Link.written D.Link.Source.faults D.Link.Sink.faults) (texts arguments.now)
+        (environment (D.observable dial.old) (D.faults dial.old) (O.written output.old)) (environment (D.observable dial.new) (D.faults dial.new) (O.written output.new)) result
         (λ reason. WritesReason reason (E.written faults.old) (E.written faults.new) (E.faults faults.old) (E.faults faults.new)) }
-    ensures refusals { (result ≡ 2) ↔ AskForNothing (texts words.now) }
+    ensures refusals { (result ≡ 2) ↔ AskForNothing (texts arguments.now) }
     ensures untouched { result ≡ 2 → (dial.new ≡ dial.old) × (output.new ≡ output.old) }
-    ensures all { result ≡ 0 → PullsAll (link_view D.Link.left D.Link.written D.Link.Source.faults D.Link.Sink.faults) (texts words.now)
-        (outside (D.told dial.old) (D.faults dial.old) (O.written output.old)) (outside (D.told dial.new) (D.faults dial.new) (O.written output.new)) }
-    ensures dial { CountsDial (link_view D.Link.left D.Link.written D.Link.Source.faults D.Link.Sink.faults) (texts words.now)
-        (outside (D.told dial.old) (D.faults dial.old) (O.written output.old)) (outside (D.told dial.new) (D.faults dial.new) (O.written output.new)) result }
+    ensures all { result ≡ 0 → PullsAll (link_view D.Link.left D.Link.written D.Link.Source.faults D.Link.Sink.faults) (texts arguments.now)
+        (environment (D.observable dial.old) (D.faults dial.old) (O.written output.old)) (environment (D.observable dial.new) (D.faults dial.new) (O.written output.new)) }
+    ensures dial { CountsDial (link_view D.Link.left D.Link.written D.Link.Source.faults D.Link.Sink.faults) (texts arguments.now)
+        (environment (D.observable dial.old) (D.faults dial.old) (O.written output.old)) (environment (D.observable dial.new) (D.faults dial.new) (O.written output.new)) result }
     ensures output { Counted (result ≡ 6) (O.faults output.old) (O.faults output.new) }
 {
-    let end = obey(alloc, words, dial, output);
+    let end = execute(alloc, arguments, dial, output);
     finish(&end, faults)
 }
 

@@ -1,14 +1,14 @@
 ghost use Rattle.std.specs.Prelude.{◌≡◌, ◌++◌, [], ℕ, List, Option, IfOk, OnOk, OnErr, All, Err};
 ghost use Rattle.flow_edges.specs.Faults.{Counted};
 ghost use Rattle.flow_edges.specs.Flow.{written_with, WritesPrefix};
-ghost use Rattle.match_run.specs.OnItsWay.{IsOnItsWay};
+ghost use Rattle.match_run.specs.Buffered.{IsBuffered};
 ghost use Rattle.taxii_client.specs.Telling.{line_of, told_of, bad_in, IsWritable};
 
 use flow_edges::Sink;
 use flow_values::{NoMemory, Text};
 use std::alloc::Global;
 use stix_json::{Entry, write_json};
-use match_run::watch_laws::parts_on_their_way;
+use match_run::watch_laws::parts_are_buffered;
 use match_run::{CutShort, Pending};
 
 /// How many of a page's entries are bad.
@@ -47,11 +47,11 @@ fn add_page<O: Sink>(
 ) -> Result<(), CutShort>
     requires ordered { All IsWritable entries.now }
     requires empty { pending.old ≡ [] }
-    ensures ok { OnOk result (IsOnItsWay (told_of entries.now) pending.new (O.written output.old) (O.written output.new)) }
+    ensures ok { OnOk result (IsBuffered (told_of entries.now) pending.new (O.written output.old) (O.written output.new)) }
     ensures err { OnErr result (WritesPrefix (told_of entries.now) (O.written output.old) (O.written output.new)) }
     ensures causes { Counted (result ≡ Err CutShort.WriteFault) (O.faults output.old) (O.faults output.new) }
 {
-    parts_on_their_way();
+    parts_are_buffered();
     for entry in entries {
         add_entry(alloc, entry, pending, output)?;
     }
@@ -66,13 +66,13 @@ fn add_entry<O: Sink>(
     output: &mut O,
 ) -> Result<(), CutShort>
     requires { IsWritable entry.now }
-    ensures ok { (before : List ℕ) (first : Option (List ℕ)) → IsOnItsWay before pending.old first (O.written output.old)
-        → OnOk result (IsOnItsWay (before ++ line_of entry.now) pending.new first (O.written output.new)) }
-    ensures err { (before : List ℕ) (first : Option (List ℕ)) → IsOnItsWay before pending.old first (O.written output.old)
+    ensures ok { (before : List ℕ) (first : Option (List ℕ)) → IsBuffered before pending.old first (O.written output.old)
+        → OnOk result (IsBuffered (before ++ line_of entry.now) pending.new first (O.written output.new)) }
+    ensures err { (before : List ℕ) (first : Option (List ℕ)) → IsBuffered before pending.old first (O.written output.old)
         → OnErr result (WritesPrefix (before ++ line_of entry.now) first (O.written output.new)) }
     ensures causes { Counted (result ≡ Err CutShort.WriteFault) (O.faults output.old) (O.faults output.new) }
 {
-    parts_on_their_way();
+    parts_are_buffered();
     let line = text_of(alloc, entry)?;
     pending.add(line.as_str().as_bytes(), output)
 }

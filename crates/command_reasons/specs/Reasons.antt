@@ -1,6 +1,6 @@
 -- What is told of why a command ended.
 use Rattle.std.specs.Prelude.{◌≡◌, ◌⊎◌, ℕ, List, ◌++◌, Option, codes, decimal}
-use Rattle.flow_edges.specs.Faults.{Rose}
+use Rattle.flow_edges.specs.Faults.{HasIncreased}
 use Rattle.flow_edges.specs.Flow.{written_with, WritesPrefix}
 use Rattle.pattern_types.specs.declared.pattern.Pattern.{Pattern}
 use Rattle.pattern_reader.specs.declared.pattern_refusal.PatternRefusal.{PatternRefusal}
@@ -20,9 +20,9 @@ pub record IsRefusedPattern (text : List ℕ) (refusal : PatternRefusal) : Type 
 abbrev pub pattern_reason : PatternRefusal → List ℕ
 pattern_reason refusal = codes "pattern refused: " ++ (refusal_text refusal ++ codes "\n")
 
--- crowded at observation N: cap N
-abbrev pub crowded_reason : ℕ → ℕ → List ℕ
-crowded_reason number cap = codes "crowded at observation " ++ (decimal number ++ (codes ": cap " ++ (decimal cap ++ codes "\n")))
+-- over limit at observation N: retained limit N
+abbrev pub over_limit_reason : ℕ → ℕ → List ℕ
+over_limit_reason number retained_limit = codes "crowded at observation " ++ (decimal number ++ (codes ": cap " ++ (decimal retained_limit ++ codes "\n")))
 
 -- store refused: row after DATE
 abbrev pub bad_row_reason : ℕ → List ℕ
@@ -35,4 +35,4 @@ store_fault_reason cause = codes "store fault: " ++ (cause ++ codes "\n")
 -- the text was written, or a prefix of it where the sink's count of faults rose
 abbrev pub WritesReason : List ℕ → Option (List ℕ) → Option (List ℕ) → ℕ → ℕ → Type 0
 WritesReason text written written_after faults faults_after =
-    (written_after ≡ written_with text written) ⊎ (WritesPrefix text written written_after × Rose faults faults_after)
+    (written_after ≡ written_with text written) ⊎ (WritesPrefix text written written_after × HasIncreased faults faults_after)

@@ -3,7 +3,7 @@ ghost use Rattle.flow_edges.specs.Faults.{Counted};
 ghost use Rattle.flow_edges.specs.Flow.{WritesWhole};
 ghost use Rattle.command_reasons.specs.Reasons.{bad_row_reason};
 
-use flow_edges::{Sink, write_pieces};
+use flow_edges::{Sink, write_all_vectored};
 use flow_values::Fault;
 use itoa::Buffer;
 
@@ -22,7 +22,7 @@ fn write_date<S: Sink>(after: &str, reasons: &mut S) -> Result<(), Fault>
     ensures text { WritesWhole (codes "store refused: row after " ++ (after.now ++ codes "\n")) (S.written reasons.old) (S.written reasons.new) result }
     ensures causes { Counted (IsErr result) (S.faults reasons.old) (S.faults reasons.new) }
 {
-    write_pieces(
+    write_all_vectored(
         reasons,
         &[b"store refused: row after ", after.as_bytes(), b"\n"],
     )

@@ -2,12 +2,12 @@
 #![tactic(auto)]
 
 mod bad_row;
-mod crowded;
+mod over_limit;
 mod reasons;
 mod refusal_text;
 mod store_fault;
 
 pub use bad_row::write_bad_row;
-pub use crowded::write_crowded;
+pub use over_limit::write_over_limit;
 pub use reasons::{write_no_memory, write_pattern_reason, write_read_fault, write_write_fault};
 pub use store_fault::write_store_fault;

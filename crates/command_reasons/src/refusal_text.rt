@@ -3,7 +3,7 @@ ghost use Rattle.flow_edges.specs.Faults.{Counted};
 ghost use Rattle.flow_edges.specs.Flow.{WritesWhole};
 ghost use Rattle.pattern_reader.specs.PatternRefusal.{refusal_text};
 
-use flow_edges::{Sink, write_pieces, write_whole};
+use flow_edges::{Sink, write_all_vectored, write_whole};
 use flow_values::Fault;
 use itoa::Buffer;
 use pattern_reader::PatternRefusal;
@@ -29,5 +29,5 @@ fn write_placed<'a, S: Sink>(name: &'a str, place: &'a str, sink: &mut S) -> Res
     ensures text { WritesWhole (name.now ++ (codes " at " ++ place.now)) (S.written sink.old) (S.written sink.new) result }
     ensures causes { Counted (IsErr result) (S.faults sink.old) (S.faults sink.new) }
 {
-    write_pieces(sink, &[name.as_bytes(), b" at ", place.as_bytes()])
+    write_all_vectored(sink, &[name.as_bytes(), b" at ", place.as_bytes()])
 }

@@ -3,7 +3,7 @@ ghost use Rattle.flow_edges.specs.Faults.{Counted};
 ghost use Rattle.flow_edges.specs.Flow.{WritesWhole};
 ghost use Rattle.command_reasons.specs.Reasons.{store_fault_reason};
 
-use flow_edges::{Sink, write_pieces};
+use flow_edges::{Sink, write_all_vectored};
 use flow_values::Fault;
 
 /// Writes why a store failed, as `store fault: it is no database` and a line feed, of the cause in words. Takes no memory.
@@ -11,5 +11,5 @@ pub fn write_store_fault<S: Sink>(cause: &str, reasons: &mut S) -> Result<(), Fa
     ensures text { WritesWhole (store_fault_reason cause.now) (S.written reasons.old) (S.written reasons.new) result }
     ensures causes { Counted (IsErr result) (S.faults reasons.old) (S.faults reasons.new) }
 {
-    write_pieces(reasons, &[b"store fault: ", cause.as_bytes(), b"\n"])
+    write_all_vectored(reasons, &[b"store fault: ", cause.as_bytes(), b"\n"])
 }

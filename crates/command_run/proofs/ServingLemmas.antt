@@ -9,22 +9,22 @@ use Rattle.taxii_service.specs.declared.state.State.{State}
 use Rattle.taxii_store.specs.Agreement.{without_rows}
 use Rattle.taxii_store.specs.History.{IsDated}
 use Rattle.taxii_service.specs.Visits.{WalksSkipNoRow}
-use Rattle.taxii_server.specs.Outside.{LinkView}
+use Rattle.taxii_server.specs.Environment.{LinkView}
 use Rattle.taxii_server.specs.Connections.{Pass}
 use Rattle.taxii_server.specs.declared.server.Server.{Server}
 use Rattle.taxii_server.specs.declared.served.Served.{Served}
-use Rattle.taxii_server.specs.Serving.{Caller, exchanges_of, HaveConnections}
+use Rattle.taxii_server.specs.Serving.{Client, exchanges_of, HaveConnections}
 use Rattle.command_line.specs.CommandLines.{PlainService}
 use Rattle.command_run.specs.declared.serve_ending.ServeEnding.{ServeEnding}
 use Rattle.command_run.specs.declared.serve_ending.ServeEnding.TheVariants.{Done, NoMemory, WriteFault, DoorFault, StoreFault, BadRow}
 use Rattle.command_run.specs.Services.{store_name, Begins, Places, Serves}
 use Rattle.command_run.specs.ServeEndings.{summary_text, ServesAll, EndsServe, Concludes}
 
-some_same : {A : Type 0} (told : Option A) (one : A) → IfSome told (λ kept. kept ≡ one) → IfSome told (λ kept. one ≡ kept)
+some_same : {A : Type 0} (observable : Option A) (one : A) → IfSome observable (λ kept. kept ≡ one) → IfSome observable (λ kept. one ≡ kept)
 some_same None one is = tt
 some_same (Some kept) one is = sym is
 
-named_some : {A : Type 0} (told : Option A) (name : Option (List ℕ)) (text : List ℕ) → name ≡ option_map (λ _. text) told → IfSome told (λ _. name ≡ Some text)
+named_some : {A : Type 0} (observable : Option A) (name : Option (List ℕ)) (text : List ℕ) → name ≡ option_map (λ _. text) observable → IfSome observable (λ _. name ≡ Some text)
 named_some None name text is = tt
 named_some (Some kept) name text is = is
 
@@ -37,34 +37,34 @@ told_still (Some rows) None none last same held = absurd (cc same)
 told_still (Some rows) (Some its) none last same held = ap Some held
 
 dated : (store : StoreState) → IsSoundState store → IsDated store
-dated store sound = record { rise = sound.rise; marked = sound.marked }
+dated store sound = record { ascend = sound.ascend; marked = sound.marked }
 
 module _ {L : Type 0} (view : L → LinkView) (service : PlainService) (before after : Places L) where
   pub concluded-ends : (served : Served) (ending : ServeEnding) → ServesAll view service before after served → Concludes served before.written after.written ending
       → EndsServe view service before after ending
-  concluded-ends served (Done told) all ends = (subst (λ (it : Served). ServesAll view service before after it) (sym ends.0) all, subst (λ (it : Served). after.written ≡ written_with (summary_text it) before.written) (sym ends.0) ends.1)
+  concluded-ends served (Done observable) all ends = (subst (λ (it : Served). ServesAll view service before after it) (sym ends.0) all, subst (λ (it : Served). after.written ≡ written_with (summary_text it) before.written) (sym ends.0) ends.1)
   concluded-ends served WriteFault all ends = (served, all, ends)
   concluded-ends served DoorFault all ends = absurd ends
   concluded-ends served NoMemory all ends = absurd ends
   concluded-ends served (StoreFault cause) all ends = absurd ends
   concluded-ends served (BadRow date) all ends = absurd ends
 
-  pub serves-of : (server : Server) (last : State) (callers : List (Caller L)) (kept : Kept) → Begins service kept server → kept.told ≡ before.kept.told
-      → without_rows after.kept ≡ without_rows kept → HaveConnections view server.config server.state callers last → IfSome after.kept.told (λ its. its ≡ last.library)
-      → length callers ≤ service.connections → Pass (exchanges_of callers) before.around after.around
-      → (IsDated server.state.library → WalksSkipNoRow server.config (exchanges_of callers)) → Serves view service before after callers
-  serves-of server last callers kept begins same stays connections held few pass walks =
+  pub serves-of : (server : Server) (last : State) (clients : List (Client L)) (kept : Kept) → Begins service kept server → kept.observable ≡ before.kept.observable
+      → without_rows after.kept ≡ without_rows kept → HaveConnections view server.config server.state clients last → IfSome after.kept.observable (λ its. its ≡ last.library)
+      → length clients ≤ service.connections → Pass (exchanges_of clients) before.around after.around
+      → (IsDated server.state.library → WalksSkipNoRow server.config (exchanges_of clients)) → Serves view service before after clients
+  serves-of server last clients kept begins same stays connections held few pass walks =
       let store = server.state.library in record {
         config = server.config;
         config_is = begins.config_is;
         store = store;
-        loaded = subst (λ (it : Option StoreState). IfSome it (λ rows. store ≡ rows)) same (some_same kept.told store begins.loaded.agrees.told_is);
+        loaded = subst (λ (it : Option StoreState). IfSome it (λ rows. store ≡ rows)) same (some_same kept.observable store begins.loaded.agrees.told_is);
         sound = begins.loaded.sound;
-        named = named_some before.kept.told after.kept.name (store_name service.store)
-            (ap (λ (it : Kept). it.name) stays ∙ begins.loaded.named ∙ ap (λ (told : Option StoreState). option_map (λ _. store_name service.store) told) same);
+        named = named_some before.kept.observable after.kept.name (store_name service.store)
+            (ap (λ (it : Kept). it.name) stays ∙ begins.loaded.named ∙ ap (λ (observable : Option StoreState). option_map (λ _. store_name service.store) observable) same);
         last = last;
-        connections = subst (λ (it : StatusesState). HaveConnections view server.config (record { library = store; statuses = it }) callers last) begins.statuses connections;
-        kept = told_still before.kept.told after.kept.told (record { rows = []; mark = 0 }) last.library (ap (λ (it : Kept). it.told) stays ∙ ap (option_map (λ _. record { rows = []; mark = 0 })) same) held;
+        connections = subst (λ (it : StatusesState). HaveConnections view server.config (record { library = store; statuses = it }) clients last) begins.statuses connections;
+        kept = told_still before.kept.observable after.kept.observable (record { rows = []; watermark = 0 }) last.library (ap (λ (it : Kept). it.observable) stays ∙ ap (option_map (λ _. record { rows = []; watermark = 0 })) same) held;
         few = few;
         pass = pass;
         walks = walks (dated store begins.loaded.sound);

@@ -24,7 +24,7 @@ use Rattle.command_run.specs.Requests.{IsMatchLine, IsShowLine, IsCheckLine, IsM
 use Rattle.flow_edges.specs.Streams.{Streams, streams}
 use Rattle.flow_links.specs.Doors.{DoorState}
 use Rattle.taxii_rows.specs.Keeper.{Kept}
-use Rattle.taxii_server.specs.Outside.{LinkView}
+use Rattle.taxii_server.specs.Environment.{LinkView}
 use Rattle.command_run.specs.Services.{Places}
 use Rattle.command_reasons.specs.Reasons.{IsUnread}
 use Rattle.command_match.specs.MatchEndings.{EndsMatch, match_status, IsMatchReason}
@@ -32,71 +32,71 @@ use Rattle.command_check.specs.CheckEndings.{EndsCheck, check_status, IsCheckRea
 use Rattle.command_show.specs.ShowEndings.{EndsShow, show_status, IsShowReason}
 use Rattle.command_make.specs.MakeEndings.{IsTextOfLog, EndsMake, make_status, IsMakeReason}
 
--- the words are no command line
+-- the arguments are no command line
 abbrev pub IsNoCommand : List (List ℕ) → Type 0
-IsNoCommand words = (request : PlainRequest) → ¬ IsCommandLine words request
+IsNoCommand arguments = (request : PlainRequest) → ¬ IsCommandLine arguments request
 
--- what stands outside at one moment of a run: what is left of the input, and was when its last read began, and the places around
+-- what stands environment at one moment of a run: what is left of the input, and was when its last read began, and the places around
 -- a server, among them the output
-pub record Outside (L : Type 0) : Type 0 where
+pub record Environment (L : Type 0) : Type 0 where
   pub left : Option (List ℕ)
   pub began : Option (List ℕ)
   pub places : Places L
 
 -- the same, from what each object tells
-abbrev pub outside : {L : Type 0} → Option (List ℕ) → Option (List ℕ) → Option (List ℕ) → Option (DoorState L) → Kept → (ℕ → Option ℕ) → ℕ → Outside L
-outside left began written door kept moments faults = record {
+abbrev pub environment : {L : Type 0} → Option (List ℕ) → Option (List ℕ) → Option (List ℕ) → Option (DoorState L) → Kept → (ℕ → Option ℕ) → ℕ → Environment L
+environment left began written door kept moments faults = record {
   left = left;
   began = began;
   places = record { door = door; kept = kept; written = written; around = record { moments = moments; faults = faults } };
 }
 
 -- the input and the output alone
-abbrev pub streams_of : {L : Type 0} → Outside L → Streams
+abbrev pub streams_of : {L : Type 0} → Environment L → Streams
 streams_of around = streams around.left around.began around.places.written
 
--- the words are `match` with that request, which ended so
-pub record RunsMatch (words : List (List ℕ)) (before after : Streams) (ending : MatchEnding) : Type 0 where
+-- the arguments are `match` with that request, which ended so
+pub record RunsMatch (arguments : List (List ℕ)) (before after : Streams) (ending : MatchEnding) : Type 0 where
   pub request : MatchTask
-  pub command : IsMatchLine words request
+  pub command : IsMatchLine arguments request
   pub match_ends : EndsMatch request before after ending
 
--- the words are `check`, which ended so
-pub record RunsCheck (words : List (List ℕ)) (before after : Streams) (ending : CheckEnding) : Type 0 where
-  pub command : IsCheckLine words
+-- the arguments are `check`, which ended so
+pub record RunsCheck (arguments : List (List ℕ)) (before after : Streams) (ending : CheckEnding) : Type 0 where
+  pub command : IsCheckLine arguments
   pub check_ends : EndsCheck before after ending
 
--- the words are `show` with a pattern, which ended so; nothing was read
-pub record RunsShow (words : List (List ℕ)) (before after : Streams) (ending : ShowEnding) : Type 0 where
+-- the arguments are `show` with a pattern, which ended so; nothing was read
+pub record RunsShow (arguments : List (List ℕ)) (before after : Streams) (ending : ShowEnding) : Type 0 where
   pub pattern : List ℕ
-  pub command : IsShowLine words pattern
+  pub command : IsShowLine arguments pattern
   pub show_ends : EndsShow pattern before after ending
   pub unread : after.left ≡ before.left
 
--- the words are `make` with a seed and a count, which ended so; nothing was read
-pub record RunsMake (words : List (List ℕ)) (before after : Streams) (ending : MakeEnding) : Type 0 where
+-- the arguments are `make` with a seed and a count, which ended so; nothing was read
+pub record RunsMake (arguments : List (List ℕ)) (before after : Streams) (ending : MakeEnding) : Type 0 where
   pub seed : ℕ
   pub count : ℕ
-  pub command : IsMakeLine words seed count
+  pub command : IsMakeLine arguments seed count
   pub make_ends : EndsMake seed count before.written after.written ending
   pub unread : after.left ≡ before.left
 
--- the words are `serve` with a service, which ended so; nothing was read
-pub record RunsServe {L : Type 0} (view : L → LinkView) (words : List (List ℕ)) (before after : Outside L) (ending : ServeEnding) : Type 0 where
+-- the arguments are `serve` with a service, which ended so; nothing was read
+pub record RunsServe {L : Type 0} (view : L → LinkView) (arguments : List (List ℕ)) (before after : Environment L) (ending : ServeEnding) : Type 0 where
   pub service : PlainService
-  pub command : IsServeLine words service
+  pub command : IsServeLine arguments service
   pub serve_ends : EndsServe view service before.places after.places ending
   pub unread : after.left ≡ before.left
 
--- what an ending says of the words and of what is outside
-abbrev pub EndsRun : {L : Type 0} → (L → LinkView) → List (List ℕ) → Outside L → Outside L → Ending → Type 0
-EndsRun view words before after (Match ending) = RunsMatch words (streams_of before) (streams_of after) ending
-EndsRun view words before after (Check ending) = RunsCheck words (streams_of before) (streams_of after) ending
-EndsRun view words before after (Show ending) = RunsShow words (streams_of before) (streams_of after) ending
-EndsRun view words before after (Make ending) = RunsMake words (streams_of before) (streams_of after) ending
-EndsRun view words before after (Serve ending) = RunsServe view words before after ending
-EndsRun view words before after Usage = IsNoCommand words × (after ≡ before)
-EndsRun view words before after NoMemory = after ≡ before
+-- what an ending says of the arguments and of what is environment
+abbrev pub EndsRun : {L : Type 0} → (L → LinkView) → List (List ℕ) → Environment L → Environment L → Ending → Type 0
+EndsRun view arguments before after (Match ending) = RunsMatch arguments (streams_of before) (streams_of after) ending
+EndsRun view arguments before after (Check ending) = RunsCheck arguments (streams_of before) (streams_of after) ending
+EndsRun view arguments before after (Show ending) = RunsShow arguments (streams_of before) (streams_of after) ending
+EndsRun view arguments before after (Make ending) = RunsMake arguments (streams_of before) (streams_of after) ending
+EndsRun view arguments before after (Serve ending) = RunsServe view arguments before after ending
+EndsRun view arguments before after Usage = IsNoCommand arguments × (after ≡ before)
+EndsRun view arguments before after NoMemory = after ≡ before
 
 abbrev pub status_of : Ending → ℕ
 status_of (Match ending) = match_status ending
@@ -117,38 +117,38 @@ IsReasonOf (Serve ending) text = text ≡ serve_reason ending
 IsReasonOf Usage text = text ≡ codes "usage: stix_command (match | check | show | serve | make) WORDS\n"
 IsReasonOf NoMemory text = text ≡ codes "out of memory\n"
 
--- the words are `match` with a text that is read as no pattern
-pub record RefusesMatch (words : List (List ℕ)) : Type 0 where
+-- the arguments are `match` with a text that is read as no pattern
+pub record RefusesMatch (arguments : List (List ℕ)) : Type 0 where
   pub request : MatchTask
-  pub command : IsMatchLine words request
+  pub command : IsMatchLine arguments request
   pub none : IsUnread request.pattern
 
--- the words are `show` with a text that is read as no pattern
-pub record RefusesShow (words : List (List ℕ)) : Type 0 where
+-- the arguments are `show` with a text that is read as no pattern
+pub record RefusesShow (arguments : List (List ℕ)) : Type 0 where
   pub pattern : List ℕ
-  pub command : IsShowLine words pattern
+  pub command : IsShowLine arguments pattern
   pub none : IsUnread pattern
 
--- the words are a command, and its pattern is refused
+-- the arguments are a command, and its pattern is refused
 abbrev pub RefusesPattern : List (List ℕ) → Type 0
-RefusesPattern words = RefusesMatch words ⊎ RefusesShow words
+RefusesPattern arguments = RefusesMatch arguments ⊎ RefusesShow arguments
 
--- the statuses 2 and 3 tell that the words are no command line, and that their pattern is refused; only want of memory comes instead
-pub record TellsRefusals (words : List (List ℕ)) (status : ℕ) : Type 0 where
-  pub usage : status ≡ 2 → IsNoCommand words
-  pub no_line : IsNoCommand words → (status ≡ 2) ⊎ (status ≡ 1)
-  pub pattern : status ≡ 3 → RefusesPattern words
-  pub refused : RefusesPattern words → (status ≡ 3) ⊎ (status ≡ 1)
+-- the statuses 2 and 3 tell that the arguments are no command line, and that their pattern is refused; only want of memory comes instead
+pub record TellsRefusals (arguments : List (List ℕ)) (status : ℕ) : Type 0 where
+  pub usage : status ≡ 2 → IsNoCommand arguments
+  pub no_line : IsNoCommand arguments → (status ≡ 2) ⊎ (status ≡ 1)
+  pub pattern : status ≡ 3 → RefusesPattern arguments
+  pub refused : RefusesPattern arguments → (status ≡ 3) ⊎ (status ≡ 1)
 
 -- the program ended in one of its ways, with that status and that reason
-pub record Ends {L : Type 0} (view : L → LinkView) (words : List (List ℕ)) (before after : Outside L) (status : ℕ) (Writes : List ℕ → Type 0) : Type 0 where
+pub record Ends {L : Type 0} (view : L → LinkView) (arguments : List (List ℕ)) (before after : Environment L) (status : ℕ) (Writes : List ℕ → Type 0) : Type 0 where
   pub ending : Ending
   pub status_is : status ≡ status_of ending
-  pub stands : EndsRun view words before after ending
+  pub stands : EndsRun view arguments before after ending
   pub text : List ℕ
   pub reason_is : IsReasonOf ending text
   pub reason : Writes text
-  pub refusals : TellsRefusals words status
+  pub refusals : TellsRefusals arguments status
 
 -- the text is read as a pattern, the whole input as bundles, and these make a log for it: all bindings of the pattern over
 -- that log are written, and nothing else
@@ -168,10 +168,10 @@ abbrev pub TellsNumbers : ℕ → ℕ → Streams → Streams → Type 0
 TellsNumbers seed count before after = (text : List ℕ) × IsTextOfLog seed count text × (after.written ≡ written_with text before.written)
 
 -- what was asked for was done: a `match` wrote the listing, a `make` the numbers
-pub record IsDone (words : List (List ℕ)) (before after : Streams) : Type 0 where
-  pub listing : (task : MatchTask) → IsMatchLine words task → ListsBindings task before after
-  pub numbers : (seed count : ℕ) → IsMakeLine words seed count → TellsNumbers seed count before after
+pub record IsDone (arguments : List (List ℕ)) (before after : Streams) : Type 0 where
+  pub listing : (task : MatchTask) → IsMatchLine arguments task → ListsBindings task before after
+  pub numbers : (seed count : ℕ) → IsMakeLine arguments seed count → TellsNumbers seed count before after
 
--- a run with that status served no caller
+-- a run with that status served no client
 abbrev pub ServesNone : ℕ → Type 0
 ServesNone status = (status ≢ 0) × (status ≢ 6) × (status ≢ 8)

@@ -1,4 +1,4 @@
--- What an ending of `serve` says of the callers and of what is outside; its status, and its reason as a text.
+-- What an ending of `serve` says of the clients and of what is environment; its status, and its reason as a text.
 use Rattle.std.specs.Prelude.{◌≡◌, ◌⊎◌, ⊤, ℕ, List, [], ◌++◌, Option, IfSome, codes, decimal}
 use Rattle.flow_edges.specs.Flow.{written_with, WritesPart}
 use Rattle.flow_links.specs.Doors.{Stays}
@@ -7,9 +7,9 @@ use Rattle.taxii_rows.specs.Causes.{text_of}
 use Rattle.taxii_store.specs.Loading.{IsBadAfter}
 use Rattle.taxii_store.specs.declared.load_refusal.LoadRefusal.{LoadRefusal}
 use Rattle.taxii_store.specs.declared.load_refusal.LoadRefusal.TheVariants as refused
-use Rattle.taxii_server.specs.Outside.{LinkView}
+use Rattle.taxii_server.specs.Environment.{LinkView}
 use Rattle.taxii_server.specs.declared.served.Served.{Served}
-use Rattle.taxii_server.specs.Serving.{Caller, PassThrough, IsWholeOf}
+use Rattle.taxii_server.specs.Serving.{Client, PassThrough, IsWholeOf}
 use Rattle.command_line.specs.CommandLines.{PlainService}
 use Rattle.command_reasons.specs.Reasons.{bad_row_reason, store_fault_reason}
 use Rattle.command_run.specs.declared.serve_ending.ServeEnding.{ServeEnding}
@@ -20,20 +20,20 @@ use Rattle.command_run.specs.Services.{Places, Serves}
 abbrev pub summary_text : Served → List ℕ
 summary_text served = codes "connections " ++ (decimal served.connections ++ (codes " requests " ++ (decimal served.requests ++ codes "\n")))
 
--- callers were served at the port, as many as were asked for or as come
+-- clients were served at the port, as many as were asked for or as come
 abbrev pub ServesAll : {L : Type 0} → (L → LinkView) → PlainService → Places L → Places L → Served → Type 0
-ServesAll {L} view service before after served = (callers : List (Caller L)) × Serves view service before after callers
-    × PassThrough service.port callers before.door after.door × IsWholeOf service.connections callers after.door served
+ServesAll {L} view service before after served = (clients : List (Client L)) × Serves view service before after clients
+    × PassThrough service.port clients before.door after.door × IsWholeOf service.connections clients after.door served
 
--- callers were served at the port until the door failed, which it may do before it listens
+-- clients were served at the port until the door failed, which it may do before it listens
 abbrev pub ServesSome : {L : Type 0} → (L → LinkView) → PlainService → Places L → Places L → Type 0
-ServesSome {L} view service before after = (callers : List (Caller L)) × Serves view service before after callers
-    × (PassThrough service.port callers before.door after.door ⊎ ((callers ≡ []) × Stays before.door after.door))
+ServesSome {L} view service before after = (clients : List (Client L)) × Serves view service before after clients
+    × (PassThrough service.port clients before.door after.door ⊎ ((clients ≡ []) × Stays before.door after.door))
 
--- no caller was served, and nothing was written
+-- no client was served, and nothing was written
 pub record IsUnserved {L : Type 0} (before after : Places L) : Type 0 where
   pub door : after.door ≡ before.door
-  pub rows : after.kept.told ≡ before.kept.told
+  pub rows : after.kept.observable ≡ before.kept.observable
   pub written : after.written ≡ before.written
 
 abbrev pub EndsServe : {L : Type 0} → (L → LinkView) → PlainService → Places L → Places L → ServeEnding → Type 0
@@ -44,7 +44,7 @@ EndsServe view service before after WriteFault =
 EndsServe view service before after DoorFault = ServesSome view service before after × (after.written ≡ before.written)
 EndsServe view service before after NoMemory = IsUnserved before after
 EndsServe view service before after (StoreFault cause) = IsUnserved before after
-EndsServe view service before after (BadRow date) = IsUnserved before after × IfSome before.kept.told (λ state. IsBadAfter state date)
+EndsServe view service before after (BadRow date) = IsUnserved before after × IfSome before.kept.observable (λ state. IsBadAfter state date)
 
 -- the ending came before the door was opened
 abbrev pub IsEarly : ServeEnding → Type 0
@@ -84,7 +84,7 @@ load_ending cause refused.NoMemory = NoMemory
 
 -- For private clauses: what an ending says of the summary alone.
 abbrev pub Concludes : Served → Option (List ℕ) → Option (List ℕ) → ServeEnding → Type 0
-Concludes served written written_after (Done told) = (told ≡ served) × (written_after ≡ written_with (summary_text served) written)
+Concludes served written written_after (Done observable) = (observable ≡ served) × (written_after ≡ written_with (summary_text served) written)
 Concludes served written written_after WriteFault = WritesPart (summary_text served) written written_after
 Concludes served written written_after DoorFault = ⊥
 Concludes served written written_after NoMemory = ⊥

@@ -1,4 +1,4 @@
--- What a server is that a command line asks for, and how callers are served by it.
+-- What a server is that a command line asks for, and how clients are served by it.
 use Rattle.std.specs.Prelude.{◌≡◌, ◌≤◌, ℕ, List, [], length, map, Option, Some, None, option_map, IfSome}
 use Rattle.flow_links.specs.Doors.{DoorState}
 use Rattle.taxii_rows.specs.StoreState.{StoreState}
@@ -12,9 +12,9 @@ use Rattle.taxii_service.specs.declared.state.State.{State}
 use Rattle.taxii_service.specs.Starting.{starting_with}
 use Rattle.taxii_service.specs.Visits.{WalksSkipNoRow}
 use Rattle.taxii_server.specs.declared.server.Server.{Server}
-use Rattle.taxii_server.specs.Outside.{LinkView, Outside}
+use Rattle.taxii_server.specs.Environment.{LinkView, Environment}
 use Rattle.taxii_server.specs.Connections.{Pass}
-use Rattle.taxii_server.specs.Serving.{Caller, exchanges_of, HaveConnections}
+use Rattle.taxii_server.specs.Serving.{Client, exchanges_of, HaveConnections}
 use Rattle.command_line.specs.CommandLines.{PlainCollection, PlainService}
 
 -- what the server says of a collection that is asked for
@@ -43,21 +43,21 @@ pub record Places (L : Type 0) : Type 0 where
   pub door : Option (DoorState L)
   pub kept : Kept
   pub written : Option (List ℕ)
-  pub around : Outside
+  pub around : Environment
 
--- these callers were served: the server that is asked for began with the keeper's rows and no statuses; each caller had its connection, from
+-- these clients were served: the server that is asked for began with the keeper's rows and no statuses; each client had its connection, from
 -- what the one before left, and no more were served than asked for; where the keeper told its rows, it tells those of the last state; and no
 -- walk among the requests skips a row
-pub record Serves {L : Type 0} (view : L → LinkView) (service : PlainService) (before after : Places L) (callers : List (Caller L)) : Type 0 where
+pub record Serves {L : Type 0} (view : L → LinkView) (service : PlainService) (before after : Places L) (clients : List (Client L)) : Type 0 where
   pub config : Config
   pub config_is : IsConfigOf service config
   pub store : StoreState
-  pub loaded : IfSome before.kept.told (λ rows. store ≡ rows)
+  pub loaded : IfSome before.kept.observable (λ rows. store ≡ rows)
   pub sound : IsSoundState store
-  pub named : IfSome before.kept.told (λ _. after.kept.name ≡ Some (store_name service.store))
+  pub named : IfSome before.kept.observable (λ _. after.kept.name ≡ Some (store_name service.store))
   pub last : State
-  pub connections : HaveConnections view config (starting_with store) callers last
-  pub kept : after.kept.told ≡ option_map (λ _. last.library) before.kept.told
-  pub few : length callers ≤ service.connections
-  pub pass : Pass (exchanges_of callers) before.around after.around
-  pub walks : WalksSkipNoRow config (exchanges_of callers)
+  pub connections : HaveConnections view config (starting_with store) clients last
+  pub kept : after.kept.observable ≡ option_map (λ _. last.library) before.kept.observable
+  pub few : length clients ≤ service.connections
+  pub pass : Pass (exchanges_of clients) before.around after.around
+  pub walks : WalksSkipNoRow config (exchanges_of clients)

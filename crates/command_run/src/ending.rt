@@ -10,7 +10,7 @@ use command_show::ShowEnding;
 use flow_edges::{Sink, write_whole};
 use flow_values::Fault;
 
-/// How the program ends: how its command did, or that the words are none.
+/// How the program ends: how its command did, or that the arguments are none.
 #[derive(Debug, Drop)]
 pub enum Ending {
     Match(MatchEnding),
@@ -18,9 +18,9 @@ pub enum Ending {
     Show(ShowEnding),
     Make(MakeEnding),
     Serve(ServeEnding),
-    /// The words are no command line.
+    /// The arguments are no command line.
     Usage,
-    /// Memory ran out while the words were read.
+    /// Memory ran out while the arguments were read.
     NoMemory,
 }
 

@@ -17,15 +17,15 @@ use taxii_service::State;
 use taxii_exchange::Statuses;
 use taxii_store::{Library, LoadRefusal};
 
-/// The server that is asked for, with the rows of the keeper. The keeper's rows and its mark stay.
+/// The server that is asked for, with the rows of the keeper. The keeper's rows and its watermark stay.
 pub(crate) fn open<K: Keeper>(
     alloc: Global,
     request: &ServeRequest<'_>,
     keeper: &mut K,
 ) -> Result<Server, LoadRefusal>
     ensures ok { IfOk result (Begins (plain_service request.now) (K.kept keeper.new)) }
-    ensures bad { IfErr result (λ refusal. (after : ℕ) → refusal ≡ Refused.BadRow after → IfSome (K.kept keeper.old).told (λ state. IsBadAfter state after)) }
-    ensures told { (K.kept keeper.new).told ≡ (K.kept keeper.old).told }
+    ensures bad { IfErr result (λ refusal. (after : ℕ) → refusal ≡ Refused.BadRow after → IfSome (K.kept keeper.old).observable (λ state. IsBadAfter state after)) }
+    ensures observable { (K.kept keeper.new).observable ≡ (K.kept keeper.old).observable }
     ensures causes { Counted (result ≡ Err Refused.KeeperFault) (K.faults keeper.old) (K.faults keeper.new) }
 {
     let config = config_of(alloc, request)?;

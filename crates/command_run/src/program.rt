@@ -4,13 +4,13 @@ ghost use Rattle.flow_edges.specs.Streams.{streams};
 ghost use Rattle.command_line.specs.CommandLines.{texts};
 ghost use Rattle.command_reasons.specs.Reasons.{WritesReason};
 ghost use Rattle.command_run.specs.Requests.{AskForNoInput, AskToServe};
-ghost use Rattle.command_run.specs.RunEndings.{status_of, IsReasonOf, EndsRun, ServesNone, Ends, IsDone, outside};
-ghost use Rattle.taxii_server.specs.Outside.{link_view};
+ghost use Rattle.command_run.specs.RunEndings.{status_of, IsReasonOf, EndsRun, ServesNone, Ends, IsDone, environment};
+ghost use Rattle.taxii_server.specs.Environment.{link_view};
 
 use crate::ending::Ending;
 use command_check::check;
 use command_line::laws::one_request;
-use command_line::{Request, WordsRefusal, read_words};
+use command_line::{Request, ArgumentsRefusal, read_arguments};
 use command_make::make;
 use command_match::match_bindings;
 use crate::serve;
@@ -20,30 +20,30 @@ use flow_links::{Clock, Door};
 use std::alloc::Global;
 use taxii_rows::Keeper;
 
-/// Does what the words ask for.
-fn obey<I: Source, O: Sink, D: Door, K: Keeper, C: Clock>(
+/// Does what the arguments ask for.
+fn execute<I: Source, O: Sink, D: Door, K: Keeper, C: Clock>(
     alloc: Global,
-    words: &[String],
+    arguments: &[String],
     input: &mut I,
     output: &mut O,
     door: &mut D,
     keeper: &mut K,
     clock: &mut C,
 ) -> Ending
-    ensures end { EndsRun (link_view D.Link.left D.Link.began D.Link.written D.Link.Source.faults D.Link.Sink.faults) (texts words.now)
-        (outside (I.left input.old) (I.began input.old) (O.written output.old) (D.told door.old) (K.kept keeper.old) (C.moments clock.old) (K.faults keeper.old))
-        (outside (I.left input.new) (I.began input.new) (O.written output.new) (D.told door.new) (K.kept keeper.new) (C.moments clock.new) (K.faults keeper.new)) result }
+    ensures end { EndsRun (link_view D.Link.left D.Link.began D.Link.written D.Link.Source.faults D.Link.Sink.faults) (texts arguments.now)
+        (environment (I.left input.old) (I.began input.old) (O.written output.old) (D.observable door.old) (K.kept keeper.old) (C.moments clock.old) (K.faults keeper.old))
+        (environment (I.left input.new) (I.began input.new) (O.written output.new) (D.observable door.new) (K.kept keeper.new) (C.moments clock.new) (K.faults keeper.new)) result }
     ensures untouched { (status_of result ≡ 2) ⊎ (status_of result ≡ 3) → (input.new ≡ input.old) × (output.new ≡ output.old) }
-    ensures unasked { (AskForNoInput (texts words.now) → input.new ≡ input.old)
-        × (¬ AskToServe (texts words.now) → (door.new ≡ door.old) × (clock.new ≡ clock.old) × (keeper.new ≡ keeper.old)) }
-    ensures unserved { ServesNone (status_of result) → (door.new ≡ door.old) × (clock.new ≡ clock.old) × ((K.kept keeper.new).told ≡ (K.kept keeper.old).told) }
+    ensures unasked { (AskForNoInput (texts arguments.now) → input.new ≡ input.old)
+        × (¬ AskToServe (texts arguments.now) → (door.new ≡ door.old) × (clock.new ≡ clock.old) × (keeper.new ≡ keeper.old)) }
+    ensures unserved { ServesNone (status_of result) → (door.new ≡ door.old) × (clock.new ≡ clock.old) × ((K.kept keeper.new).observable ≡ (K.kept keeper.old).observable) }
     ensures input { Counted (status_of result ≡ 5) (I.faults input.old) (I.faults input.new) }
     ensures output { Counted (status_of result ≡ 6) (O.faults output.old) (O.faults output.new) }
     ensures door { Counted (status_of result ≡ 8) (D.faults door.old) (D.faults door.new) }
     ensures keeper { ServesNone (status_of result) → Counted (status_of result ≡ 9) (K.faults keeper.old) (K.faults keeper.new) }
 {
     one_request();
-    match read_words(alloc, words) {
+    match read_arguments(alloc, arguments) {
         Ok(Request::Match(request)) => {
             Ending::Match(match_bindings(alloc, request, input, output))
         }
@@ -53,22 +53,22 @@ fn obey<I: Source, O: Sink, D: Door, K: Keeper, C: Clock>(
         Ok(Request::Serve(request)) => {
             Ending::Serve(serve(alloc, &request, output, door, keeper, clock))
         }
-        Err(WordsRefusal::NoLine) => Ending::Usage,
-        Err(WordsRefusal::NoMemory) => Ending::NoMemory,
+        Err(ArgumentsRefusal::NoLine) => Ending::Usage,
+        Err(ArgumentsRefusal::NoMemory) => Ending::NoMemory,
     }
 }
 
-/// The program: does what the words after its name ask for, and answers its status.
+/// The program: does what the arguments after its name ask for, and answers its status.
 ///
 /// | Status | Comes |
 /// |---|---|
 /// | 0 | the input that is asked for was read to its end, and all output was written |
 /// | 1 | memory ran out |
-/// | 2 | exactly where the words are no command line, unless memory runs out while they are read |
+/// | 2 | exactly where the arguments are no command line, unless memory runs out while they are read |
 /// | 3 | exactly where the pattern is refused |
 /// | 4 | where a line is refused, the first such one; and where a bundle that is checked has breaks |
 /// | 5, 6 | only where the input, the output counted a fault, and at each fault of theirs |
-/// | 7 | where more is live than the cap allows, at the first such observation |
+/// | 7 | where more is live than the retained limit allows, at the first such observation |
 /// | 8 | only where the door counted a fault, and at each fault of its own |
 /// | 9 | only where the keeper counted a fault while its rows were read |
 /// | 10 | exactly where the keeper has a row that is bad, the first such one |
@@ -76,7 +76,7 @@ fn obey<I: Source, O: Sink, D: Door, K: Keeper, C: Clock>(
 /// On `reasons` the reason is told in one line. A failing write there changes nothing else.
 pub fn run<I: Source, O: Sink, E: Sink, D: Door, K: Keeper, C: Clock>(
     alloc: Global,
-    words: &[String],
+    arguments: &[String],
     input: &mut I,
     output: &mut O,
     reasons: &mut E,
@@ -84,23 +84,23 @@ pub fn run<I: Source, O: Sink, E: Sink, D: Door, K: Keeper, C: Clock>(
     keeper: &mut K,
     clock: &mut C,
 ) -> u8
-    ensures ends { Ends (link_view D.Link.left D.Link.began D.Link.written D.Link.Source.faults D.Link.Sink.faults) (texts words.now)
-        (outside (I.left input.old) (I.began input.old) (O.written output.old) (D.told door.old) (K.kept keeper.old) (C.moments clock.old) (K.faults keeper.old))
-        (outside (I.left input.new) (I.began input.new) (O.written output.new) (D.told door.new) (K.kept keeper.new) (C.moments clock.new) (K.faults keeper.new)) result
+    ensures ends { Ends (link_view D.Link.left D.Link.began D.Link.written D.Link.Source.faults D.Link.Sink.faults) (texts arguments.now)
+        (environment (I.left input.old) (I.began input.old) (O.written output.old) (D.observable door.old) (K.kept keeper.old) (C.moments clock.old) (K.faults keeper.old))
+        (environment (I.left input.new) (I.began input.new) (O.written output.new) (D.observable door.new) (K.kept keeper.new) (C.moments clock.new) (K.faults keeper.new)) result
         (λ reason. WritesReason reason (E.written reasons.old) (E.written reasons.new) (E.faults reasons.old) (E.faults reasons.new)) }
-    ensures done { result ≡ 0 → IsDone (texts words.now) (streams (I.left input.old) (I.began input.old) (O.written output.old))
+    ensures done { result ≡ 0 → IsDone (texts arguments.now) (streams (I.left input.old) (I.began input.old) (O.written output.old))
         (streams (I.left input.new) (I.began input.new) (O.written output.new)) }
     ensures untouched { (result ≡ 2) ⊎ (result ≡ 3) → (input.new ≡ input.old) × (output.new ≡ output.old) }
-    ensures unread { AskForNoInput (texts words.now) → input.new ≡ input.old }
-    ensures unserved { ServesNone result → (door.new ≡ door.old) × (clock.new ≡ clock.old) × ((K.kept keeper.new).told ≡ (K.kept keeper.old).told) }
-    ensures others { ¬ AskToServe (texts words.now) → (door.new ≡ door.old) × (clock.new ≡ clock.old) × (keeper.new ≡ keeper.old) }
+    ensures unread { AskForNoInput (texts arguments.now) → input.new ≡ input.old }
+    ensures unserved { ServesNone result → (door.new ≡ door.old) × (clock.new ≡ clock.old) × ((K.kept keeper.new).observable ≡ (K.kept keeper.old).observable) }
+    ensures others { ¬ AskToServe (texts arguments.now) → (door.new ≡ door.old) × (clock.new ≡ clock.old) × (keeper.new ≡ keeper.old) }
     ensures input { Counted (result ≡ 5) (I.faults input.old) (I.faults input.new) }
     ensures output { Counted (result ≡ 6) (O.faults output.old) (O.faults output.new) }
     ensures door { Counted (result ≡ 8) (D.faults door.old) (D.faults door.new) }
     ensures keeper { ServesNone result → Counted (result ≡ 9) (K.faults keeper.old) (K.faults keeper.new) }
 {
     one_request();
-    let ending = obey(alloc, words, input, output, door, keeper, clock);
+    let ending = execute(alloc, arguments, input, output, door, keeper, clock);
     finish(&ending, reasons)
 }
 

@@ -10,17 +10,17 @@ use taxii_store::LoadRefusal;
 /// How a `serve` ends.
 #[derive(Clone, Copy, Debug, PartialEq, Eq)]
 pub enum ServeEnding {
-    /// Callers were served, and what was done was written.
+    /// Clients were served, and what was done was written.
     Done(Served),
     /// Memory ran out before the door was opened.
     NoMemory,
-    /// Callers were served, and the output failed.
+    /// Clients were served, and the output failed.
     WriteFault,
-    /// The door failed. The callers before that were served.
+    /// The door failed. The clients before that were served.
     DoorFault,
     /// The store failed while it was read, before the door was opened, and why.
     StoreFault(FaultCause),
-    /// The row behind this date is bad, or the mark behind the last row.
+    /// The row behind this date is bad, or the watermark behind the last row.
     BadRow {
         /// In microseconds since 1970; 0 where it is the first row.
         after: u64,

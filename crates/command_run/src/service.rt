@@ -1,7 +1,7 @@
 ghost use Rattle.std.specs.Prelude.{◌≡◌};
 ghost use Rattle.flow_edges.specs.Faults.{Counted};
 ghost use Rattle.taxii_rows.specs.declared.fault_cause.FaultCause.{FaultCause as Cause};
-ghost use Rattle.taxii_server.specs.Outside.{link_view};
+ghost use Rattle.taxii_server.specs.Environment.{link_view};
 ghost use Rattle.command_line.specs.Request.{plain_service};
 ghost use Rattle.command_run.specs.ServeEndings.{EndsServe, IsEarly, IsStoreFault, Concludes};
 
@@ -14,10 +14,10 @@ use flow_links::{Clock, Door};
 use std::alloc::Global;
 use taxii_service::history_laws::walks_among_requests_skip_no_row;
 use taxii_rows::Keeper;
-use taxii_server::laws::callers_make_history;
+use taxii_server::laws::clients_make_history;
 use taxii_server::{Served, serve_door};
 
-/// Reads the keeper's rows, serves the callers of the door, one after the other, and writes at the end
+/// Reads the keeper's rows, serves the clients of the door, one after the other, and writes at the end
 /// how many there were, and how many requests.
 pub fn serve<O: Sink, D: Door, K: Keeper, C: Clock>(
     alloc: Global,
@@ -29,17 +29,17 @@ pub fn serve<O: Sink, D: Door, K: Keeper, C: Clock>(
 ) -> ServeEnding
     ensures ends { EndsServe (link_view D.Link.left D.Link.began D.Link.written D.Link.Source.faults D.Link.Sink.faults)
         (plain_service request.now)
-        (record { door = D.told door.old; kept = K.kept keeper.old; written = O.written output.old; around = record { moments = C.moments clock.old; faults = K.faults keeper.old } })
-        (record { door = D.told door.new; kept = K.kept keeper.new; written = O.written output.new; around = record { moments = C.moments clock.new; faults = K.faults keeper.new } })
+        (record { door = D.observable door.old; kept = K.kept keeper.old; written = O.written output.old; around = record { moments = C.moments clock.old; faults = K.faults keeper.old } })
+        (record { door = D.observable door.new; kept = K.kept keeper.new; written = O.written output.new; around = record { moments = C.moments clock.new; faults = K.faults keeper.new } })
         result }
     ensures early { IsEarly result → (door.new ≡ door.old) × (clock.new ≡ clock.old) × (output.new ≡ output.old) }
     ensures door { Counted (result ≡ ServeEnding.DoorFault) (D.faults door.old) (D.faults door.new) }
     ensures keeper { IsEarly result → Counted (IsStoreFault result) (K.faults keeper.old) (K.faults keeper.new) }
-    ensures cause { (cause : Cause) → result ≡ ServeEnding.StoreFault cause → cause ≡ K.blamed keeper.new }
+    ensures cause { (cause : Cause) → result ≡ ServeEnding.StoreFault cause → cause ≡ K.last_cause keeper.new }
     ensures output { Counted (result ≡ ServeEnding.WriteFault) (O.faults output.old) (O.faults output.new) }
 {
     walks_among_requests_skip_no_row();
-    callers_make_history::<D>();
+    clients_make_history::<D>();
     let mut server = match open(alloc, request, keeper) {
         Ok(server) => server,
         Err(refusal) => return ServeEnding::of_refusal(refusal, keeper.cause()),

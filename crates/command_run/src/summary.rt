@@ -3,7 +3,7 @@ ghost use Rattle.flow_edges.specs.Faults.{Counted};
 ghost use Rattle.flow_edges.specs.Flow.{WritesWhole, WritesPart};
 ghost use Rattle.command_run.specs.ServeEndings.{summary_text};
 
-use flow_edges::{Sink, write_pieces};
+use flow_edges::{Sink, write_all_vectored};
 use flow_values::Fault;
 use itoa::Buffer;
 use taxii_server::Served;
@@ -27,7 +27,7 @@ fn write_counts<O: Sink>(connections: &str, requests: &str, output: &mut O) -> R
     ensures part { OnErr result (WritesPart (codes "connections " ++ (connections.now ++ (codes " requests " ++ (requests.now ++ codes "\n")))) (O.written output.old) (O.written output.new)) }
     ensures causes { Counted (IsErr result) (O.faults output.old) (O.faults output.new) }
 {
-    write_pieces(
+    write_all_vectored(
         output,
         &[
             b"connections ",

@@ -20,7 +20,7 @@ mod system_files;
 
 pub use fault::counted_fault;
 pub use files::Files;
-pub use pieces::write_pieces;
+pub use pieces::write_all_vectored;
 pub use sink::{Sink, write_whole};
 pub use source::{MAX_READ, Source};
 pub use system::{ReadSource, WriteSink};

@@ -7,7 +7,7 @@ use flow_values::Fault;
 
 /// Writes all of the pieces, one after the other. After a `Fault` a prefix of them together was
 /// written. Takes no memory.
-pub fn write_pieces<S: Sink>(sink: &mut S, pieces: &[&[u8]]) -> Result<(), Fault>
+pub fn write_all_vectored<S: Sink>(sink: &mut S, pieces: &[&[u8]]) -> Result<(), Fault>
     ensures text { WritesWhole (joined pieces.now) (S.written sink.old) (S.written sink.new) result }
     ensures part { OnErr result (WritesPart (joined pieces.now) (S.written sink.old) (S.written sink.new)) }
     ensures causes { Counted (IsErr result) (S.faults sink.old) (S.faults sink.new) }

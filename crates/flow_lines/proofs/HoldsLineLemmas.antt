@@ -3,11 +3,11 @@ use Rattle.std.proofs.Common.{◌≡◌, ℕ, Option, MatchBool, Bool, true, fal
 use Rattle.std.proofs.lemmas.List.Splits.{slice_split_none}
 use Rattle.std.specs.List.{list_any}
 use Rattle.flow_lines.specs.Lines.{is_line_feed, NoLineFeed, raw_lines, raw_lines_of, content, is_blank, is_whole, HoldsLine}
-use Rattle.flow_lines.specs.inner.Reading.{ReadsToLineFeed, ReadsLast, IsHeld}
+use Rattle.flow_lines.specs.inner.Reading.{ReadsToLineFeed, ReadsLast, IsBuffered}
 use Rattle.flow_lines.proofs.RawLinesLemmas.{raw_lines-fed}
 
 -- the last line, which has no line feed, isn't whole
-last-unwhole : (part : List ℕ) (none : Bool) → list_any is_whole (if none then [] else record { bytes = part; closed = false } ∷ []) ≡ false
+last-unwhole : (part : List ℕ) (none : Bool) → list_any is_whole (if none then [] else record { bytes = part; terminated = false } ∷ []) ≡ false
 last-unwhole part true = refl
 last-unwhole part false = refl
 
@@ -19,16 +19,16 @@ holds_line-feed bytes holds plain =
     cc
 
 -- where a blank line goes by, the whole line stands behind it
-pub holds_line-later : (line chunk chunk_new bytes : List ℕ) (closed : Bool) → NoLineFeed line → IsHeld chunk chunk_new line closed
-    → bytes ≡ content (record { bytes = line; closed = closed }) → is_blank bytes ≡ true → HoldsLine chunk → HoldsLine chunk_new
-holds_line-later line chunk chunk_new bytes closed plain held same blank holds =
-    let empty : is_blank (content (record { bytes = line; closed = true })) ≡ true =
-    ap (λ closed. is_blank (content (record { bytes = line; closed = closed }))) (sym held.whole) ∙ ap is_blank (sym same) ∙ blank in
-    ap (λ blank. not blank || list_any is_whole (raw_lines chunk_new)) (sym empty)
-    ∙ ap (list_any is_whole) (sym (raw_lines-fed line chunk_new plain)) ∙ ap (λ all. list_any is_whole (raw_lines all)) (sym held.cut) ∙ holds
+pub holds_line-later : (line read_buffer read_buffer_new bytes : List ℕ) (terminated : Bool) → NoLineFeed line → IsBuffered read_buffer read_buffer_new line terminated
+    → bytes ≡ content (record { bytes = line; terminated = terminated }) → is_blank bytes ≡ true → HoldsLine read_buffer → HoldsLine read_buffer_new
+holds_line-later line read_buffer read_buffer_new bytes terminated plain held same blank holds =
+    let empty : is_blank (content (record { bytes = line; terminated = true })) ≡ true =
+    ap (λ terminated. is_blank (content (record { bytes = line; terminated = terminated }))) (sym held.whole) ∙ ap is_blank (sym same) ∙ blank in
+    ap (λ blank. not blank || list_any is_whole (raw_lines read_buffer_new)) (sym empty)
+    ∙ ap (list_any is_whole) (sym (raw_lines-fed line read_buffer_new plain)) ∙ ap (λ all. list_any is_whole (raw_lines all)) (sym held.cut) ∙ holds
 
 -- a line that was read has no line feed
-pub reads-plain : (number place : ℕ) (all left : Option (List ℕ)) (line chunk : List ℕ) (closed : Bool)
-    → MatchBool closed (ReadsToLineFeed number place all left line chunk) (ReadsLast number place all left line chunk) → NoLineFeed line
-reads-plain number place all left line chunk true reads = reads.plain
-reads-plain number place all left line chunk false reads = reads.plain
+pub reads-plain : (number offset : ℕ) (all left : Option (List ℕ)) (line read_buffer : List ℕ) (terminated : Bool)
+    → MatchBool terminated (ReadsToLineFeed number offset all left line read_buffer) (ReadsLast number offset all left line read_buffer) → NoLineFeed line
+reads-plain number offset all left line read_buffer true reads = reads.plain
+reads-plain number offset all left line read_buffer false reads = reads.plain

@@ -6,5 +6,5 @@ pub mod LastReadLemmas
 pub mod TakesAtMostLemmas
 pub mod WholeLinesLemmas
 pub mod CausesLemmas
-pub mod ChunkLemmas
+pub mod ReadBufferLemmas
 pub mod ReadsLineLemmas

@@ -12,22 +12,22 @@ use Rattle.flow_lines.specs.declared.refusal.LineRefusal.{LineRefusal}
 use Rattle.flow_lines.specs.declared.refusal.LineRefusal.TheVariants.{Fault, LineTooLong, InputTooLong, NoMemory}
 use Rattle.flow_edges.specs.Flow.{left_after, IsNextOf}
 use Rattle.flow_lines.specs.Lines.{is_line_feed, IsNoLineFeed, NoLineFeed, raw_lines, raw_lines_of, length_refusal, IsOfLine}
-use Rattle.flow_lines.specs.inner.Reading.{bytes_ahead, TakesToLineFeed, TakesAll, TakesPart, IsFirstRefused, IsForLength, BreaksOffLine}
+use Rattle.flow_lines.specs.inner.Reading.{bytes_remaining, TakesToLineFeed, TakesAll, TakesPart, IsFirstRefused, IsForLength, BreaksOffLine}
 
 -- ---- the bytes that a source tells
 
-pub bytes_ahead-taken : (line chunk : List ℕ) (left : Option (List ℕ)) → bytes_ahead line chunk left ≡ bytes_ahead (line ++ chunk) [] left
-bytes_ahead-taken line chunk None = refl
-bytes_ahead-taken line chunk (Some bytes) = ap Some (sym (append_assoc line chunk bytes))
+pub bytes_remaining-taken : (line read_buffer : List ℕ) (left : Option (List ℕ)) → bytes_remaining line read_buffer left ≡ bytes_remaining (line ++ read_buffer) [] left
+bytes_remaining-taken line read_buffer None = refl
+bytes_remaining-taken line read_buffer (Some bytes) = ap Some (sym (append_assoc line read_buffer bytes))
 
-pub bytes_ahead-filled : (line more : List ℕ) (left after : Option (List ℕ)) → IsNextOf more left → after ≡ left_after (length more) left → bytes_ahead line [] left ≡ bytes_ahead line more after
-bytes_ahead-filled line more None after next rest = ap (λ left. bytes_ahead line more left) (sym rest)
-bytes_ahead-filled line more (Some bytes) after next rest =
-    ap (λ all. Some (line ++ all)) (sym (take-append-drop (length more) bytes) ∙ ap (λ front. front ++ drop (length more) bytes) next) ∙ ap (λ left. bytes_ahead line more left) (sym rest)
+pub bytes_remaining-filled : (line more : List ℕ) (left after : Option (List ℕ)) → IsNextOf more left → after ≡ left_after (length more) left → bytes_remaining line [] left ≡ bytes_remaining line more after
+bytes_remaining-filled line more None after next rest = ap (λ left. bytes_remaining line more left) (sym rest)
+bytes_remaining-filled line more (Some bytes) after next rest =
+    ap (λ all. Some (line ++ all)) (sym (take-append-drop (length more) bytes) ∙ ap (λ front. front ++ drop (length more) bytes) next) ∙ ap (λ left. bytes_remaining line more left) (sym rest)
 
-pub bytes_ahead-fed : (taken line chunk : List ℕ) (left : Option (List ℕ)) → bytes_ahead line (taken ++ 10 ∷ chunk) left ≡ option_map (λ bytes. (line ++ taken) ++ 10 ∷ (chunk ++ bytes)) left
-bytes_ahead-fed taken line chunk None = refl
-bytes_ahead-fed taken line chunk (Some bytes) = ap Some (ap (λ tail. line ++ tail) (append_assoc taken (10 ∷ chunk) bytes) ∙ sym (append_assoc line taken (10 ∷ (chunk ++ bytes))))
+pub bytes_remaining-fed : (taken line read_buffer : List ℕ) (left : Option (List ℕ)) → bytes_remaining line (taken ++ 10 ∷ read_buffer) left ≡ option_map (λ bytes. (line ++ taken) ++ 10 ∷ (read_buffer ++ bytes)) left
+bytes_remaining-fed taken line read_buffer None = refl
+bytes_remaining-fed taken line read_buffer (Some bytes) = ap Some (ap (λ tail. line ++ tail) (append_assoc taken (10 ∷ read_buffer) bytes) ∙ sym (append_assoc line taken (10 ∷ (read_buffer ++ bytes))))
 
 -- ---- lines of whole bytes
 
@@ -39,43 +39,43 @@ split-first (byte ∷ bytes) = go (is_line_feed byte) refl (split-first bytes)
     go true e tail = ([], slice_split is_line_feed bytes, rw e refl)
     go false e (first, later, is) = (byte ∷ first, later, rw (e, is) refl)
 
-pub raw_lines-fed : (line bytes : List ℕ) → NoLineFeed line → raw_lines (line ++ 10 ∷ bytes) ≡ record { bytes = line; closed = true } ∷ raw_lines bytes
+pub raw_lines-fed : (line bytes : List ℕ) → NoLineFeed line → raw_lines (line ++ 10 ∷ bytes) ≡ record { bytes = line; terminated = true } ∷ raw_lines bytes
 raw_lines-fed line bytes plain =
     let (first, later, is) = split-first bytes in
-    ap raw_lines_of (slice_split_at is_line_feed line 10 bytes plain refl ∙ ap (λ parts. line ∷ parts) is) ∙ ap (λ parts. record { bytes = line; closed = true } ∷ raw_lines_of parts) (sym is)
+    ap raw_lines_of (slice_split_at is_line_feed line 10 bytes plain refl ∙ ap (λ parts. line ∷ parts) is) ∙ ap (λ parts. record { bytes = line; terminated = true } ∷ raw_lines_of parts) (sym is)
 
-pub raw_lines-last : (line : List ℕ) → NoLineFeed line → 0 < length line → raw_lines line ≡ record { bytes = line; closed = false } ∷ []
+pub raw_lines-last : (line : List ℕ) → NoLineFeed line → 0 < length line → raw_lines line ≡ record { bytes = line; terminated = false } ∷ []
 raw_lines-last line plain some =
     let full : eqb (length line) 0 ≡ false = grind (arith, nat_tests) in
-    ap raw_lines_of (slice_split_none is_line_feed line plain) ∙ ap (λ none. cond none [] (record { bytes = line; closed = false } ∷ [])) full
+    ap raw_lines_of (slice_split_none is_line_feed line plain) ∙ ap (λ none. cond none [] (record { bytes = line; terminated = false } ∷ [])) full
 
 -- ---- refusals for length
 
 -- a line that is too long stays so, however it goes on
-pub length_refusal-more : (number place size more : ℕ) (closed : Bool) (refusal : LineRefusal) → size ≤ more → length_refusal number place size false ≡ Some refusal → length_refusal number place more closed ≡ Some refusal
-length_refusal-more number place size more closed refusal fewer is = grind (arith, nat_tests)
+pub length_refusal-more : (number offset size more : ℕ) (terminated : Bool) (refusal : LineRefusal) → size ≤ more → length_refusal number offset size false ≡ Some refusal → length_refusal number offset more terminated ≡ Some refusal
+length_refusal-more number offset size more terminated refusal fewer is = grind (arith, nat_tests)
 
-pub length_refusal-some : (number place size : ℕ) (refusal : LineRefusal) → place ≤ MAX_INPUT → length_refusal number place size false ≡ Some refusal → 0 < size
-length_refusal-some number place size refusal within is = grind (arith, nat_tests)
+pub length_refusal-some : (number offset size : ℕ) (refusal : LineRefusal) → offset ≤ MAX_INPUT → length_refusal number offset size false ≡ Some refusal → 0 < size
+length_refusal-some number offset size refusal within is = grind (arith, nat_tests)
 
 -- a line that isn't refused has no more bytes than a line may have
-pub length_refusal-short : (number place size : ℕ) (closed : Bool) → length_refusal number place size closed ≡ None → size ≤ MAX_LINE
-length_refusal-short number place size closed fits = grind (arith, nat_tests)
+pub length_refusal-short : (number offset size : ℕ) (terminated : Bool) → length_refusal number offset size terminated ≡ None → size ≤ MAX_LINE
+length_refusal-short number offset size terminated fits = grind (arith, nat_tests)
 
 -- it tells the line's number
-pub length_refusal-number : (number place size : ℕ) (closed : Bool) (refusal : LineRefusal) → length_refusal number place size closed ≡ Some refusal → IsOfLine number refusal
-length_refusal-number number place size closed Fault is = tt
-length_refusal-number number place size closed (LineTooLong n) is = grind (arith, nat_tests)
-length_refusal-number number place size closed (InputTooLong n) is = grind (arith, nat_tests)
-length_refusal-number number place size closed NoMemory is = tt
+pub length_refusal-number : (number offset size : ℕ) (terminated : Bool) (refusal : LineRefusal) → length_refusal number offset size terminated ≡ Some refusal → IsOfLine number refusal
+length_refusal-number number offset size terminated Fault is = tt
+length_refusal-number number offset size terminated (LineTooLong n) is = grind (arith, nat_tests)
+length_refusal-number number offset size terminated (InputTooLong n) is = grind (arith, nat_tests)
+length_refusal-number number offset size terminated NoMemory is = tt
 
 -- and it is no fault
-pub length_refusal-fault : (number place size : ℕ) (closed : Bool) (refusal : LineRefusal) → length_refusal number place size closed ≡ Some refusal
+pub length_refusal-fault : (number offset size : ℕ) (terminated : Bool) (refusal : LineRefusal) → length_refusal number offset size terminated ≡ Some refusal
     → ¬ (◌≡◌ {A = Result Bool LineRefusal} (Err refusal) (Err Fault))
-length_refusal-fault number place size closed Fault is same = grind (arith, nat_tests)
-length_refusal-fault number place size closed (LineTooLong n) is same = cc
-length_refusal-fault number place size closed (InputTooLong n) is same = cc
-length_refusal-fault number place size closed NoMemory is same = cc
+length_refusal-fault number offset size terminated Fault is same = grind (arith, nat_tests)
+length_refusal-fault number offset size terminated (LineTooLong n) is same = cc
+length_refusal-fault number offset size terminated (InputTooLong n) is same = cc
+length_refusal-fault number offset size terminated NoMemory is same = cc
 
 -- the bytes up to a line feed and after it, or none is there
 cut : (bytes : List ℕ) → ((front : List ℕ) × (back : List ℕ) × (bytes ≡ front ++ 10 ∷ back) × NoLineFeed front) ⊎ NoLineFeed bytes
@@ -88,27 +88,27 @@ cut (byte ∷ bytes) = go (is_line_feed byte) refl (cut bytes)
     go false e (inr plain) = inr (All-cons IsNoLineFeed byte bytes e plain)
 
 -- a line that is refused before its end is known is the first line that is refused
-pub first_refused : (number place : ℕ) (line tail : List ℕ) (refusal : LineRefusal) → place ≤ MAX_INPUT → NoLineFeed line → length_refusal number place (length line) false ≡ Some refusal → IsFirstRefused number place refusal (line ++ tail)
-first_refused number place line tail refusal within plain is = go (cut tail)
+pub first_refused : (number offset : ℕ) (line tail : List ℕ) (refusal : LineRefusal) → offset ≤ MAX_INPUT → NoLineFeed line → length_refusal number offset (length line) false ≡ Some refusal → IsFirstRefused number offset refusal (line ++ tail)
+first_refused number offset line tail refusal within plain is = go (cut tail)
   where
-    go : (((front : List ℕ) × (back : List ℕ) × (tail ≡ front ++ 10 ∷ back) × NoLineFeed front) ⊎ NoLineFeed tail) → IsFirstRefused number place refusal (line ++ tail)
+    go : (((front : List ℕ) × (back : List ℕ) × (tail ≡ front ++ 10 ∷ back) × NoLineFeed front) ⊎ NoLineFeed tail) → IsFirstRefused number offset refusal (line ++ tail)
     go (inl (front, back, at, clear)) = record {
-      first = record { bytes = line ++ front; closed = true };
+      first = record { bytes = line ++ front; terminated = true };
       later = raw_lines back;
       lines = ap raw_lines (ap (λ t. line ++ t) at ∙ sym (append_assoc line front (10 ∷ back))) ∙ raw_lines-fed (line ++ front) back (All-append IsNoLineFeed line front plain clear);
-      refused = length_refusal-more number place (length line) (length (line ++ front)) true refusal (omega (arith, length-append line front)) is;
+      refused = length_refusal-more number offset (length line) (length (line ++ front)) true refusal (omega (arith, length-append line front)) is;
     }
     go (inr clear) = record {
-      first = record { bytes = line ++ tail; closed = false };
+      first = record { bytes = line ++ tail; terminated = false };
       later = [];
-      lines = raw_lines-last (line ++ tail) (All-append IsNoLineFeed line tail plain clear) (omega (arith, length-append line tail, length_refusal-some number place (length line) refusal within is));
-      refused = length_refusal-more number place (length line) (length (line ++ tail)) false refusal (omega (arith, length-append line tail)) is;
+      lines = raw_lines-last (line ++ tail) (All-append IsNoLineFeed line tail plain clear) (omega (arith, length-append line tail, length_refusal-some number offset (length line) refusal within is));
+      refused = length_refusal-more number offset (length line) (length (line ++ tail)) false refusal (omega (arith, length-append line tail)) is;
     }
 
 -- the same of a line that is whole
-pub first_refused-fed : (number place : ℕ) (line tail : List ℕ) (refusal : LineRefusal) → NoLineFeed line → length_refusal number place (length line) true ≡ Some refusal → IsFirstRefused number place refusal (line ++ 10 ∷ tail)
-first_refused-fed number place line tail refusal plain is = record {
-  first = record { bytes = line; closed = true };
+pub first_refused-fed : (number offset : ℕ) (line tail : List ℕ) (refusal : LineRefusal) → NoLineFeed line → length_refusal number offset (length line) true ≡ Some refusal → IsFirstRefused number offset refusal (line ++ 10 ∷ tail)
+first_refused-fed number offset line tail refusal plain is = record {
+  first = record { bytes = line; terminated = true };
   later = raw_lines tail;
   lines = raw_lines-fed line tail plain;
   refused = is;
@@ -119,49 +119,49 @@ IfSome-map P f None each = tt
 IfSome-map P f (Some a) each = each a
 
 -- the bytes that a taken line stands among
-pub bytes_ahead-to_feed : (all left : Option (List ℕ)) (line chunk line_new chunk_new : List ℕ) → all ≡ bytes_ahead line chunk left → TakesToLineFeed chunk chunk_new line line_new → all ≡ option_map (λ bytes. line_new ++ 10 ∷ (chunk_new ++ bytes)) left
-bytes_ahead-to_feed all left line chunk line_new chunk_new is takes =
-    is ∙ ap (λ chunk. bytes_ahead line chunk left) takes.chunk ∙ bytes_ahead-fed takes.taken line chunk_new left ∙ ap (λ front. option_map (λ bytes. front ++ 10 ∷ (chunk_new ++ bytes)) left) (sym takes.line)
+pub bytes_remaining-to_feed : (all left : Option (List ℕ)) (line read_buffer line_new read_buffer_new : List ℕ) → all ≡ bytes_remaining line read_buffer left → TakesToLineFeed read_buffer read_buffer_new line line_new → all ≡ option_map (λ bytes. line_new ++ 10 ∷ (read_buffer_new ++ bytes)) left
+bytes_remaining-to_feed all left line read_buffer line_new read_buffer_new is takes =
+    is ∙ ap (λ read_buffer. bytes_remaining line read_buffer left) takes.read_buffer ∙ bytes_remaining-fed takes.taken line read_buffer_new left ∙ ap (λ front. option_map (λ bytes. front ++ 10 ∷ (read_buffer_new ++ bytes)) left) (sym takes.line)
 
-pub bytes_ahead-all : (all left : Option (List ℕ)) (line chunk line_new chunk_new : List ℕ) → all ≡ bytes_ahead line chunk left → TakesAll chunk chunk_new line line_new → all ≡ bytes_ahead line_new [] left
-bytes_ahead-all all left line chunk line_new chunk_new is takes = is ∙ bytes_ahead-taken line chunk left ∙ ap (λ line. bytes_ahead line [] left) (sym takes.line)
+pub bytes_remaining-all : (all left : Option (List ℕ)) (line read_buffer line_new read_buffer_new : List ℕ) → all ≡ bytes_remaining line read_buffer left → TakesAll read_buffer read_buffer_new line line_new → all ≡ bytes_remaining line_new [] left
+bytes_remaining-all all left line read_buffer line_new read_buffer_new is takes = is ∙ bytes_remaining-taken line read_buffer left ∙ ap (λ line. bytes_remaining line [] left) (sym takes.line)
 
-pub plain-to_feed : (line chunk line_new chunk_new : List ℕ) → NoLineFeed line → TakesToLineFeed chunk chunk_new line line_new → NoLineFeed line_new
-plain-to_feed line chunk line_new chunk_new plain takes = rw takes.line (All-append IsNoLineFeed line takes.taken plain takes.plain)
+pub plain-to_feed : (line read_buffer line_new read_buffer_new : List ℕ) → NoLineFeed line → TakesToLineFeed read_buffer read_buffer_new line line_new → NoLineFeed line_new
+plain-to_feed line read_buffer line_new read_buffer_new plain takes = rw takes.line (All-append IsNoLineFeed line takes.taken plain takes.plain)
 
-pub plain-all : (line chunk line_new chunk_new : List ℕ) → NoLineFeed line → TakesAll chunk chunk_new line line_new → NoLineFeed line_new
-plain-all line chunk line_new chunk_new plain takes = rw takes.line (All-append IsNoLineFeed line chunk plain takes.plain)
+pub plain-all : (line read_buffer line_new read_buffer_new : List ℕ) → NoLineFeed line → TakesAll read_buffer read_buffer_new line line_new → NoLineFeed line_new
+plain-all line read_buffer line_new read_buffer_new plain takes = rw takes.line (All-append IsNoLineFeed line read_buffer plain takes.plain)
 
--- a line was taken up to its line feed where no read is due
-pub taken-closed : {Due : Type 0} (due : Option Due) (closed : Bool) (ToLineFeed All : Type 0) → is_some due ≡ not closed
-    → MatchOption due ToLineFeed (λ _. All) → MatchBool closed ToLineFeed All
-taken-closed None true ToLineFeed All is taken = taken
-taken-closed None false ToLineFeed All is taken = absurd (cc)
-taken-closed (Some due) true ToLineFeed All is taken = absurd (cc)
-taken-closed (Some due) false ToLineFeed All is taken = taken
+-- a line was taken up to its line feed where no read is permit
+pub taken-terminated : {Permit : Type 0} (permit : Option Permit) (terminated : Bool) (ToLineFeed All : Type 0) → is_some permit ≡ not terminated
+    → MatchOption permit ToLineFeed (λ _. All) → MatchBool terminated ToLineFeed All
+taken-terminated None true ToLineFeed All is taken = taken
+taken-terminated None false ToLineFeed All is taken = absurd (cc)
+taken-terminated (Some permit) true ToLineFeed All is taken = absurd (cc)
+taken-terminated (Some permit) false ToLineFeed All is taken = taken
 
-pub refused-step : (number place : ℕ) (all left : Option (List ℕ)) (line chunk line_new chunk_new : List ℕ) (closed : Bool) (refusal : LineRefusal) → place ≤ MAX_INPUT → NoLineFeed line → all ≡ bytes_ahead line chunk left
-    → MatchBool closed (TakesToLineFeed chunk chunk_new line line_new) (TakesAll chunk chunk_new line line_new)
-    → length_refusal number place (length line_new) closed ≡ Some refusal → IfSome all (IsFirstRefused number place refusal)
-refused-step number place all left line chunk line_new chunk_new true refusal within plain is takes refused =
-    rw (bytes_ahead-to_feed all left line chunk line_new chunk_new is takes) (IfSome-map _ _ left (λ bytes. first_refused-fed number place line_new (chunk_new ++ bytes) refusal (plain-to_feed line chunk line_new chunk_new plain takes) refused))
-refused-step number place all left line chunk line_new chunk_new false refusal within plain is takes refused =
-    rw (bytes_ahead-all all left line chunk line_new chunk_new is takes) (IfSome-map _ _ left (λ bytes. first_refused number place line_new bytes refusal within (plain-all line chunk line_new chunk_new plain takes) refused))
+pub refused-step : (number offset : ℕ) (all left : Option (List ℕ)) (line read_buffer line_new read_buffer_new : List ℕ) (terminated : Bool) (refusal : LineRefusal) → offset ≤ MAX_INPUT → NoLineFeed line → all ≡ bytes_remaining line read_buffer left
+    → MatchBool terminated (TakesToLineFeed read_buffer read_buffer_new line line_new) (TakesAll read_buffer read_buffer_new line line_new)
+    → length_refusal number offset (length line_new) terminated ≡ Some refusal → IfSome all (IsFirstRefused number offset refusal)
+refused-step number offset all left line read_buffer line_new read_buffer_new true refusal within plain is takes refused =
+    rw (bytes_remaining-to_feed all left line read_buffer line_new read_buffer_new is takes) (IfSome-map _ _ left (λ bytes. first_refused-fed number offset line_new (read_buffer_new ++ bytes) refusal (plain-to_feed line read_buffer line_new read_buffer_new plain takes) refused))
+refused-step number offset all left line read_buffer line_new read_buffer_new false refusal within plain is takes refused =
+    rw (bytes_remaining-all all left line read_buffer line_new read_buffer_new is takes) (IfSome-map _ _ left (λ bytes. first_refused number offset line_new bytes refusal within (plain-all line read_buffer line_new read_buffer_new plain takes) refused))
 
 -- what a line and one read have taken where the reader stops
-pub takes-part : (all left left_new : Option (List ℕ)) (line chunk : List ℕ) → all ≡ bytes_ahead line chunk left → left_new ≡ left → length line ≤ MAX_LINE → length chunk ≤ MAX_READ
+pub takes-part : (all left left_new : Option (List ℕ)) (line read_buffer : List ℕ) → all ≡ bytes_remaining line read_buffer left → left_new ≡ left → length line ≤ MAX_LINE → length read_buffer ≤ MAX_READ
     → TakesPart all left_new
-takes-part all left left_new line chunk is same short room = record {
-  taken = line ++ chunk;
-  few = omega (arith, length-append line chunk);
-  bytes = is ∙ bytes_ahead-taken line chunk left ∙ ap (λ left. bytes_ahead (line ++ chunk) [] left) (sym same);
+takes-part all left left_new line read_buffer is same short room = record {
+  taken = line ++ read_buffer;
+  few = omega (arith, length-append line read_buffer);
+  bytes = is ∙ bytes_remaining-taken line read_buffer left ∙ ap (λ left. bytes_remaining (line ++ read_buffer) [] left) (sym same);
 }
 
 -- memory ran out in a line
-pub breaks-off-memory : (result : Result Bool LineRefusal) (number place : ℕ) (all left : Option (List ℕ)) (line chunk : List ℕ)
-    → IsErrAnd result (λ e. e ≡ NoMemory) → TakesPart all left → IfErr result (BreaksOffLine number place all left line chunk)
-breaks-off-memory (Ok closed) number place all left line chunk found stops = tt
-breaks-off-memory (Err e) number place all left line chunk found stops = record {
+pub breaks-off-memory : (result : Result Bool LineRefusal) (number offset : ℕ) (all left : Option (List ℕ)) (line read_buffer : List ℕ)
+    → IsErrAnd result (λ e. e ≡ NoMemory) → TakesPart all left → IfErr result (BreaksOffLine number offset all left line read_buffer)
+breaks-off-memory (Ok terminated) number offset all left line read_buffer found stops = tt
+breaks-off-memory (Err e) number offset all left line read_buffer found stops = record {
   length = λ for_length. absurd (subst IsForLength found for_length);
   fault = λ failed. absurd (no_fault (sym found ∙ failed));
   number_is = subst (IsOfLine number) (sym found) tt;
@@ -172,12 +172,12 @@ breaks-off-memory (Err e) number place all left line chunk found stops = record 
     no_fault is = cc
 
 -- the line or the input is too long
-pub breaks-off-length : (number place size : ℕ) (closed : Bool) (refusal : LineRefusal) (all left : Option (List ℕ)) (line chunk : List ℕ)
-    → length_refusal number place size closed ≡ Some refusal → IfSome all (IsFirstRefused number place refusal) → TakesPart all left
-    → BreaksOffLine number place all left line chunk refusal
-breaks-off-length number place size closed refusal all left line chunk is first stops = record {
+pub breaks-off-length : (number offset size : ℕ) (terminated : Bool) (refusal : LineRefusal) (all left : Option (List ℕ)) (line read_buffer : List ℕ)
+    → length_refusal number offset size terminated ≡ Some refusal → IfSome all (IsFirstRefused number offset refusal) → TakesPart all left
+    → BreaksOffLine number offset all left line read_buffer refusal
+breaks-off-length number offset size terminated refusal all left line read_buffer is first stops = record {
   length = λ _. first;
-  fault = λ failed. absurd (length_refusal-fault number place size closed refusal is (ap Err failed));
-  number_is = length_refusal-number number place size closed refusal is;
+  fault = λ failed. absurd (length_refusal-fault number offset size terminated refusal is (ap Err failed));
+  number_is = length_refusal-number number offset size terminated refusal is;
   stops = stops;
 }

@@ -7,7 +7,7 @@ use Rattle.flow_lines.specs.inner.TakenInput.{before, HasTaken}
 use Rattle.flow_lines.specs.inner.Reading.{Fills}
 use Rattle.flow_lines.specs.WholeInput.{IsWhole, IsTooLong}
 use Rattle.flow_lines.specs.declared.whole_input.TheConstants.{MAX_WHOLE_INPUT}
-use Rattle.flow_lines.proofs.RawLinesLemmas.{bytes_ahead-filled, bytes_ahead-taken}
+use Rattle.flow_lines.proofs.RawLinesLemmas.{bytes_remaining-filled, bytes_remaining-taken}
 
 left_after-before : (bytes : List ℕ) (left : Option (List ℕ)) → left ≡ left_after (length bytes) (before bytes left)
 left_after-before bytes None = refl
@@ -33,17 +33,17 @@ takes-more most more n start left left_new (first, few, is) rest within =
 -- ---- an input that is read whole
 
 before-filled : (bytes more : List ℕ) (left after : Option (List ℕ)) → IsNextOf more left → after ≡ left_after (length more) left → before bytes left ≡ before (bytes ++ more) after
-before-filled bytes more left after next rest = bytes_ahead-filled bytes more left after next rest ∙ bytes_ahead-taken bytes more after
+before-filled bytes more left after next rest = bytes_remaining-filled bytes more left after next rest ∙ bytes_remaining-taken bytes more after
 
 -- a turn took some bytes more
-pub taken-more : (turns count : ℕ) (held bytes chunk : List ℕ) (start left left_new : Option (List ℕ)) (faults faults_now faults_new : ℕ)
-    → HasTaken turns held start left faults faults_now → bytes ≡ held → Fills count chunk left left_new → ¬ (count ≡ 0) → length bytes + count ≤ MAX_WHOLE_INPUT → faults_new ≡ faults_now
-    → HasTaken (turns + 1) (bytes ++ chunk) start left_new faults faults_new
-taken-more turns count held bytes chunk start left left_new faults faults_now faults_new taken same fills some fits quiet =
+pub taken-more : (turns count : ℕ) (held bytes read_buffer : List ℕ) (start left left_new : Option (List ℕ)) (faults faults_now faults_new : ℕ)
+    → HasTaken turns held start left faults faults_now → bytes ≡ held → Fills count read_buffer left left_new → ¬ (count ≡ 0) → length bytes + count ≤ MAX_WHOLE_INPUT → faults_new ≡ faults_now
+    → HasTaken (turns + 1) (bytes ++ read_buffer) start left_new faults faults_new
+taken-more turns count held bytes read_buffer start left left_new faults faults_now faults_new taken same fills some fits quiet =
     let size = ap length same in record {
-      took = omega (arith, taken.took, size, fills.count_is, length-append bytes chunk);
-      fits = omega (arith, fills.count_is, length-append bytes chunk);
-      all = taken.all ∙ ap (λ held. before held left) (sym same) ∙ before-filled bytes chunk left left_new fills.given (rw fills.count_is at fills.rest);
+      took = omega (arith, taken.took, size, fills.count_is, length-append bytes read_buffer);
+      fits = omega (arith, fills.count_is, length-append bytes read_buffer);
+      all = taken.all ∙ ap (λ held. before held left) (sym same) ∙ before-filled bytes read_buffer left left_new fills.given (rw fills.count_is at fills.rest);
       quiet = quiet ∙ taken.quiet;
     }
 
@@ -65,14 +65,14 @@ is-whole turns held bytes result start left left_new faults faults_now taken sam
     ended (Some bytes) end = end
 
 -- more came than may be
-pub is-too-long : (turns count : ℕ) (held bytes chunk : List ℕ) (start left left_new : Option (List ℕ)) (faults faults_now : ℕ)
-    → HasTaken turns held start left faults faults_now → bytes ≡ held → Fills count chunk left left_new → MAX_WHOLE_INPUT < length bytes + count → IsTooLong start
-is-too-long turns count held bytes chunk start left left_new faults faults_now taken same fills many =
-    subst IsTooLong (sym (taken.all ∙ ap (λ held. before held left) (sym same) ∙ before-filled bytes chunk left left_new fills.given (rw fills.count_is at fills.rest))) (long left_new)
+pub is-too-long : (turns count : ℕ) (held bytes read_buffer : List ℕ) (start left left_new : Option (List ℕ)) (faults faults_now : ℕ)
+    → HasTaken turns held start left faults faults_now → bytes ≡ held → Fills count read_buffer left left_new → MAX_WHOLE_INPUT < length bytes + count → IsTooLong start
+is-too-long turns count held bytes read_buffer start left left_new faults faults_now taken same fills many =
+    subst IsTooLong (sym (taken.all ∙ ap (λ held. before held left) (sym same) ∙ before-filled bytes read_buffer left left_new fills.given (rw fills.count_is at fills.rest))) (long left_new)
   where
-    long : (left : Option (List ℕ)) → IsTooLong (before (bytes ++ chunk) left)
+    long : (left : Option (List ℕ)) → IsTooLong (before (bytes ++ read_buffer) left)
     long None = tt
-    long (Some rest) = omega (arith, fills.count_is, many, length-append bytes chunk, length-append (bytes ++ chunk) rest)
+    long (Some rest) = omega (arith, fills.count_is, many, length-append bytes read_buffer, length-append (bytes ++ read_buffer) rest)
 
 -- the last read began at the end
 pub began-at-end : (left began : Option (List ℕ)) → IsAtEnd left → IfSome began (λ bytes. left ≡ Some bytes) → IsAtEnd began

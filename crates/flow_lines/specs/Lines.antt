@@ -25,13 +25,13 @@ NoLineFeed bytes = All IsNoLineFeed bytes
 -- a line as it stands in the input: its bytes before the line feed, and whether it has one
 pub record RawLine : Type 0 where
   pub bytes : List ℕ
-  pub closed : Bool
+  pub terminated : Bool
 
 -- the lines in the parts between line feeds: an empty last part is none
 abbrev pub raw_lines_of : List (List ℕ) → List RawLine
 raw_lines_of [] = []
-raw_lines_of (part ∷ []) = if length part == 0 then [] else record { bytes = part; closed = false } ∷ []
-raw_lines_of (part ∷ next ∷ parts) = record { bytes = part; closed = true } ∷ raw_lines_of (next ∷ parts)
+raw_lines_of (part ∷ []) = if length part == 0 then [] else record { bytes = part; terminated = false } ∷ []
+raw_lines_of (part ∷ next ∷ parts) = record { bytes = part; terminated = true } ∷ raw_lines_of (next ∷ parts)
 
 -- the lines of bytes, as they stand there
 abbrev pub raw_lines : List ℕ → List RawLine
@@ -43,15 +43,15 @@ AreWholeLines bytes = (bytes ≡ []) ⊎ ((front : List ℕ) × (bytes ≡ front
 
 -- how many bytes a line takes in the input
 abbrev pub width : RawLine → ℕ
-width line = length line.bytes + (if line.closed then 1 else 0)
+width line = length line.bytes + (if line.terminated then 1 else 0)
 
 -- the bytes of some lines, each with its line feed, where it has one
 abbrev pub lines_text : List RawLine → List ℕ
-lines_text lines = flat_map (λ line. line.bytes ++ (if line.closed then 10 ∷ [] else [])) lines
+lines_text lines = flat_map (λ line. line.bytes ++ (if line.terminated then 10 ∷ [] else [])) lines
 
 -- what is given of a line
 abbrev pub content : RawLine → List ℕ
-content line = if line.closed then strip_carriage_return line.bytes else line.bytes
+content line = if line.terminated then strip_carriage_return line.bytes else line.bytes
 
 -- a space, a tab or a carriage return
 abbrev pub is_blank_byte : ℕ → Bool
@@ -61,41 +61,41 @@ is_blank_byte byte = byte == 32 || byte == 9 || byte == 13
 abbrev pub is_blank : List ℕ → Bool
 is_blank bytes = list_all is_blank_byte bytes
 
--- Why a line is refused, which has so many bytes before its line feed and begins after `place` bytes of the input:
+-- Why a line is refused, which has so many bytes before its line feed and begins after `offset` bytes of the input:
 -- it is too long, or the input is too long with it. Of the first bytes that are too many the earlier one decides.
 abbrev pub length_refusal : ℕ → ℕ → ℕ → Bool → Option LineRefusal
-length_refusal number place size closed =
-    if nat_lt MAX_LINE size && nat_le (place + MAX_LINE) MAX_INPUT then Some (LineTooLong number)
-    else if nat_lt MAX_INPUT (place + size + (if closed then 1 else 0)) then Some (InputTooLong number)
+length_refusal number offset size terminated =
+    if nat_lt MAX_LINE size && nat_le (offset + MAX_LINE) MAX_INPUT then Some (LineTooLong number)
+    else if nat_lt MAX_INPUT (offset + size + (if terminated then 1 else 0)) then Some (InputTooLong number)
     else None
 
 -- why a line is refused, where it is
 abbrev pub refusal_of : ℕ → ℕ → RawLine → Option LineRefusal
-refusal_of number place line = length_refusal number place (length line.bytes) line.closed
+refusal_of number offset line = length_refusal number offset (length line.bytes) line.terminated
 
 -- the lines of an input in turn, each with its number, up to the end or the first refusal
-pub data Lined : Type 0 where
-  ended : Lined
-  refused : LineRefusal → Lined
-  line_then : ℕ → List ℕ → Lined → Lined
+pub data LineStream : Type 0 where
+  ended : LineStream
+  refused : LineRefusal → LineStream
+  line_then : ℕ → List ℕ → LineStream → LineStream
 
 -- the refusal, where there is one
-abbrev pub unless_refused : Option LineRefusal → Lined → Lined
+abbrev pub unless_refused : Option LineRefusal → LineStream → LineStream
 unless_refused None lines = lines
 unless_refused (Some refusal) lines = refused refusal
 
 -- a blank line is passed over, and keeps its number
-abbrev pub unless_blank : ℕ → List ℕ → Lined → Lined
+abbrev pub unless_blank : ℕ → List ℕ → LineStream → LineStream
 unless_blank number bytes later = if is_blank bytes then later else line_then number bytes later
 
 -- these lines in turn: the number of the first, and how many bytes stand before it
-abbrev pub lines_from : ℕ → ℕ → List RawLine → Lined
-lines_from number place [] = ended
-lines_from number place (l ∷ ls) =
-    unless_refused (refusal_of number place l) (unless_blank number (content l) (lines_from (number + 1) (place + width l) ls))
+abbrev pub lines_from : ℕ → ℕ → List RawLine → LineStream
+lines_from number offset [] = ended
+lines_from number offset (l ∷ ls) =
+    unless_refused (refusal_of number offset l) (unless_blank number (content l) (lines_from (number + 1) (offset + width l) ls))
 
 -- the lines of an input
-abbrev pub lines_of : List ℕ → Lined
+abbrev pub lines_of : List ℕ → LineStream
 lines_of bytes = lines_from 1 0 (raw_lines bytes)
 
 -- where a reader of lines stands: the bytes taken and not yet given, how many lines were given, blank ones too,
@@ -111,20 +111,20 @@ abbrev pub lines_start : LinesState
 lines_start = record { held = []; count = 0; given = 0; refusal = None }
 
 -- the lines that come yet, where the source tells its bytes
-abbrev pub lines_ahead : LinesState → Option (List ℕ) → Option Lined
-lines_ahead state left = option_map (λ bytes. lines_from (state.count + 1) state.given (raw_lines (state.held ++ bytes))) left
+abbrev pub lines_remaining : LinesState → Option (List ℕ) → Option LineStream
+lines_remaining state left = option_map (λ bytes. lines_from (state.count + 1) state.given (raw_lines (state.held ++ bytes))) left
 
 -- a line that is whole, and isn't blank
 abbrev pub is_whole : RawLine → Bool
-is_whole line = line.closed && not (is_blank (content line))
+is_whole line = line.terminated && not (is_blank (content line))
 
 -- such a line stands among these bytes
 abbrev pub HoldsLine : List ℕ → Type 0
 HoldsLine bytes = list_any is_whole (raw_lines bytes) ≡ true
 
 -- nothing is held or left, as far as the source tells
-abbrev pub NothingAhead : List ℕ → Option (List ℕ) → Type 0
-NothingAhead held left = IfSome left (λ bytes. held ++ bytes ≡ [])
+abbrev pub NothingRemaining : List ℕ → Option (List ℕ) → Type 0
+NothingRemaining held left = IfSome left (λ bytes. held ++ bytes ≡ [])
 
 -- of the bytes held and left, some went by as lines, and the others are held or left still; each of these lines has its
 -- line feed, unless nothing is ahead
@@ -134,22 +134,22 @@ pub record AccountsFor (before after : LinesState) (left left_after : Option (Li
   pub given : after.given ≡ before.given + length (lines_text gone)
   pub count : after.count ≡ before.count + length gone
   pub plain : All (λ line. NoLineFeed line.bytes) gone
-  pub closed : All (λ line. line.closed ≡ true) gone ⊎ NothingAhead after.held left_after
+  pub terminated : All (λ line. line.terminated ≡ true) gone ⊎ NothingRemaining after.held left_after
 
 -- from wherever the bytes are accounted for up to the one state, they are up to the other
-abbrev pub GoesOnAccounting : LinesState → LinesState → Option (List ℕ) → Option (List ℕ) → Type 0
-GoesOnAccounting before after left left_after = (start : LinesState) (all : Option (List ℕ)) → AccountsFor start before all left → AccountsFor start after all left_after
+abbrev pub ContinuesAccounting : LinesState → LinesState → Option (List ℕ) → Option (List ℕ) → Type 0
+ContinuesAccounting before after left left_after = (start : LinesState) (all : Option (List ℕ)) → AccountsFor start before all left → AccountsFor start after all left_after
 
 -- when these bytes were left, the line of that number hadn't come whole: fewer lines had, and a part of the next
 pub record LacksLine (before : LinesState) (number : ℕ) (left : Option (List ℕ)) (bytes : List ℕ) : Type 0 where
   pub at : LinesState
   pub fewer : at.count < number
   pub part : NoLineFeed at.held
-  pub accounts : GoesOnAccounting before at left (Some bytes)
+  pub accounts : ContinuesAccounting before at left (Some bytes)
 
 -- the first of the lines that came yet was given, and the others come yet
 pub record GivesLine (before after : LinesState) (left left_after : Option (List ℕ)) (number : ℕ) (bytes : List ℕ) : Type 0 where
-  pub line : lines_ahead before left ≡ option_map (λ later. line_then number bytes later) (lines_ahead after left_after)
+  pub line : lines_remaining before left ≡ option_map (λ later. line_then number bytes later) (lines_remaining after left_after)
   pub count : number ≡ after.count
   pub moved : before.given < after.given
   pub within : after.given ≤ MAX_INPUT
@@ -157,21 +157,21 @@ pub record GivesLine (before after : LinesState) (left left_after : Option (List
 
 -- no line came yet, and all bytes are given
 pub record GivesEnd (before after : LinesState) (left left_after : Option (List ℕ)) : Type 0 where
-  pub lines : IfSome (lines_ahead before left) (λ ahead. ahead ≡ ended)
+  pub lines : IfSome (lines_remaining before left) (λ ahead. ahead ≡ ended)
   pub drained : IsAtEnd left_after
   pub held : after.held ≡ []
 
 -- the lines that come yet are the same, and the bytes held are a part of the first of them, which isn't refused by what came of it
 pub record KeepsLines (before after : LinesState) (left left_after : Option (List ℕ)) : Type 0 where
-  pub lines : lines_ahead after left_after ≡ lines_ahead before left
+  pub lines : lines_remaining after left_after ≡ lines_remaining before left
   pub part : NoLineFeed after.held
   pub fits : length_refusal (after.count + 1) after.given (length after.held) false ≡ None
 
 -- what a refusal says of the lines that came yet
 abbrev pub RefusesLine : LinesState → LinesState → Option (List ℕ) → Option (List ℕ) → LineRefusal → Type 0
 RefusesLine before after left left_after Fault = KeepsLines before after left left_after
-RefusesLine before after left left_after (LineTooLong n) = IfSome (lines_ahead before left) (λ ahead. ahead ≡ refused (LineTooLong n))
-RefusesLine before after left left_after (InputTooLong n) = IfSome (lines_ahead before left) (λ ahead. ahead ≡ refused (InputTooLong n))
+RefusesLine before after left left_after (LineTooLong n) = IfSome (lines_remaining before left) (λ ahead. ahead ≡ refused (LineTooLong n))
+RefusesLine before after left left_after (InputTooLong n) = IfSome (lines_remaining before left) (λ ahead. ahead ≡ refused (InputTooLong n))
 RefusesLine before after left left_after NoMemory = ⊤
 
 -- a refusal for length is that of this line
@@ -187,8 +187,8 @@ pub record StopsInLine (before : LinesState) (left left_after : Option (List ℕ
   pub at : LinesState
   pub line : IsOfLine (at.count + 1) refusal
   pub few : length at.held ≤ MAX_LINE + MAX_READ
-  pub accounts : GoesOnAccounting before at left left_after
-  pub lines : lines_ahead at left_after ≡ lines_ahead before left
+  pub accounts : ContinuesAccounting before at left left_after
+  pub lines : lines_remaining at left_after ≡ lines_remaining before left
 
 -- what an answer says of the lines that came yet
 abbrev pub AnswersLine : LinesState → LinesState → Option (List ℕ) → Option (List ℕ) → Result (Option Line) LineRefusal → Type 0
@@ -198,8 +198,8 @@ AnswersLine before after left left_after (Err refusal) = RefusesLine before afte
 
 -- no byte is lost, unless a line or the input was too long, or memory ran out
 abbrev pub LosesNone : LinesState → LinesState → Option (List ℕ) → Option (List ℕ) → Result (Option Line) LineRefusal → Type 0
-LosesNone before after left left_after (Ok line) = GoesOnAccounting before after left left_after
-LosesNone before after left left_after (Err Fault) = GoesOnAccounting before after left left_after
+LosesNone before after left left_after (Ok line) = ContinuesAccounting before after left left_after
+LosesNone before after left left_after (Err Fault) = ContinuesAccounting before after left left_after
 LosesNone before after left left_after (Err (LineTooLong n)) = ⊤
 LosesNone before after left left_after (Err (InputTooLong n)) = ⊤
 LosesNone before after left left_after (Err NoMemory) = ⊤

@@ -3,7 +3,7 @@ ghost use Rattle.flow_edges.specs.Faults.{Counted};
 ghost use Rattle.flow_lines.specs.Lines.{AnswersLine, HoldsLine, LosesNone, StopsInLine, LacksLine, NoLineFeed, is_blank};
 ghost use Rattle.flow_lines.specs.inner.Reading.{IsBetweenLines, ReadsOrEnds, StopsReading, lines_state};
 
-use crate::chunk::Chunk;
+use crate::read_buffer::ReadBuffer;
 use crate::line::{Line, is_blank_line, strip_return};
 use crate::raw_line::{LineStart, read_line};
 use crate::refusal::LineRefusal;
@@ -16,7 +16,7 @@ use std::mem;
 #[derive(Drop)]
 pub struct Cursor {
     pub alloc: Global,
-    pub chunk: Chunk,
+    pub read_buffer: ReadBuffer,
     /// The bytes of the line that is being read.
     pub line: Vec<u8>,
     /// How many lines were read, blank ones too.
@@ -29,57 +29,57 @@ impl Cursor {
     /// Reads the next line, blank or not, without its line feed and the carriage return before it.
     /// The answer is false at the end of the input.
     fn read_next<S: Source>(&mut self, source: &mut S) -> Result<bool, LineRefusal>
-        requires { IsBetweenLines self.old.line.items self.old.chunk self.old.count self.old.given }
+        requires { IsBetweenLines self.old.line.items self.old.read_buffer self.old.count self.old.given }
 
-        ensures next { IfOk result (ReadsOrEnds self.old.line.items self.old.chunk self.new.line.items self.new.chunk
+        ensures next { IfOk result (ReadsOrEnds self.old.line.items self.old.read_buffer self.new.line.items self.new.read_buffer
             self.old.count self.new.count self.old.given self.new.given (S.left source.old) (S.left source.new)) }
         ensures refused { IfErr result (StopsReading
-            (lines_state self.old.line.items self.old.chunk self.old.count self.old.given)
-            (lines_state self.new.line.items self.new.chunk self.new.count self.new.given)
+            (lines_state self.old.line.items self.old.read_buffer self.old.count self.old.given)
+            (lines_state self.new.line.items self.new.read_buffer self.new.count self.new.given)
             (S.left source.old) (S.left source.new)) }
-        ensures unread { HoldsLine self.old.chunk → source.new ≡ source.old }
-        ensures in_time { NoLineFeed self.old.chunk → IfOk result (λ _. IfSome (S.began source.new)
-            (LacksLine (lines_state self.old.line.items self.old.chunk self.old.count self.old.given) (self.old.count + 1) (S.left source.old))) }
+        ensures unread { HoldsLine self.old.read_buffer → source.new ≡ source.old }
+        ensures in_time { NoLineFeed self.old.read_buffer → IfOk result (λ _. IfSome (S.began source.new)
+            (LacksLine (lines_state self.old.line.items self.old.read_buffer self.old.count self.old.given) (self.old.count + 1) (S.left source.old))) }
         ensures held { IfOk result (λ found. found ≡ true
-            → HoldsLine self.old.chunk → is_blank self.new.line.items ≡ true → HoldsLine self.new.chunk) }
-        ensures there { ¬ (NoLineFeed self.old.chunk) → result ≡ Ok true → (source.new ≡ source.old)
-            × (HoldsLine self.new.chunk → HoldsLine self.old.chunk) × (is_blank self.new.line.items ≡ false → HoldsLine self.old.chunk) }
+            → HoldsLine self.old.read_buffer → is_blank self.new.line.items ≡ true → HoldsLine self.new.read_buffer) }
+        ensures there { ¬ (NoLineFeed self.old.read_buffer) → result ≡ Ok true → (source.new ≡ source.old)
+            × (HoldsLine self.new.read_buffer → HoldsLine self.old.read_buffer) × (is_blank self.new.line.items ≡ false → HoldsLine self.old.read_buffer) }
         ensures causes { Counted (result ≡ Err LineRefusal.Fault) (S.faults source.old) (S.faults source.new) }
     {
         let start = LineStart {
             number: self.count + 1,
-            place: self.given,
+            offset: self.given,
         };
-        let closed = read_line(&mut self.chunk, &mut self.line, start, source)?;
-        let width = self.line.len() as u64 + u64::from(closed);
+        let terminated = read_line(&mut self.read_buffer, &mut self.line, start, source)?;
+        let width = self.line.len() as u64 + u64::from(terminated);
         if width == 0 {
             return Ok(false);
         }
         self.count += 1;
         self.given += width;
-        strip_return(&mut self.line, closed);
+        strip_return(&mut self.line, terminated);
         Ok(true)
     }
 
     /// Reads on to the end of the next line that isn't blank.
     pub fn next_line<S: Source>(&mut self, source: &mut S) -> Result<Option<Line>, LineRefusal>
-        requires { IsBetweenLines self.old.line.items self.old.chunk self.old.count self.old.given }
+        requires { IsBetweenLines self.old.line.items self.old.read_buffer self.old.count self.old.given }
 
         ensures lines { AnswersLine
-            (lines_state self.old.line.items self.old.chunk self.old.count self.old.given)
-            (lines_state self.new.line.items self.new.chunk self.new.count self.new.given)
+            (lines_state self.old.line.items self.old.read_buffer self.old.count self.old.given)
+            (lines_state self.new.line.items self.new.read_buffer self.new.count self.new.given)
             (S.left source.old) (S.left source.new) result }
-        ensures between { OnOk result (IsBetweenLines self.new.line.items self.new.chunk self.new.count self.new.given) }
+        ensures between { OnOk result (IsBetweenLines self.new.line.items self.new.read_buffer self.new.count self.new.given) }
         ensures accounted { LosesNone
-            (lines_state self.old.line.items self.old.chunk self.old.count self.old.given)
-            (lines_state self.new.line.items self.new.chunk self.new.count self.new.given)
+            (lines_state self.old.line.items self.old.read_buffer self.old.count self.old.given)
+            (lines_state self.new.line.items self.new.read_buffer self.new.count self.new.given)
             (S.left source.old) (S.left source.new) result }
         ensures stops { IfErr result (StopsInLine
-            (lines_state self.old.line.items self.old.chunk self.old.count self.old.given)
+            (lines_state self.old.line.items self.old.read_buffer self.old.count self.old.given)
             (S.left source.old) (S.left source.new)) }
-        ensures unread { HoldsLine (self.old.line.items ++ self.old.chunk) → source.new ≡ source.old }
-        ensures in_time { ¬ (HoldsLine (self.old.line.items ++ self.old.chunk)) → IfOk result (λ found. IfSome found (λ line.
-            IfSome (S.began source.new) (LacksLine (lines_state self.old.line.items self.old.chunk self.old.count self.old.given)
+        ensures unread { HoldsLine (self.old.line.items ++ self.old.read_buffer) → source.new ≡ source.old }
+        ensures in_time { ¬ (HoldsLine (self.old.line.items ++ self.old.read_buffer)) → IfOk result (λ found. IfSome found (λ line.
+            IfSome (S.began source.new) (LacksLine (lines_state self.old.line.items self.old.read_buffer self.old.count self.old.given)
             line.number (S.left source.old)))) }
         ensures causes { Counted (result ≡ Err LineRefusal.Fault) (S.faults source.old) (S.faults source.new) }
     {

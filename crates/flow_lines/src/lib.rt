@@ -5,7 +5,7 @@
 //! 67,108,864 of them, and takes at most one read more.
 #![tactic(auto)]
 
-mod chunk;
+mod read_buffer;
 mod cursor;
 pub mod laws;
 mod line;

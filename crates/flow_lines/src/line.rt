@@ -6,17 +6,17 @@ use flow_values::Items;
 /// A line of an input, without its line feed and the carriage return before it.
 #[derive(Debug, Drop)]
 pub struct Line {
-    /// Its place among all lines, blank ones too, from 1.
+    /// Its offset among all lines, blank ones too, from 1.
     pub number: u64,
     /// What stands in it.
     pub bytes: Items<u8>,
 }
 
 /// Drops one carriage return at the end of a line, where a line feed followed.
-pub fn strip_return(line: &mut Vec<u8>, closed: bool)
-    ensures { line.new.items ≡ content (record { bytes = line.old.items; closed = closed }) }
+pub fn strip_return(line: &mut Vec<u8>, terminated: bool)
+    ensures { line.new.items ≡ content (record { bytes = line.old.items; terminated = terminated }) }
 {
-    if closed && line.last() == Some(&b'\r') {
+    if terminated && line.last() == Some(&b'\r') {
         line.pop();
     }
 }

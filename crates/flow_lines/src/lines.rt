@@ -2,7 +2,7 @@ ghost use Rattle.std.specs.Prelude.{◌≡◌, ◌≢◌, ℕ, ◌≤◌, [], No
 ghost use Rattle.std.specs.Result.{result_err};
 ghost use Rattle.flow_edges.specs.Faults.{Counted};
 
-use crate::chunk::Chunk;
+use crate::read_buffer::ReadBuffer;
 use crate::cursor::Cursor;
 use crate::line::Line;
 use crate::refusal::LineRefusal;
@@ -27,14 +27,14 @@ impl Model for Lines {
     ghost Value = { LinesState };
 
     ghost view = { λ lines. record {
-      held = lines.cursor.line.items ++ lines.cursor.chunk;
+      held = lines.cursor.line.items ++ lines.cursor.read_buffer;
       count = lines.cursor.count;
       given = lines.cursor.given;
       refusal = lines.refusal;
     } };
 
     ghost invariant = { λ lines. lines.refusal ≡ None
-        → IsBetweenLines lines.cursor.line.items lines.cursor.chunk lines.cursor.count lines.cursor.given };
+        → IsBetweenLines lines.cursor.line.items lines.cursor.read_buffer lines.cursor.count lines.cursor.given };
 }
 
 impl Lines {
@@ -44,11 +44,11 @@ impl Lines {
     pub fn new(alloc: Global) -> Result<Lines, NoMemory>
         ensures { IfOk result (λ lines. lines ≡ lines_start) }
     {
-        let chunk = Chunk::new(alloc)?;
+        let read_buffer = ReadBuffer::new(alloc)?;
         Ok(Lines {
             cursor: Cursor {
                 alloc,
-                chunk,
+                read_buffer,
                 line: Vec::new(alloc),
                 count: 0,
                 given: 0,

@@ -4,7 +4,7 @@ ghost use Rattle.flow_edges.specs.Faults.{Counted};
 ghost use Rattle.flow_edges.specs.Flow.{TakesAtMost, IsAtEnd};
 ghost use Rattle.flow_lines.specs.WholeInput.{IsWhole, IsTooLong};
 
-use crate::chunk::Chunk;
+use crate::read_buffer::ReadBuffer;
 use flow_edges::Source;
 use flow_values::{Items, NoMemory};
 use std::alloc::Global;
@@ -46,12 +46,12 @@ pub fn read_whole<S: Source>(alloc: Global, source: &mut S) -> Result<Items<u8>,
     ensures taken { TakesAtMost (MAX_WHOLE_INPUT + MAX_READ) (S.left source.old) (S.left source.new) }
     ensures causes { Counted (result ≡ Err InputRefusal.Fault) (S.faults source.old) (S.faults source.new) }
 {
-    let mut chunk = Chunk::new(alloc)?;
+    let mut read_buffer = ReadBuffer::new(alloc)?;
     let mut bytes = Vec::new(alloc);
     // Each turn takes a byte at least.
     for _turn in 0..=MAX_WHOLE_INPUT {
-        let due = chunk.take_all(&mut bytes)?;
-        let count = match chunk.fill(due, source) {
+        let permit = read_buffer.take_all(&mut bytes)?;
+        let count = match read_buffer.fill(permit, source) {
             Ok(0) => return Ok(Items::from_vec(bytes)),
             Ok(count) => count,
             Err(_) => return Err(InputRefusal::Fault),

@@ -4,7 +4,7 @@ use Rattle.std.specs.Prelude.{◌≡◌, ℕ, ◌+◌, List, [], ◌∷◌, ◌+
 use Rattle.flow_links.specs.Doors.{Changes}
 
 -- where a link leads: the bytes of its host's name or address, and the port there
-pub record Dialled : Type 0 where
+pub record Endpoint : Type 0 where
   pub host : List ℕ
   pub port : ℕ
 
@@ -13,7 +13,7 @@ pub record Dialled : Type 0 where
 pub record DialState (L : Type 0) : Type 0 where
   pub coming : List L
   pub finished : List L
-  pub dials : List Dialled
+  pub dials : List Endpoint
   pub given : ℕ
 
 -- nothing changed
@@ -21,8 +21,8 @@ abbrev pub Stays : {L : Type 0} → Option (DialState L) → Option (DialState L
 Stays before after = after ≡ before
 
 -- the link is the first of those to come, it leads to this host and port, and one more is out
-abbrev pub GivesDialled : {L : Type 0} → L → List ℕ → ℕ → Option (DialState L) → Option (DialState L) → Type 0
-GivesDialled link host port before after = Changes (λ state now.
+abbrev pub Connects : {L : Type 0} → L → List ℕ → ℕ → Option (DialState L) → Option (DialState L) → Type 0
+Connects link host port before after = Changes (λ state now.
     (state.coming ≡ link ∷ now.coming) × (now.finished ≡ state.finished)
     × (now.dials ≡ state.dials ++ record { host = host; port = port } ∷ []) × (now.given ≡ state.given + 1)) before after
 

@@ -1,5 +1,5 @@
 pub mod Dials
 pub mod Doors
 pub mod Moments
-pub mod Pace
+pub mod Phase
 pub mod System

@@ -3,8 +3,8 @@ use Rattle.std.specs.Prelude.{◌≡◌, ℕ, ◌+◌, Option, IfSome}
 
 -- it is the next moment, as far as the clock tells
 abbrev pub IsNext : (ℕ → Option ℕ) → ℕ → Type 0
-IsNext moments moment = IfSome (moments 0) (λ told. moment ≡ told)
+IsNext moments moment = IfSome (moments 0) (λ observable. moment ≡ observable)
 
 -- after one more moment the others are as they were
-abbrev pub GoesOn : (ℕ → Option ℕ) → (ℕ → Option ℕ) → Type 0
-GoesOn before after = (n : ℕ) → after n ≡ before (n + 1)
+abbrev pub Continues : (ℕ → Option ℕ) → (ℕ → Option ℕ) → Type 0
+Continues before after = (n : ℕ) → after n ≡ before (n + 1)

@@ -3,7 +3,7 @@ use Rattle.std.specs.Prelude.{◌≡◌, ℕ, ◌+◌, ◌-◌, ◌^◌, ◌<◌
 use Rattle.std.specs.Net.Addr.{ipv4_octets}
 use Rattle.std.specs.Net.Socket.{v4_ip, v4_port}
 use Rattle.std.specs.declared.net.socket_addr.SocketAddrV4.{SocketAddrV4}
-use Rattle.flow_links.specs.declared.system.pace.Pace.{Pace}
+use Rattle.flow_links.specs.declared.system.phase.Phase.{Phase}
 use Rattle.flow_links.specs.declared.system.tcp_door.TheConstants.{MAX_LOST}
 
 -- the bytes that the stream has left and those that it holds, where it tells them, and the two counts of faults
@@ -43,13 +43,13 @@ LosesCallers (Err fault) before after = after ≡ with_lost MAX_LOST before
 
 -- the bytes that the stream has left and those that it holds, where it tells them, and when its time ends: nanoseconds since the
 -- clock's start
-pub record LimitedState : Type 0 where
+pub record DeadlineState : Type 0 where
   pub remaining : Option (List ℕ)
   pub contents : Option (List ℕ)
   pub deadline : ℕ
 
--- the bytes that the stream has left and those that it holds, where it tells them, and the pace of its caller
-pub record PacedState : Type 0 where
+-- the bytes that the stream has left and those that it holds, where it tells them, and the phase of its caller
+pub record TimedState : Type 0 where
   pub remaining : Option (List ℕ)
   pub contents : Option (List ℕ)
-  pub pace : Pace
+  pub phase : Phase

@@ -1,5 +1,5 @@
 ghost use Rattle.std.specs.Prelude.{ℕ, Option};
-ghost use Rattle.flow_links.specs.Moments.{IsNext, GoesOn};
+ghost use Rattle.flow_links.specs.Moments.{IsNext, Continues};
 
 /// The time of day.
 pub trait Clock {
@@ -9,5 +9,5 @@ pub trait Clock {
     /// The number of microseconds since 1970.
     fn now(&mut self) -> u64
         ensures next { IsNext (moments self.old) result }
-        ensures goes_on { GoesOn (moments self.old) (moments self.new) };
+        ensures continues { Continues (moments self.old) (moments self.new) };
 }

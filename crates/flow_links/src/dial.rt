@@ -1,7 +1,7 @@
 ghost use Rattle.std.specs.Prelude.{ℕ, Option, OnErr, IfOk, IfSome, length, ◌≡◌, ◌≤◌, IsErr};
 ghost use Rattle.flow_edges.specs.Faults.{Counted};
 ghost use Rattle.flow_links.specs.declared.dial.TheConstants.{MAX_HOST};
-ghost use Rattle.flow_links.specs.Dials.{DialState, Stays, GivesDialled, Finishes};
+ghost use Rattle.flow_links.specs.Dials.{DialState, Stays, Connects, Finishes};
 
 use crate::Link;
 use flow_values::Fault;
@@ -16,7 +16,7 @@ pub trait Dial {
 
     /// The links to come, those handed back, and where each link leads that was given, where the dial
     /// tells them.
-    ghost told: { Self → Option (DialState Self.Link) };
+    ghost observable: { Self → Option (DialState Self.Link) };
 
     /// How many calls failed.
     ghost faults: { Self → ℕ };
@@ -25,13 +25,13 @@ pub trait Dial {
     /// no link, and is counted.
     fn dial(&mut self, host: &str, port: u16) -> Result<Self::Link, Fault>
         requires short { length host.now ≤ MAX_HOST }
-        ensures ok { IfOk result (λ link. GivesDialled link host.now port (told self.old) (told self.new)) }
-        ensures err { OnErr result (Stays (told self.old) (told self.new)) }
+        ensures ok { IfOk result (λ link. Connects link host.now port (observable self.old) (observable self.new)) }
+        ensures err { OnErr result (Stays (observable self.old) (observable self.new)) }
         ensures causes { Counted (IsErr result) (faults self.old) (faults self.new) };
 
     /// Takes a link back that `dial` gave, as it stands.
     fn finish(&mut self, link: Self::Link)
-        requires given { IfSome (told self.now) (λ state. 1 ≤ state.given) }
-        ensures back { Finishes link (told self.old) (told self.new) }
+        requires given { IfSome (observable self.now) (λ state. 1 ≤ state.given) }
+        ensures back { Finishes link (observable self.old) (observable self.new) }
         ensures quiet { faults self.new ≡ faults self.old };
 }

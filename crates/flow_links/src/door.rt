@@ -11,27 +11,27 @@ pub trait Door {
     type Link: Link;
 
     /// The links to come and those handed back, where the door tells them.
-    ghost told: { Self → Option (DoorState Self.Link) };
+    ghost observable: { Self → Option (DoorState Self.Link) };
 
     /// How many calls failed.
     ghost faults: { Self → ℕ };
 
     /// Waits for callers at this port from now on. A `Fault` has changed nothing, and is counted.
     fn listen(&mut self, port: u16) -> Result<(), Fault>
-        ensures ok { IfOk result (λ _. Listens port (told self.old) (told self.new)) }
-        ensures err { OnErr result (Stays (told self.old) (told self.new)) }
+        ensures ok { IfOk result (λ _. Listens port (observable self.old) (observable self.new)) }
+        ensures err { OnErr result (Stays (observable self.old) (observable self.new)) }
         ensures causes { Counted (IsErr result) (faults self.old) (faults self.new) };
 
     /// The next caller's link, as it stands; `None` where no caller is left. It may wait for one. A
     /// `Fault` has taken no link, and is counted.
     fn next(&mut self) -> Result<Option<Self::Link>, Fault>
-        ensures ok { IfOk result (λ link. GivesNext link (told self.old) (told self.new)) }
-        ensures err { OnErr result (Stays (told self.old) (told self.new)) }
+        ensures ok { IfOk result (λ link. GivesNext link (observable self.old) (observable self.new)) }
+        ensures err { OnErr result (Stays (observable self.old) (observable self.new)) }
         ensures causes { Counted (IsErr result) (faults self.old) (faults self.new) };
 
     /// Takes a link back that `next` gave, as it stands.
     fn finish(&mut self, link: Self::Link)
-        requires given { IfSome (told self.now) (λ state. 1 ≤ state.given) }
-        ensures back { Finishes link (told self.old) (told self.new) }
+        requires given { IfSome (observable self.now) (λ state. 1 ≤ state.given) }
+        ensures back { Finishes link (observable self.old) (observable self.new) }
         ensures quiet { faults self.new ≡ faults self.old };
 }

@@ -2,7 +2,7 @@
 //! can be made to fail at chosen calls. What is proved over the traits is tested over these.
 #![tactic(auto)]
 
-mod dialled;
+mod endpoint;
 mod list_clock;
 mod memory_dial;
 mod memory_door;
@@ -12,7 +12,7 @@ mod memory_source;
 mod quiet_sink;
 mod quiet_source;
 
-pub use dialled::Dialled;
+pub use endpoint::Endpoint;
 pub use list_clock::ListClock;
 pub use memory_dial::MemoryDial;
 pub use memory_door::MemoryDoor;

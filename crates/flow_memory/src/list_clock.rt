@@ -1,6 +1,6 @@
 ghost use Rattle.std.specs.Prelude.{◌≡◌, ◌≤◌, ◌<◌, length};
 ghost use Rattle.flow_memory.specs.Links.{moment_at};
-ghost use Rattle.flow_links.specs.Moments.{IsNext, GoesOn};
+ghost use Rattle.flow_links.specs.Moments.{IsNext, Continues};
 
 use flow_links::Clock;
 use flow_values::Items;
@@ -38,7 +38,7 @@ impl Clock for ListClock {
 
     fn now(&mut self) -> u64
         ensures next { IsNext (moment_at self.old) result }
-        ensures goes_on { GoesOn (moment_at self.old) (moment_at self.new) }
+        ensures continues { Continues (moment_at self.old) (moment_at self.new) }
     {
         let moments = self.moments.as_slice();
         let moment = moments[self.at];

@@ -1,10 +1,10 @@
 ghost use Rattle.std.specs.Prelude.{◌≡◌, ◌≤◌, ◌+◌, ◌<◌, ◌↔◌, ◌||◌, [], Some, true, length, nat_eq, IsErr, IfOk, OnErr, IfSome};
 ghost use Rattle.flow_edges.specs.Faults.{counted, Counted};
 ghost use Rattle.flow_links.specs.declared.dial.TheConstants.{MAX_HOST};
-ghost use Rattle.flow_links.specs.Dials.{Stays, GivesDialled, Finishes};
+ghost use Rattle.flow_links.specs.Dials.{Stays, Connects, Finishes};
 ghost use Rattle.flow_memory.specs.Streams.{is_failing};
 
-use crate::{Dialled, MemoryLink};
+use crate::{Endpoint, MemoryLink};
 use flow_edges::counted_fault;
 use flow_links::Dial;
 use flow_values::{Fault, Items, NoMemory};
@@ -18,7 +18,7 @@ pub struct MemoryDial {
     /// The links to come, the next one last.
     coming: Vec<MemoryLink>,
     finished: Vec<MemoryLink>,
-    dials: Vec<Dialled>,
+    dials: Vec<Endpoint>,
     given: usize,
     failing: Items<u64>,
     calls: u64,
@@ -81,7 +81,7 @@ impl MemoryDial {
     }
 
     /// Where each link leads that was given, in order.
-    pub fn dials(&self) -> &[Dialled]
+    pub fn dials(&self) -> &[Endpoint]
         ensures { result.now ≡ self.now.links.dials }
     {
         self.dials.as_slice()
@@ -91,13 +91,13 @@ impl MemoryDial {
 impl Dial for MemoryDial {
     type Link = MemoryLink;
 
-    ghost told = { λ dial. Some dial.links };
+    ghost observable = { λ dial. Some dial.links };
 
     ghost faults = { λ dial. dial.faults };
 
     fn dial(&mut self, host: &str, port: u16) -> Result<MemoryLink, Fault>
         requires short { length host.now ≤ MAX_HOST }
-        ensures ok { IfOk result (λ link. GivesDialled link host.now port (Some self.old.links) (Some self.new.links)) }
+        ensures ok { IfOk result (λ link. Connects link host.now port (Some self.old.links) (Some self.new.links)) }
         ensures err { OnErr result (Stays (Some self.old.links) (Some self.new.links)) }
         ensures causes { Counted (IsErr result) self.old.faults self.new.faults }
 
@@ -113,7 +113,7 @@ impl Dial for MemoryDial {
         let Some(link) = self.coming.pop() else {
             return Err(counted_fault(&mut self.faults));
         };
-        self.dials.push(Dialled::new(host, port)).unwrap();
+        self.dials.push(Endpoint::new(host, port)).unwrap();
         self.given += 1;
         Ok(link)
     }

@@ -97,7 +97,7 @@ impl MemoryDoor {
 impl Door for MemoryDoor {
     type Link = MemoryLink;
 
-    ghost told = { λ door. Some door.links };
+    ghost observable = { λ door. Some door.links };
 
     ghost faults = { λ door. door.faults };
 

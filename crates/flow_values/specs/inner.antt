@@ -1,1 +1,1 @@
-pub mod GivenNames
+pub mod StandardNames

@@ -1,5 +1,5 @@
 ghost use Rattle.std.specs.Prelude.{◌≡◌, IfOk, IfSome, map, unwrap_or, slice_get, []};
-ghost use Rattle.flow_values.specs.inner.GivenNames.{given_names};
+ghost use Rattle.flow_values.specs.inner.StandardNames.{standard_names};
 
 use crate::{NoMemory, Text};
 use std::alloc::Global;
@@ -14,14 +14,14 @@ pub struct Name {
 
 #[derive(Debug, Drop)]
 enum NameForm {
-    /// The one at this place of those that are given.
+    /// The one at this index of those that are given.
     Given(u8),
     Own(Box<Text>),
 }
 
 impl Model for Name {
     ghost use Rattle.std.specs.Prelude.{List, ℕ};
-    ghost use Rattle.flow_values.specs.inner.GivenNames.{name_of};
+    ghost use Rattle.flow_values.specs.inner.StandardNames.{name_of};
 
     ghost Value = { List ℕ };
 
@@ -33,8 +33,8 @@ impl Name {
     pub fn from_text(alloc: Global, text: &str) -> Result<Name, NoMemory>
         ensures { IfOk result (λ name. name ≡ text.now) }
     {
-        let form = match place_of(text) {
-            Some(place) => NameForm::Given(place),
+        let form = match index_of(text) {
+            Some(index) => NameForm::Given(index),
             None => NameForm::Own(Box::new(alloc, Text::from_text(alloc, text)?)?),
         };
         Ok(Name { form })
@@ -45,31 +45,31 @@ impl Name {
         ensures { result.now ≡ self.now }
     {
         match &self.form {
-            NameForm::Given(place) => given_at(*place),
+            NameForm::Given(index) => standard_name_at(*index),
             NameForm::Own(text) => text.as_str(),
         }
     }
 }
 
-/// The given name at the place.
-fn given_at(place: u8) -> &'static str
-    ensures { result.now ≡ unwrap_or (slice_get given_names place) [] }
+/// The given name at the index.
+fn standard_name_at(index: u8) -> &'static str
+    ensures { result.now ≡ unwrap_or (slice_get standard_names index) [] }
 {
-    match given().get(usize::from(place)) {
+    match given().get(usize::from(index)) {
         Some(name) => *name,
         None => "",
     }
 }
 
 /// Where the text stands among the names that are given, if it does. Those of its length follow one another.
-fn place_of(text: &str) -> Option<u8>
-    ensures { IfSome result (λ place. unwrap_or (slice_get given_names place) [] ≡ text.now) }
+fn index_of(text: &str) -> Option<u8>
+    ensures { IfSome result (λ index. unwrap_or (slice_get standard_names index) [] ≡ text.now) }
 {
-    let first = *FIRSTS.get(text.len())?;
-    let end = *FIRSTS.get(text.len() + 1)?;
-    for place in first..end {
-        if given_at(place) == text {
-            return Some(place);
+    let first = *LENGTH_STARTS.get(text.len())?;
+    let end = *LENGTH_STARTS.get(text.len() + 1)?;
+    for index in first..end {
+        if standard_name_at(index) == text {
+            return Some(index);
         }
     }
     None
@@ -77,14 +77,14 @@ fn place_of(text: &str) -> Option<u8>
 
 /// All names that are given.
 fn given() -> &'static [&'static str]
-    ensures { map (λ name. name.now) result.now ≡ given_names }
+    ensures { map (λ name. name.now) result.now ≡ standard_names }
 {
-    GIVEN
+    STANDARD_NAMES
 }
 
 /// The names that STIX 2.1 gives most objects and TAXII 2.1 its resources, and those of the types of objects (STIX 2.1, sections 3.2
 /// and 4 to 7), by their length; of one length fields stand first, and those that come most.
-const GIVEN: &[&str] = &[
+const STANDARD_NAMES: &[&str] = &[
     "id",
     "pid",
     "url",
@@ -211,7 +211,7 @@ const GIVEN: &[&str] = &[
 ];
 
 /// Where the names of each length begin.
-const FIRSTS: &[u8] = &[
+const LENGTH_STARTS: &[u8] = &[
     0, 0, 0, 1, 5, 17, 21, 27, 41, 56, 66, 77, 83, 93, 99, 103, 107, 112, 116, 117, 119, 122, 122,
     123,
 ];

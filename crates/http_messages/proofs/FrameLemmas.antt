@@ -9,8 +9,8 @@ use Rattle.http_messages.specs.declared.request_refusal.Refusal.{Refusal}
 use Rattle.http_messages.specs.declared.request.Request.{Request}
 use Rattle.http_messages.specs.RequestHeads.{IsHeadAt, HasNoHeadIn}
 use Rattle.http_messages.specs.Fields.{HeadParts, parts_of, body_length}
-use Rattle.http_messages.specs.Frames.{refusal_of, request_of, HoldsHead, IsReadAs, IsUnreadable, Accepts, WantsHead, GivesRequest, HasLongHead, IsRefused, IsFirstFrame}
-use Rattle.http_messages.specs.inner.Searching.{IsMore, Wants, HasNoHead}
+use Rattle.http_messages.specs.Frames.{refusal_of, request_of, HoldsHead, IsReadAs, IsUnreadable, Accepts, NeedsHead, GivesRequest, HasLongHead, IsRefused, IsFirstFrame}
+use Rattle.http_messages.specs.inner.Searching.{IsMore, Needs, HasNoHead}
 use Rattle.http_messages.proofs.RequestHeadLemmas.{after_low, head_grows, head_shrinks, one_head}
 
 -- ---- what stands in the bytes stands there whatever follows
@@ -38,8 +38,8 @@ accepts_grows greatest bytes more start end parts accepts = record {
 }
 
 -- a body that isn't whole isn't whole until all of it has come
-pub wants_body : (greatest : ℕ) (bytes : List ℕ) (start end : ℕ) (parts : HeadParts) → Accepts greatest bytes start end parts → Wants greatest bytes (end + body_length parts)
-wants_body greatest bytes start end parts accepts more short = inr (record {
+pub needs_body : (greatest : ℕ) (bytes : List ℕ) (start end : ℕ) (parts : HeadParts) → Accepts greatest bytes start end parts → Needs greatest bytes (end + body_length parts)
+needs_body greatest bytes start end parts accepts more short = inr (record {
   start = start;
   end = end;
   parts = parts;
@@ -47,13 +47,13 @@ wants_body greatest bytes start end parts accepts more short = inr (record {
   short = short;
 })
 
-pub wants_nothing : (greatest : ℕ) (bytes : List ℕ) → Wants greatest bytes 0
-wants_nothing greatest bytes more short = absurd (omega arith)
+pub needs_nothing : (greatest : ℕ) (bytes : List ℕ) → Needs greatest bytes 0
+needs_nothing greatest bytes more short = absurd (omega arith)
 
 -- ---- of two of the cases one is none
 
-no_wants_holds : (bytes : List ℕ) (s e : ℕ) → WantsHead bytes → HoldsHead bytes s e → ⊥
-no_wants_holds bytes s e wants holds = let within = holds.at.within in let beyond = wants.none s e holds.at in omega arith
+no_needs_holds : (bytes : List ℕ) (s e : ℕ) → NeedsHead bytes → HoldsHead bytes s e → ⊥
+no_needs_holds bytes s e needs holds = let within = holds.at.within in let beyond = needs.none s e holds.at in omega arith
 
 no_long_holds : (bytes : List ℕ) (s e : ℕ) → HasLongHead bytes → HoldsHead bytes s e → ⊥
 no_long_holds bytes s e long holds = let fits = holds.fits in let beyond = long.none s e holds.at in omega arith
@@ -82,7 +82,7 @@ no_bad_read bytes s e t f parts holds bad again read =
     bad there.tree there.reads
 
 no_more_given : (greatest : ℕ) (bytes : List ℕ) (request : Request) (rest : List ℕ) → IsMore greatest bytes → GivesRequest greatest bytes request rest → ⊥
-no_more_given greatest bytes request rest (inl wants) gives = no_wants_holds bytes _ _ wants gives.accepts.head
+no_more_given greatest bytes request rest (inl needs) gives = no_needs_holds bytes _ _ needs gives.accepts.head
 no_more_given greatest bytes request rest (inr body) gives =
     let same = same_read bytes _ _ _ _ _ _ body.accepts.head body.accepts.read gives.accepts.head gives.accepts.read in
     let size : body_length body.parts ≡ body_length gives.parts = ap body_length same.same_parts in
@@ -103,9 +103,9 @@ no_accepted_refused greatest bytes s e parts refusal accepts (inr (inr refused))
     none_or_some greatest parts _ refusal same.same_parts accepts.fine refused.refused
 
 no_more_refused : (greatest : ℕ) (bytes : List ℕ) (refusal : Refusal) → IsMore greatest bytes → IsRefused greatest bytes refusal → ⊥
-no_more_refused greatest bytes refusal (inl wants) (inl long) = let room = wants.room in let full = long.0.full in omega arith
-no_more_refused greatest bytes refusal (inl wants) (inr (inl bad)) = no_wants_holds bytes _ _ wants bad.0.head
-no_more_refused greatest bytes refusal (inl wants) (inr (inr refused)) = no_wants_holds bytes _ _ wants refused.head
+no_more_refused greatest bytes refusal (inl needs) (inl long) = let room = needs.room in let full = long.0.full in omega arith
+no_more_refused greatest bytes refusal (inl needs) (inr (inl bad)) = no_needs_holds bytes _ _ needs bad.0.head
+no_more_refused greatest bytes refusal (inl needs) (inr (inr refused)) = no_needs_holds bytes _ _ needs refused.head
 no_more_refused greatest bytes refusal (inr body) refused = no_accepted_refused greatest bytes _ _ _ refusal body.accepts refused
 
 one_refusal : (greatest : ℕ) (bytes : List ℕ) (p q : Refusal) → IsRefused greatest bytes p → IsRefused greatest bytes q → p ≡ q

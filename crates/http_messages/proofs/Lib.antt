@@ -1,7 +1,7 @@
 pub mod FrameLemmas
 pub mod RequestGrammarLemmas
 pub mod RequestHeadLemmas
-pub mod RequestJudgeLemmas
+pub mod RequestCheckLemmas
 pub mod LengthLemmas
 pub mod MethodLemmas
 pub mod SearchLemmas
@@ -10,4 +10,4 @@ mod ReplyGrammarLemmas
 mod ReplyHeadLemmas
 mod OutcomeLemmas
 mod ReadLemmas
-mod ReplyJudgeLemmas
+mod ReplyCheckLemmas

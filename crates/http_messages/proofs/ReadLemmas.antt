@@ -24,28 +24,28 @@ takes_none (Some bytes) = refl
 
 -- first these bytes, and then some more
 pub takes_both : (first more : List ℕ) (left middle now : Option (List ℕ)) → Takes first left middle → Takes more middle now → Takes (first ++ more) left now
-takes_both first more left middle None begins goes_on = begins ∙ ap (option_map (λ rest. first ++ rest)) goes_on
-takes_both first more left middle (Some rest) begins goes_on =
-    begins ∙ ap (option_map (λ rest. first ++ rest)) goes_on ∙ ap Some (sym (append_assoc first more rest))
+takes_both first more left middle None begins continues = begins ∙ ap (option_map (λ rest. first ++ rest)) continues
+takes_both first more left middle (Some rest) begins continues =
+    begins ∙ ap (option_map (λ rest. first ++ rest)) continues ∙ ap Some (sym (append_assoc first more rest))
 
 -- what one read took
-pub takes_read : (n : ℕ) (piece : List ℕ) (left now : Option (List ℕ)) → n ≤ length piece → IsNextOf (take n piece) left → now ≡ left_after n left → Takes (take n piece) left now
-takes_read n piece None now few next rest = rw rest refl
-takes_read n piece (Some bytes) now few next rest =
-    let size : length (take n piece) ≡ n = length-take-le n piece few in
-    let front : take n bytes ≡ take n piece = ap (λ (k : ℕ). take k bytes) (sym size) ∙ next in
+pub takes_read : (n : ℕ) (chunk : List ℕ) (left now : Option (List ℕ)) → n ≤ length chunk → IsNextOf (take n chunk) left → now ≡ left_after n left → Takes (take n chunk) left now
+takes_read n chunk None now few next rest = rw rest refl
+takes_read n chunk (Some bytes) now few next rest =
+    let size : length (take n chunk) ≡ n = length-take-le n chunk few in
+    let front : take n bytes ≡ take n chunk = ap (λ (k : ℕ). take k bytes) (sym size) ∙ next in
     rw rest (ap Some (sym (take-append-drop n bytes) ∙ ap (λ (b : List ℕ). b ++ drop n bytes) front))
 
 -- ---- the head
 
 -- the bytes at the front of the buffer after a read behind them
-pub grown : (k end count : ℕ) (buffer piece : List ℕ) → end ≤ length buffer → count ≤ length piece
-    → take (end + count) (put_mid end k buffer piece) ≡ take end buffer ++ take count piece
-grown k end count buffer piece inside few =
+pub grown : (k end count : ℕ) (buffer chunk : List ℕ) → end ≤ length buffer → count ≤ length chunk
+    → take (end + count) (put_mid end k buffer chunk) ≡ take end buffer ++ take count chunk
+grown k end count buffer chunk inside few =
     let size : length (take end buffer) ≡ end = length-take-le end buffer inside in
-    ap (λ (n : ℕ). take (n + count) (put_mid end k buffer piece)) (sym size)
-    ∙ take-append-add (take end buffer) (piece ++ post_of end k buffer) count
-    ∙ ap (λ (b : List ℕ). take end buffer ++ b) (take-append-le count piece (post_of end k buffer) few)
+    ap (λ (n : ℕ). take (n + count) (put_mid end k buffer chunk)) (sym size)
+    ∙ take-append-add (take end buffer) (chunk ++ post_of end k buffer) count
+    ∙ ap (λ (b : List ℕ). take end buffer ++ b) (take-append-le count chunk (post_of end k buffer) few)
 
 start_of : (n from : ℕ) → from ≡ n - 2 → (from + 2 ≤ n) ⊎ (from ≡ 0)
 start_of n from is = by_size (cases_lt n 2)
@@ -58,13 +58,13 @@ pub found_head : (old more : List ℕ) (least from : ℕ) (found : Option ℕ) �
     → ((some : List ℕ) → length some < least → HoldNoHead old → HoldNoHead (old ++ some))
     → from ≡ length old - 2 → IfSome found (IsFirstEnd (old ++ more) from) → is_some found ≡ true → IsHead (old ++ more)
 found_head old more least from None none few lacks start first is = absurd (cc is)
-found_head old more least from (Some place) none few lacks start first is =
-    whole_head old more least place none few lacks (first_of_all old more from place none (start_of (length old) from start) first)
+found_head old more least from (Some offset) none few lacks start first is =
+    whole_head old more least offset none few lacks (first_of_all old more from offset none (start_of (length old) from start) first)
 
 pub no_head_found : (old more : List ℕ) (from : ℕ) (found : Option ℕ) → HoldNoHead old → from ≡ length old - 2
     → (found ≡ None → HasNoEnd (old ++ more) from (length (old ++ more))) → is_some found ≡ false → HoldNoHead (old ++ more)
 no_head_found old more from None none start others is = none_of_all old more from none (start_of (length old) from start) (others refl)
-no_head_found old more from (Some place) none start others is = absurd (cc is)
+no_head_found old more from (Some offset) none start others is = absurd (cc is)
 
 -- ---- the answers of the parts
 
@@ -74,7 +74,7 @@ passed_on P (Err e) its passed fact = subst (λ e. P (Err e)) (sym passed) fact
 
 pub body_unkept : (count : ℕ) (body more : List ℕ) (left middle now : Option (List ℕ)) → length (body ++ more) ≤ count → Takes body left middle → Takes more middle now
     → ReadsBody count left now (Err NoMemory)
-body_unkept count body more left middle now few begins goes_on = record { taken = body ++ more; takes = takes_both body more left middle now begins goes_on; answers = few }
+body_unkept count body more left middle now few begins continues = record { taken = body ++ more; takes = takes_both body more left middle now begins continues; answers = few }
 
 pub nothing_read : (left : Option (List ℕ)) → ReadsReply left left (Err NoMemory)
 nothing_read left = record { taken = []; takes = takes_none left; answers = needed_none }
@@ -121,31 +121,31 @@ with_body head count left middle now answer has announces reads = record {
 -- ---- one read of a head
 
 -- what stands before a read, and what it took
-pub record HasRead (old : List ℕ) (least count : ℕ) (piece : List ℕ) (left middle now : Option (List ℕ)) : Type 0 where
+pub record HasRead (old : List ℕ) (least count : ℕ) (chunk : List ℕ) (left middle now : Option (List ℕ)) : Type 0 where
   pub none : HoldNoHead old
   pub takes : Takes old left middle
   pub lacks : (some : List ℕ) → length some < least → HoldNoHead old → HoldNoHead (old ++ some)
   pub few : count ≤ least
-  pub within : count ≤ length piece
-  pub next : IsNextOf (take count piece) middle
+  pub within : count ≤ length chunk
+  pub next : IsNextOf (take count chunk) middle
   pub rest : now ≡ left_after count middle
 
-taken_with : (old piece : List ℕ) (least count : ℕ) (left middle now : Option (List ℕ)) → HasRead old least count piece left middle now → Takes (old ++ take count piece) left now
-taken_with old piece least count left middle now has =
-    takes_both old (take count piece) left middle now has.takes (takes_read count piece middle now has.within has.next has.rest)
+taken_with : (old chunk : List ℕ) (least count : ℕ) (left middle now : Option (List ℕ)) → HasRead old least count chunk left middle now → Takes (old ++ take count chunk) left now
+taken_with old chunk least count left middle now has =
+    takes_both old (take count chunk) left middle now has.takes (takes_read count chunk middle now has.within has.next has.rest)
 
-pub head_read : (buffer piece : List ℕ) (end k count least from : ℕ) (found : Option ℕ) (left middle now : Option (List ℕ)) → HasRead (take end buffer) least count piece left middle now
-    → end ≤ length buffer → end + count ≤ MAX_HEAD → from ≡ end - 2 → IfSome found (IsFirstEnd (take (end + count) (put_mid end k buffer piece)) from) → is_some found ≡ true
-    → ReadsHead (put_mid end k buffer piece) left now (Ok (end + count))
-head_read buffer piece end k count least from found left middle now has inside fits start first is =
-    let whole = grown k end count buffer piece inside has.within in
+pub head_read : (buffer chunk : List ℕ) (end k count least from : ℕ) (found : Option ℕ) (left middle now : Option (List ℕ)) → HasRead (take end buffer) least count chunk left middle now
+    → end ≤ length buffer → end + count ≤ MAX_HEAD → from ≡ end - 2 → IfSome found (IsFirstEnd (take (end + count) (put_mid end k buffer chunk)) from) → is_some found ≡ true
+    → ReadsHead (put_mid end k buffer chunk) left now (Ok (end + count))
+head_read buffer chunk end k count least from found left middle now has inside fits start first is =
+    let whole = grown k end count buffer chunk inside has.within in
     let size : length (take end buffer) ≡ end = length-take-le end buffer inside in
-    let more : length (take count piece) ≡ count = length-take-le count piece has.within in
-    let both : length (take end buffer ++ take count piece) ≡ end + count = omega (arith, size, more, length-append (take end buffer) (take count piece)) in record {
-      taken = take end buffer ++ take count piece;
-      takes = taken_with (take end buffer) piece least count left middle now has;
+    let more : length (take count chunk) ≡ count = length-take-le count chunk has.within in
+    let both : length (take end buffer ++ take count chunk) ≡ end + count = omega (arith, size, more, length-append (take end buffer) (take count chunk)) in record {
+      taken = take end buffer ++ take count chunk;
+      takes = taken_with (take end buffer) chunk least count left middle now has;
       answers = (
-        found_head (take end buffer) (take count piece) least from found has.none (omega (arith, more, has.few)) has.lacks (omega (arith, start, size))
+        found_head (take end buffer) (take count chunk) least from found has.none (omega (arith, more, has.few)) has.lacks (omega (arith, start, size))
             (subst (λ (bytes : List ℕ). IfSome found (IsFirstEnd bytes from)) whole first) is,
         omega (arith, both, fits),
         sym whole,
@@ -158,17 +158,17 @@ pub record IsUnended (bytes : List ℕ) (left now : Option (List ℕ)) : Type 0 
   pub none : HoldNoHead bytes
   pub takes : Takes bytes left now
 
-pub head_unended : (buffer piece : List ℕ) (end k count least from : ℕ) (found : Option ℕ) (left middle now : Option (List ℕ)) → HasRead (take end buffer) least count piece left middle now
+pub head_unended : (buffer chunk : List ℕ) (end k count least from : ℕ) (found : Option ℕ) (left middle now : Option (List ℕ)) → HasRead (take end buffer) least count chunk left middle now
     → end ≤ length buffer → from ≡ end - 2
-    → (found ≡ None → HasNoEnd (take (end + count) (put_mid end k buffer piece)) from (length (take (end + count) (put_mid end k buffer piece)))) → is_some found ≡ false
-    → IsUnended (take (end + count) (put_mid end k buffer piece)) left now
-head_unended buffer piece end k count least from found left middle now has inside start none is =
-    let whole = grown k end count buffer piece inside has.within in
+    → (found ≡ None → HasNoEnd (take (end + count) (put_mid end k buffer chunk)) from (length (take (end + count) (put_mid end k buffer chunk)))) → is_some found ≡ false
+    → IsUnended (take (end + count) (put_mid end k buffer chunk)) left now
+head_unended buffer chunk end k count least from found left middle now has inside start none is =
+    let whole = grown k end count buffer chunk inside has.within in
     let size : length (take end buffer) ≡ end = length-take-le end buffer inside in
     subst (λ (bytes : List ℕ). IsUnended bytes left now) (sym whole) (record {
-      none = no_head_found (take end buffer) (take count piece) from found has.none (omega (arith, start, size))
+      none = no_head_found (take end buffer) (take count chunk) from found has.none (omega (arith, start, size))
           (subst (λ (bytes : List ℕ). found ≡ None → HasNoEnd bytes from (length bytes)) whole none) is;
-      takes = taken_with (take end buffer) piece least count left middle now has;
+      takes = taken_with (take end buffer) chunk least count left middle now has;
     })
 
 -- a buffer keeps its length when a part of it is overwritten

@@ -56,14 +56,14 @@ pub head_front : (head front back : List ℕ) → IsHead head → head ≡ front
 head_front head front back is_head parts some k low lt = by_test (is_last_line_end front k) refl
   where
     none_here : is_last_line_end head k ≡ true → after_empty_line head k ≤ length front → ⊥
-    none_here empty inside = by_place (cases_lt k is_head.last)
+    none_here empty inside = by_offset (cases_lt k is_head.last)
       where
         shorter : after_empty_line head k < after_empty_line head is_head.last
         shorter = omega (arith, inside, some, is_head.whole, ap length parts, length-append front back)
 
-        by_place : (k < is_head.last) ⊎ (is_head.last ≤ k) → ⊥
-        by_place (inl before) = let other = is_head.first.first k (omega arith) before in cc
-        by_place (inr behind) = by_more (cases_lt is_head.last k)
+        by_offset : (k < is_head.last) ⊎ (is_head.last ≤ k) → ⊥
+        by_offset (inl before) = let other = is_head.first.first k (omega arith) before in cc
+        by_offset (inr behind) = by_more (cases_lt is_head.last k)
           where
             by_more : (is_head.last < k) ⊎ (k ≤ is_head.last) → ⊥
             by_more (inl later) = omega (arith, later, shorter, after_low (get_or head (k + 1) 0 == 10) k, after_high (get_or head (is_head.last + 1) 0 == 10) is_head.last)
@@ -117,11 +117,11 @@ one_head a b r s first second same = by_length (cases_lt (length a) (length b))
 -- ---- one read more
 
 -- the first line end of a head: none before it, as there was none in the bytes before that could be looked past
-pub first_of_all : (old more : List ℕ) (from place : ℕ) → HoldNoHead old → from + 2 ≤ length old ⊎ from ≡ 0 → IsFirstEnd (old ++ more) from place → IsFirstEnd (old ++ more) 0 place
-first_of_all old more from place none start first = record {
+pub first_of_all : (old more : List ℕ) (from offset : ℕ) → HoldNoHead old → from + 2 ≤ length old ⊎ from ≡ 0 → IsFirstEnd (old ++ more) from offset → IsFirstEnd (old ++ more) 0 offset
+first_of_all old more from offset none start first = record {
   order = omega arith;
   here = first.here;
-  first = λ k low lt. by_place k lt (cases_lt k from);
+  first = λ k low lt. by_offset k lt (cases_lt k from);
 }
   where
     passed : (k : ℕ) → k < from → from + 2 ≤ length old ⊎ from ≡ 0 → is_last_line_end (old ++ more) k ≡ false
@@ -130,50 +130,50 @@ first_of_all old more from place none start first = record {
         same_test old (old ++ more) (length old) k (λ j below. same_before old more j below) (omega (arith, lt, far))
         ∙ none k (omega arith) (omega (arith, lt, far))
 
-    by_place : (k : ℕ) → k < place → (k < from) ⊎ (from ≤ k) → is_last_line_end (old ++ more) k ≡ false
-    by_place k lt (inl before) = passed k before start
-    by_place k lt (inr behind) = first.first k behind lt
+    by_offset : (k : ℕ) → k < offset → (k < from) ⊎ (from ≤ k) → is_last_line_end (old ++ more) k ≡ false
+    by_offset k lt (inl before) = passed k before start
+    by_offset k lt (inr behind) = first.first k behind lt
 
 pub none_of_all : (old more : List ℕ) (from : ℕ) → HoldNoHead old → from + 2 ≤ length old ⊎ from ≡ 0 → HasNoEnd (old ++ more) from (length (old ++ more)) → HoldNoHead (old ++ more)
-none_of_all old more from none start others k low lt = by_place start (cases_lt k from)
+none_of_all old more from none start others k low lt = by_offset start (cases_lt k from)
   where
-    by_place : from + 2 ≤ length old ⊎ from ≡ 0 → (k < from) ⊎ (from ≤ k) → is_last_line_end (old ++ more) k ≡ false
-    by_place (inr zero) (inl before) = absurd (omega (arith, before, zero))
-    by_place (inl far) (inl before) =
+    by_offset : from + 2 ≤ length old ⊎ from ≡ 0 → (k < from) ⊎ (from ≤ k) → is_last_line_end (old ++ more) k ≡ false
+    by_offset (inr zero) (inl before) = absurd (omega (arith, before, zero))
+    by_offset (inl far) (inl before) =
         same_test old (old ++ more) (length old) k (λ j below. same_before old more j below) (omega (arith, before, far))
         ∙ none k (omega arith) (omega (arith, before, far))
-    by_place start (inr behind) = others k behind lt
+    by_offset start (inr behind) = others k behind lt
 
 -- a head that ends in the last bytes that were needed for one ends with them
-pub whole_head : (old more : List ℕ) (least place : ℕ) → HoldNoHead old → length more ≤ least
+pub whole_head : (old more : List ℕ) (least offset : ℕ) → HoldNoHead old → length more ≤ least
     → ((some : List ℕ) → length some < least → HoldNoHead old → HoldNoHead (old ++ some))
-    → IsFirstEnd (old ++ more) 0 place → IsHead (old ++ more)
-whole_head old more least place none few lacks first = record {
-  last = place;
+    → IsFirstEnd (old ++ more) 0 offset → IsHead (old ++ more)
+whole_head old more least offset none few lacks first = record {
+  last = offset;
   first = first;
-  whole = by_end (cases_lt (after_empty_line (old ++ more) place) (length (old ++ more)));
+  whole = by_end (cases_lt (after_empty_line (old ++ more) offset) (length (old ++ more)));
 }
   where
-    inside : after_empty_line (old ++ more) place ≤ length (old ++ more)
-    inside = end_inside (old ++ more) place first.here
+    inside : after_empty_line (old ++ more) offset ≤ length (old ++ more)
+    inside = end_inside (old ++ more) offset first.here
 
     -- the bytes without the last one
-    sooner : (cut last : List ℕ) → more ≡ cut ++ last → 0 < length last → after_empty_line (old ++ more) place ≤ length (old ++ cut) → ⊥
+    sooner : (cut last : List ℕ) → more ≡ cut ++ last → 0 < length last → after_empty_line (old ++ more) offset ≤ length (old ++ cut) → ⊥
     sooner cut last is some early =
         let parts : old ++ more ≡ (old ++ cut) ++ last = ap (λ (m : List ℕ). old ++ m) is ∙ sym (append_assoc old cut last) in
-        let there : is_last_line_end ((old ++ cut) ++ last) place ≡ true = subst (λ (bytes : List ℕ). is_last_line_end bytes place ≡ true) parts first.here in
-        let low : after_empty_line ((old ++ cut) ++ last) place ≤ length (old ++ cut) = subst (λ (bytes : List ℕ). after_empty_line bytes place ≤ length (old ++ cut)) parts early in
-        let here = end_shrinks (old ++ cut) last place there low in
-        let within = end_inside (old ++ cut) place here in
+        let there : is_last_line_end ((old ++ cut) ++ last) offset ≡ true = subst (λ (bytes : List ℕ). is_last_line_end bytes offset ≡ true) parts first.here in
+        let low : after_empty_line ((old ++ cut) ++ last) offset ≤ length (old ++ cut) = subst (λ (bytes : List ℕ). after_empty_line bytes offset ≤ length (old ++ cut)) parts early in
+        let here = end_shrinks (old ++ cut) last offset there low in
+        let within = end_inside (old ++ cut) offset here in
         let short : length cut < least = omega (arith, few, ap length is, length-append cut last, some) in
-        let other = lacks cut short none place (omega arith) (omega (arith, within, after_low (get_or (old ++ cut) (place + 1) 0 == 10) place)) in
+        let other = lacks cut short none offset (omega arith) (omega (arith, within, after_low (get_or (old ++ cut) (offset + 1) 0 == 10) offset)) in
         cc
 
-    by_more : (m : List ℕ) → more ≡ m → after_empty_line (old ++ more) place < length (old ++ more) → ⊥
+    by_more : (m : List ℕ) → more ≡ m → after_empty_line (old ++ more) offset < length (old ++ more) → ⊥
     by_more [] is lt =
-        let early : after_empty_line (old ++ more) place ≤ length old = omega (arith, lt, length-append old more, ap length is) in
-        let there = end_shrinks old more place first.here early in
-        let other = none place (omega arith) (omega (arith, end_inside old place there, after_low (get_or old (place + 1) 0 == 10) place)) in
+        let early : after_empty_line (old ++ more) offset ≤ length old = omega (arith, lt, length-append old more, ap length is) in
+        let there = end_shrinks old more offset first.here early in
+        let other = none offset (omega arith) (omega (arith, end_inside old offset there, after_low (get_or old (offset + 1) 0 == 10) offset)) in
         cc
     by_more (x ∷ m) is lt =
         let size = length more in
@@ -190,7 +190,7 @@ whole_head old more least place none few lacks first = record {
           ap length is,
         ))
 
-    by_end : (after_empty_line (old ++ more) place < length (old ++ more)) ⊎ (length (old ++ more) ≤ after_empty_line (old ++ more) place) → length (old ++ more) ≡ after_empty_line (old ++ more) place
+    by_end : (after_empty_line (old ++ more) offset < length (old ++ more)) ⊎ (length (old ++ more) ≤ after_empty_line (old ++ more) offset) → length (old ++ more) ≡ after_empty_line (old ++ more) offset
     by_end (inl lt) = absurd (by_more more refl lt)
     by_end (inr le) = omega (arith, le, inside)
 
@@ -206,7 +206,7 @@ third_true true false true s is other = refl
 third_true true false false s is other = absurd (cc is)
 third_true false q r s is other = absurd (cc is)
 
--- the bytes end with the one at the last place
+-- the bytes end with the one at the last offset
 last_byte : (bytes : List ℕ) (k byte : ℕ) → k + 1 ≡ length bytes → get_or bytes k 0 ≡ byte → bytes ≡ take k bytes ++ (byte ∷ [])
 last_byte bytes k byte last is =
     sym (take-append-drop k bytes)
@@ -252,8 +252,8 @@ lacks_more bytes more few no_lf no_cr none k low lt = by_test (is_last_line_end 
 
     by_test : (t : Bool) → is_last_line_end (bytes ++ more) k ≡ t → is_last_line_end (bytes ++ more) k ≡ false
     by_test false is = is
-    by_test true is = absurd (by_place (cases_lt (length bytes) (after_empty_line (bytes ++ more) k)))
+    by_test true is = absurd (by_offset (cases_lt (length bytes) (after_empty_line (bytes ++ more) k)))
       where
-        by_place : (length bytes < after_empty_line (bytes ++ more) k) ⊎ (after_empty_line (bytes ++ more) k ≤ length bytes) → ⊥
-        by_place (inl late) = at_end is (omega (arith, late, few, end_inside (bytes ++ more) k is, length-append bytes more))
-        by_place (inr early) = inside is early
+        by_offset : (length bytes < after_empty_line (bytes ++ more) k) ⊎ (after_empty_line (bytes ++ more) k ≤ length bytes) → ⊥
+        by_offset (inl late) = at_end is (omega (arith, late, few, end_inside (bytes ++ more) k is, length-append bytes more))
+        by_offset (inr early) = inside is early

@@ -12,11 +12,11 @@ same_before bytes more k inside =
 abbrev pub SameBefore : ℕ → List ℕ → List ℕ → Type 0
 SameBefore end bytes other = (k : ℕ) → k < end → get_or other k 0 ≡ get_or bytes k 0
 
-pub same_test : (bytes other : List ℕ) (end place : ℕ) → SameBefore end bytes other → place + 2 < end → is_last_line_end other place ≡ is_last_line_end bytes place
-same_test bytes other end place same inside =
-    let a = same place (omega arith) in
-    let b = same (place + 1) (omega arith) in
-    let c = same (place + 2) (omega arith) in
+pub same_test : (bytes other : List ℕ) (end offset : ℕ) → SameBefore end bytes other → offset + 2 < end → is_last_line_end other offset ≡ is_last_line_end bytes offset
+same_test bytes other end offset same inside =
+    let a = same offset (omega arith) in
+    let b = same (offset + 1) (omega arith) in
+    let c = same (offset + 2) (omega arith) in
     rw (a, b, c)
 
 -- of an empty line, the third byte counts only where the second is no LF
@@ -30,34 +30,34 @@ after_low true n = omega arith
 after_low false n = omega arith
 
 -- the LF behind which the head ends, in another list with the same bytes
-pub record SameLast (bytes other : List ℕ) (end place : ℕ) : Type 0 where
-  pub empty : is_last_line_end other place ≡ true
-  pub end_is : end ≡ after_empty_line other place
+pub record SameLast (bytes other : List ℕ) (end offset : ℕ) : Type 0 where
+  pub empty : is_last_line_end other offset ≡ true
+  pub end_is : end ≡ after_empty_line other offset
 
-pub same_last : (bytes other : List ℕ) (end place : ℕ) → SameBefore end bytes other → end ≡ after_empty_line bytes place → is_last_line_end bytes place ≡ true
-    → SameLast bytes other end place
-same_last bytes other end place same ends empty = by_test (get_or bytes (place + 1) 0 == 10) refl
+pub same_last : (bytes other : List ℕ) (end offset : ℕ) → SameBefore end bytes other → end ≡ after_empty_line bytes offset → is_last_line_end bytes offset ≡ true
+    → SameLast bytes other end offset
+same_last bytes other end offset same ends empty = by_test (get_or bytes (offset + 1) 0 == 10) refl
   where
-    low : place + 2 ≤ end
-    low = omega (arith, after_low (get_or bytes (place + 1) 0 == 10) place)
+    low : offset + 2 ≤ end
+    low = omega (arith, after_low (get_or bytes (offset + 1) 0 == 10) offset)
 
-    a : get_or other place 0 ≡ get_or bytes place 0
-    a = same place (omega (arith, low))
+    a : get_or other offset 0 ≡ get_or bytes offset 0
+    a = same offset (omega (arith, low))
 
-    b : get_or other (place + 1) 0 ≡ get_or bytes (place + 1) 0
-    b = same (place + 1) (omega (arith, low))
+    b : get_or other (offset + 1) 0 ≡ get_or bytes (offset + 1) 0
+    b = same (offset + 1) (omega (arith, low))
 
-    end_same : end ≡ after_empty_line other place
+    end_same : end ≡ after_empty_line other offset
     end_same = rw b ends
 
-    by_test : (t : Bool) → (get_or bytes (place + 1) 0 == 10) ≡ t → SameLast bytes other end place
+    by_test : (t : Bool) → (get_or bytes (offset + 1) 0 == 10) ≡ t → SameLast bytes other end offset
     by_test true second = record {
       empty = rw (a, b) (keeps _ _ _ _ empty second);
       end_is = end_same;
     }
     by_test false second =
-        let far : end ≡ place + 3 = ends ∙ ap (λ (t : Bool). if t then place + 2 else place + 3) second in record {
-          empty = same_test bytes other end place same (omega arith) ∙ empty;
+        let far : end ≡ offset + 3 = ends ∙ ap (λ (t : Bool). if t then offset + 2 else offset + 3) second in record {
+          empty = same_test bytes other end offset same (omega arith) ∙ empty;
           end_is = end_same;
         }
 

@@ -1,4 +1,4 @@
--- The bytes of a connection as requests (RFC 9112): its first frame is that more is wanted, a request, or a refusal. It is a
+-- The bytes of a connection as requests (RFC 9112): its first frame is that more is needed, a request, or a refusal. It is a
 -- statement on all bytes that came; how they were cut has no part in it.
 use Rattle.std.specs.Prelude.{◌≡◌, ℕ, ◌+◌, ◌<◌, ◌≤◌, ◌⊎◌, ◌||◌, if◌then◌else◌, nat_lt, List, [], length, drop, slice_range, codes, Option, Some, None}
 use Rattle.httparse.specs.Grammar.{RequestHead, ReadsRequest}
@@ -54,12 +54,12 @@ pub record Accepts (greatest : ℕ) (bytes : List ℕ) (start end : ℕ) (parts 
   pub fine : refusal_of greatest parts ≡ None
 
 -- no head has ended, and there is room for one yet
-pub record WantsHead (bytes : List ℕ) : Type 0 where
+pub record NeedsHead (bytes : List ℕ) : Type 0 where
   pub room : length bytes < MAX_HEAD
   pub none : HasNoHeadIn (length bytes) bytes
 
 -- the head is fine, and its body isn't whole
-pub record WantsBody (greatest : ℕ) (bytes : List ℕ) : Type 0 where
+pub record NeedsBody (greatest : ℕ) (bytes : List ℕ) : Type 0 where
   pub start : ℕ
   pub end : ℕ
   pub parts : HeadParts
@@ -105,11 +105,11 @@ IsRefused greatest bytes refusal =
 
 -- the first frame of the bytes, and what is left of them after it
 abbrev pub IsFirstFrame : ℕ → List ℕ → Frame → List ℕ → Type 0
-IsFirstFrame greatest bytes More rest = (WantsHead bytes ⊎ WantsBody greatest bytes) × (rest ≡ bytes)
+IsFirstFrame greatest bytes More rest = (NeedsHead bytes ⊎ NeedsBody greatest bytes) × (rest ≡ bytes)
 IsFirstFrame greatest bytes (Given request) rest = GivesRequest greatest bytes request rest
 IsFirstFrame greatest bytes (Refused refusal) rest = IsRefused greatest bytes refusal × (rest ≡ bytes)
 
 -- what contracts see of a session: the greatest body that it takes, and the bytes that were fed and not yet given
 pub record SessionState : Type 0 where
-  pub greatest_body : ℕ
+  pub max_body : ℕ
   pub fed : List ℕ

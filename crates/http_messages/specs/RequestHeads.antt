@@ -6,35 +6,35 @@ use Rattle.std.specs.Prelude.{◌≡◌, ℕ, ◌+◌, ◌<◌, ◌≤◌, Bool,
 abbrev pub is_line_byte : ℕ → Bool
 is_line_byte byte = byte == 13 || byte == 10
 
--- an empty line follows the LF at this place: LF, or CR LF
+-- an empty line follows the LF at this offset: LF, or CR LF
 abbrev pub is_last_line_end : List ℕ → ℕ → Bool
 is_last_line_end bytes at =
     slice_index bytes at == 10
     && (slice_index bytes (at + 1) == 10 || (slice_index bytes (at + 1) == 13 && slice_index bytes (at + 2) == 10))
 
--- where the empty line after the LF at this place ends
+-- where the empty line after the LF at this offset ends
 abbrev pub after_empty_line : List ℕ → ℕ → ℕ
 after_empty_line bytes at = if slice_index bytes (at + 1) == 10 then at + 2 else at + 3
 
 -- from `low` on up to `high` no LF has an empty line behind it
 abbrev pub HasNoEnd : List ℕ → ℕ → ℕ → Type 0
-HasNoEnd bytes low high = (place : ℕ) → low ≤ place → place < high → is_last_line_end bytes place ≡ false
+HasNoEnd bytes low high = (offset : ℕ) → low ≤ offset → offset < high → is_last_line_end bytes offset ≡ false
 
 -- the first LF from `from` on that has an empty line behind it
-pub record IsFirstEnd (bytes : List ℕ) (from place : ℕ) : Type 0 where
-  pub order : from ≤ place
-  pub here : is_last_line_end bytes place ≡ true
-  pub first : HasNoEnd bytes from place
+pub record IsFirstEnd (bytes : List ℕ) (from offset : ℕ) : Type 0 where
+  pub order : from ≤ offset
+  pub here : is_last_line_end bytes offset ≡ true
+  pub first : HasNoEnd bytes from offset
 
 -- the bytes before `start` are CR and LF, which are dropped; the head begins there with another byte, and `end` is after its first
 -- empty line
 pub record IsHeadAt (bytes : List ℕ) (start end : ℕ) : Type 0 where
-  pub dropped : (place : ℕ) → place < start → is_line_byte (slice_index bytes place) ≡ true
+  pub dropped : (offset : ℕ) → offset < start → is_line_byte (slice_index bytes offset) ≡ true
   pub begins : is_line_byte (slice_index bytes start) ≡ false
   pub last : ℕ
   pub after : start ≤ last
   pub empty : is_last_line_end bytes last ≡ true
-  pub first : (place : ℕ) → start ≤ place → place < last → is_last_line_end bytes place ≡ false
+  pub first : (offset : ℕ) → start ≤ offset → offset < last → is_last_line_end bytes offset ≡ false
   pub end_is : end ≡ after_empty_line bytes last
   pub within : end ≤ length bytes
 

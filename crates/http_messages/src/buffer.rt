@@ -42,12 +42,12 @@ impl Buffer {
     }
 
     /// Adds bytes at the end. Without memory the buffer stays as it was.
-    pub(crate) fn push(&mut self, piece: &[u8]) -> Result<(), NoMemory>
-        ensures ok { OnOk result (self.new ≡ self.old ++ piece.now) }
+    pub(crate) fn push(&mut self, chunk: &[u8]) -> Result<(), NoMemory>
+        ensures ok { OnOk result (self.new ≡ self.old ++ chunk.now) }
         ensures err { OnErr result (self.new ≡ self.old) }
     {
         self.clear_taken();
-        self.bytes.extend_from_slice(piece)?;
+        self.bytes.extend_from_slice(chunk)?;
         Ok(())
     }
 
@@ -78,7 +78,7 @@ impl Buffer {
         Ok(copy)
     }
 
-    /// Takes all bytes, and gives those from a place on with their memory.
+    /// Takes all bytes, and gives those from a offset on with their memory.
     fn take_all(&mut self, alloc: Global, start: usize) -> Buffer
         requires { start ≤ length self.old }
         ensures given { result ≡ drop start self.old }

@@ -4,7 +4,7 @@ ghost use Rattle.http_messages.specs.inner.Searching.{IsSearched, IsFound, HasNo
 
 use crate::Refusal;
 use crate::frame::MAX_HEAD;
-use crate::request_judging::{Found, judge};
+use crate::request_checking::{Found, check};
 use crate::search::HeadSearch;
 use flow_values::NoMemory;
 use httparse::spans::HeaderSpan;
@@ -13,14 +13,14 @@ use std::alloc::Global;
 /// Finds what the bytes begin with.
 pub(crate) fn find_frame(
     alloc: Global,
-    greatest_body: u64,
+    max_body: u64,
     bytes: &[u8],
     search: &mut HeadSearch,
     spans: &mut [HeaderSpan],
 ) -> Result<Found, NoMemory>
     requires searched { IsSearched bytes.now search.old }
     requires room { MAX_FIELDS ≤ length spans.now }
-    ensures found { IfOk result (IsFound greatest_body bytes.now) }
+    ensures found { IfOk result (IsFound max_body bytes.now) }
     ensures searched { IsSearched bytes.now search.new }
 {
     let Some(end) = search.find(bytes) else {
@@ -29,7 +29,7 @@ pub(crate) fn find_frame(
     if end > MAX_HEAD {
         return Ok(Found::Refused(Refusal::HeadTooLarge));
     }
-    judge(alloc, greatest_body, bytes, search.start, end, spans)
+    check(alloc, max_body, bytes, search.start, end, spans)
 }
 
 /// What bytes begin with that hold no head.

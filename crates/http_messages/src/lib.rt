@@ -1,7 +1,7 @@
 //! HTTP/1.1 as a server speaks it (RFC 9112): requests out of the bytes of a connection, however they
 //! are cut; the statuses of answers (RFC 9110).
 //!
-//! What a connection's bytes begin with is a definition on all of them: more is wanted, a request, or a
+//! What a connection's bytes begin with is a definition on all of them: more is needed, a request, or a
 //! refusal. Whatever a proxy in front could read otherwise is refused.
 //!
 //! HTTP/1.1 as a client speaks it that makes one request of a connection (RFC 9112): the one reply is
@@ -23,14 +23,14 @@ mod reply_body;
 mod reply_end;
 mod reply_grammar;
 mod reply_head;
-mod reply_judging;
+mod reply_checking;
 pub mod reply_laws;
 mod reply_refusal;
 mod request;
 mod request_body;
 mod request_grammar;
 mod request_head;
-mod request_judging;
+mod request_checking;
 pub mod request_laws;
 mod request_refusal;
 mod search;

@@ -5,7 +5,7 @@ ghost use Rattle.http_messages.specs.Replies.{ReadsReply};
 
 use crate::ReplyEnd;
 use crate::reply_body::read_body;
-use crate::reply_judging::{Judged, judge};
+use crate::reply_checking::{Checked, check};
 use crate::searching::read_head;
 use flow_edges::{MAX_READ, Source};
 use flow_values::{Items, NoMemory};
@@ -20,9 +20,9 @@ pub fn read_reply<S: Source>(alloc: Global, link: &mut S) -> Result<Items<u8>, R
 {
     let mut buffer = room(alloc)?;
     let end = read_head(link, &mut buffer)?;
-    match judge(alloc, &buffer[..end])? {
-        Judged::Announces(count) => read_body(alloc, link, count, &mut buffer),
-        Judged::Refused(refusal) => Err(ReplyEnd::Refused(refusal)),
+    match check(alloc, &buffer[..end])? {
+        Checked::Announces(count) => read_body(alloc, link, count, &mut buffer),
+        Checked::Refused(refusal) => Err(ReplyEnd::Refused(refusal)),
     }
 }
 

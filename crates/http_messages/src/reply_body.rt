@@ -22,8 +22,8 @@ pub(crate) fn read_body<S: Source>(
 {
     let mut body = Vec::new(alloc);
     while body.len() < count {
-        let wanted = (count - body.len()).min(MAX_READ);
-        let taken = link.read(&mut buffer[..wanted])?;
+        let needed = (count - body.len()).min(MAX_READ);
+        let taken = link.read(&mut buffer[..needed])?;
         if taken == 0 {
             return Err(ReplyEnd::Cut);
         }

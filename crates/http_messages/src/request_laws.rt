@@ -27,8 +27,8 @@ pub fn requests_take_bytes()
         → IsFirstFrame greatest bytes (Frame.Request request) rest → length rest < length bytes }
 {}
 
-/// More is wanted only where fewer bytes are there than a head and a body may have together.
-pub fn few_bytes_want_more()
+/// More is needed only where fewer bytes are there than a head and a body may have together.
+pub fn few_bytes_need_more()
     ensures { (greatest : ℕ) (bytes rest : List ℕ) → IsFirstFrame greatest bytes Frame.More rest
         → length bytes < MAX_HEAD + greatest }
 {}

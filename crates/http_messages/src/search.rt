@@ -32,7 +32,7 @@ impl HeadSearch {
         let next = passed(bytes, from, end);
         *self = HeadSearch { start, next };
         match end {
-            Some(place) => Some(end_of_head(bytes, place)),
+            Some(offset) => Some(end_of_head(bytes, offset)),
             None => None,
         }
     }
@@ -41,22 +41,22 @@ impl HeadSearch {
 /// How far the search got: to the line end that it found, or so far that bytes to come can't change what
 /// was passed.
 fn passed(bytes: &[u8], from: usize, end: Option<usize>) -> usize
-    ensures { MatchOption end (result ≡ max from (length bytes.now - 2)) (λ place. result ≡ place) }
+    ensures { MatchOption end (result ≡ max from (length bytes.now - 2)) (λ offset. result ≡ offset) }
 {
     match end {
-        Some(place) => place,
+        Some(offset) => offset,
         None => from.max(bytes.len().saturating_sub(2)),
     }
 }
 
-/// The place from `from` on where there is neither CR nor LF, or the end of the bytes.
+/// The offset from `from` on where there is neither CR nor LF, or the end of the bytes.
 fn skip_line_ends(bytes: &[u8], from: usize) -> usize
     requires { from ≤ length bytes.now }
     ensures { SkipsTo bytes.now from result }
 {
-    for place in from..bytes.len() {
-        if bytes[place] != b'\r' && bytes[place] != b'\n' {
-            return place;
+    for offset in from..bytes.len() {
+        if bytes[offset] != b'\r' && bytes[offset] != b'\n' {
+            return offset;
         }
     }
     bytes.len()
@@ -67,41 +67,41 @@ pub fn last_line_end(bytes: &[u8], from: usize) -> Option<usize>
     ensures some { IfSome result (IsFirstEnd bytes.now from) }
     ensures none { result ≡ None → HasNoEnd bytes.now from (length bytes.now) }
 {
-    for place in from..bytes.len() {
-        if is_last_line_end(bytes, place) {
-            return Some(place);
+    for offset in from..bytes.len() {
+        if is_last_line_end(bytes, offset) {
+            return Some(offset);
         }
     }
     None
 }
 
 /// Whether an LF with an empty line behind it stands there.
-fn is_last_line_end(bytes: &[u8], place: usize) -> bool
-    requires { place < length bytes.now }
-    ensures { result ≡ is_last_line_end bytes.now place }
+fn is_last_line_end(bytes: &[u8], offset: usize) -> bool
+    requires { offset < length bytes.now }
+    ensures { result ≡ is_last_line_end bytes.now offset }
 {
-    let second = byte_at(bytes, place + 1);
-    byte_at(bytes, place) == b'\n'
-        && (second == b'\n' || (second == b'\r' && byte_at(bytes, place + 2) == b'\n'))
+    let second = byte_at(bytes, offset + 1);
+    byte_at(bytes, offset) == b'\n'
+        && (second == b'\n' || (second == b'\r' && byte_at(bytes, offset + 2) == b'\n'))
 }
 
 /// Where the empty line behind the LF ends.
-fn end_of_head(bytes: &[u8], place: usize) -> usize
-    requires { place < length bytes.now }
-    ensures { result ≡ after_empty_line bytes.now place }
+fn end_of_head(bytes: &[u8], offset: usize) -> usize
+    requires { offset < length bytes.now }
+    ensures { result ≡ after_empty_line bytes.now offset }
 {
-    if byte_at(bytes, place + 1) == b'\n' {
-        place + 2
+    if byte_at(bytes, offset + 1) == b'\n' {
+        offset + 2
     } else {
-        place + 3
+        offset + 3
     }
 }
 
-/// The byte at a place, or 0 behind the last.
-fn byte_at(bytes: &[u8], place: usize) -> u8
-    ensures { result ≡ slice_index bytes.now place }
+/// The byte at a offset, or 0 behind the last.
+fn byte_at(bytes: &[u8], offset: usize) -> u8
+    ensures { result ≡ slice_index bytes.now offset }
 {
-    match bytes.get(place) {
+    match bytes.get(offset) {
         Some(byte) => *byte,
         None => 0,
     }

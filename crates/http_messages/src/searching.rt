@@ -18,8 +18,8 @@ pub(crate) fn read_head<S: Source>(link: &mut S, buffer: &mut [u8]) -> Result<us
 {
     let mut end = 0;
     while end < MAX_HEAD {
-        let wanted = lacking(&buffer[..end]).min(MAX_HEAD - end);
-        let count = link.read(&mut buffer[end..end + wanted])?;
+        let needed = lacking(&buffer[..end]).min(MAX_HEAD - end);
+        let count = link.read(&mut buffer[end..end + needed])?;
         if count == 0 {
             return Err(ReplyEnd::Cut);
         }

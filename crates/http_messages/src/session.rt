@@ -4,7 +4,7 @@ ghost use Rattle.http_messages.specs.Frames.{SessionState, IsFirstFrame};
 use crate::buffer::Buffer;
 use crate::finding::find_frame;
 use crate::request_grammar::MAX_FIELDS;
-use crate::request_judging::Found;
+use crate::request_checking::Found;
 use crate::search::HeadSearch;
 use crate::{Body, Frame};
 use flow_values::NoMemory;
@@ -17,11 +17,11 @@ use std::marker::Model;
 #[derive(Drop)]
 pub struct Session {
     alloc: Global,
-    greatest_body: u64,
+    max_body: u64,
     buffer: Buffer,
     search: HeadSearch,
-    /// Until so many bytes are there, more is wanted.
-    wanted: usize,
+    /// Until so many bytes are there, more is needed.
+    needed: usize,
     spans: Vec<HeaderSpan>,
 }
 
@@ -31,56 +31,56 @@ impl Model for Session {
 
     ghost Value = { SessionState };
 
-    ghost view = { λ session. record { greatest_body = session.greatest_body; fed = session.buffer } };
+    ghost view = { λ session. record { max_body = session.max_body; fed = session.buffer } };
 
-    ghost invariant = { λ session. IsSession session.greatest_body session.buffer session.search session.wanted session.spans.items };
+    ghost invariant = { λ session. IsSession session.max_body session.buffer session.search session.needed session.spans.items };
 }
 
 impl Session {
     /// A session to which nothing was fed. It takes bodies of at most so many bytes.
-    pub fn new(alloc: Global, greatest_body: u64) -> Result<Session, NoMemory>
-        ensures { IfOk result (λ session. session ≡ record { greatest_body = greatest_body; fed = [] }) }
+    pub fn new(alloc: Global, max_body: u64) -> Result<Session, NoMemory>
+        ensures { IfOk result (λ session. session ≡ record { max_body = max_body; fed = [] }) }
     {
         let spans = vec![in alloc; EMPTY_HEADER_SPAN; MAX_FIELDS]?;
         Ok(Session {
             alloc,
-            greatest_body,
+            max_body,
             buffer: Buffer::new(alloc),
             search: HeadSearch::new(),
-            wanted: 0,
+            needed: 0,
             spans,
         })
     }
 
     /// Feeds the next bytes of the connection. Without memory the session stays as it was.
-    pub fn feed(&mut self, piece: &[u8]) -> Result<(), NoMemory>
-        ensures ok { OnOk result (self.new ≡ record { greatest_body = self.old.greatest_body; fed = self.old.fed ++ piece.now }) }
+    pub fn feed(&mut self, chunk: &[u8]) -> Result<(), NoMemory>
+        ensures ok { OnOk result (self.new ≡ record { max_body = self.old.max_body; fed = self.old.fed ++ chunk.now }) }
         ensures err { OnErr result (self.new ≡ self.old) }
     {
-        self.buffer.push(piece)?;
+        self.buffer.push(chunk)?;
         Ok(())
     }
 
     /// What the bytes begin with that were fed and not yet given. A request is taken from them; else
     /// they stay, so that a refusal is repeated. Without memory the session stays as it was.
     pub fn next_request(&mut self) -> Result<Frame, NoMemory>
-        ensures first { IfOk result (λ frame. IsFirstFrame self.old.greatest_body self.old.fed frame self.new.fed) }
-        ensures greatest { self.new.greatest_body ≡ self.old.greatest_body }
+        ensures first { IfOk result (λ frame. IsFirstFrame self.old.max_body self.old.fed frame self.new.fed) }
+        ensures greatest { self.new.max_body ≡ self.old.max_body }
         ensures err { OnErr result (self.new ≡ self.old) }
     {
-        if self.buffer.as_slice().len() < self.wanted {
+        if self.buffer.as_slice().len() < self.needed {
             return Ok(Frame::More);
         }
         let found = find_frame(
             self.alloc,
-            self.greatest_body,
+            self.max_body,
             self.buffer.as_slice(),
             &mut self.search,
             &mut self.spans,
         )?;
         match found {
-            Found::More(wanted) => {
-                self.wanted = wanted;
+            Found::More(needed) => {
+                self.needed = needed;
                 Ok(Frame::More)
             }
             Found::Request {
@@ -94,7 +94,7 @@ impl Session {
                 };
                 request.body = Body::new(body);
                 self.search = HeadSearch::new();
-                self.wanted = 0;
+                self.needed = 0;
                 Ok(Frame::Request(request))
             }
             Found::Refused(refusal) => Ok(Frame::Refused(refusal)),

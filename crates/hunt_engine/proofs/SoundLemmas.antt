@@ -3,7 +3,7 @@ use Rattle.std.specs.Prelude.{All, []}
 use Rattle.std.proofs.lemmas.List.Elements.{All-nil, All-cons, All-append}
 use Rattle.pattern_types.specs.PlainPattern.{PlainPattern, a_leaf, a_both, an_either, a_then, a_limited}
 use Rattle.pattern_types.specs.Soundness.{IsSoundLeaf, IsSoundPattern}
-use Rattle.hunt_engine.specs.Known.{leaf_list}
+use Rattle.hunt_engine.specs.Memo.{leaf_list}
 
 pub sound_leaves : (p : PlainPattern) → IsSoundPattern p → All IsSoundLeaf (leaf_list p)
 sound_leaves (a_leaf leaf) is = All-cons IsSoundLeaf leaf [] is (All-nil IsSoundLeaf)

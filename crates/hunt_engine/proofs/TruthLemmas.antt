@@ -7,8 +7,8 @@ use Rattle.pattern_types.specs.PlainLeaf.{PlainLeaf}
 use Rattle.pattern_types.specs.PlainPattern.{PlainPattern, a_leaf, a_both, an_either, a_then, a_limited}
 use Rattle.match_comparisons.specs.Tests.{LeafHolds}
 use Rattle.match_comparisons.specs.Truths.{AreOfBoth, AreTruths}
-use Rattle.hunt_engine.specs.declared.brackets.Stretch.{Stretch}
-use Rattle.hunt_engine.specs.Known.{leaf_list}
+use Rattle.hunt_engine.specs.declared.brackets.BracketRange.{BracketRange}
+use Rattle.hunt_engine.specs.Memo.{leaf_list}
 use Rattle.hunt_engine.specs.inner.Table.{part_of}
 
 -- a mark tells whether its bracket holds
@@ -66,14 +66,14 @@ truths_from objects roots (a_then p q) marks z = of_both objects roots p q marks
 truths_from objects roots (a_limited p limit) marks z = truths_from objects roots p marks z
 
 -- the marks of a stretch are the truths of the pattern whose brackets stand there
-pub part_truths : (objects : List Data) (roots : List ℕ) (leaves : List PlainLeaf) (marks : List Bool) (p : PlainPattern) (stretch : Stretch) → length marks ≡ length leaves →
+pub part_truths : (objects : List Data) (roots : List ℕ) (leaves : List PlainLeaf) (marks : List Bool) (p : PlainPattern) (bracket_range : BracketRange) → length marks ≡ length leaves →
     ((at : ℕ) (leaf : PlainLeaf) → slice_get leaves at ≡ Some leaf → (slice_get marks at ≡ Some true) ↔ LeafHolds objects roots leaf) →
-    part_of stretch leaves ≡ leaf_list p → AreTruths objects roots p (part_of stretch marks)
-part_truths objects roots leaves marks p stretch count tells is =
-    truths_from objects roots p (part_of stretch marks)
-    (subst (λ (l : List PlainLeaf). AllZip (Tells objects roots) l (part_of stretch marks)) is
-    (zip_take objects roots stretch.count (drop stretch.first leaves) (drop stretch.first marks)
-    (zip_drop objects roots stretch.first leaves marks (zip_from objects roots leaves marks count tells))))
+    part_of bracket_range leaves ≡ leaf_list p → AreTruths objects roots p (part_of bracket_range marks)
+part_truths objects roots leaves marks p bracket_range count reports is =
+    truths_from objects roots p (part_of bracket_range marks)
+    (subst (λ (l : List PlainLeaf). AllZip (Tells objects roots) l (part_of bracket_range marks)) is
+    (zip_take objects roots bracket_range.count (drop bracket_range.first leaves) (drop bracket_range.first marks)
+    (zip_drop objects roots bracket_range.first leaves marks (zip_from objects roots leaves marks count reports))))
 
 -- ---- a stretch without marks
 
@@ -88,12 +88,12 @@ get_take (suc n) [] k mark h = absurd (cc)
 get_take (suc n) (m ∷ marks) zero mark h = (omega arith, h)
 get_take (suc n) (m ∷ marks) (suc k) mark h = let rest = get_take n marks k mark h in (omega (arith, rest.0), rest.1)
 
-pub no_truth : (stretch : Stretch) (marks : List Bool) → ((at : ℕ) → stretch.first ≤ at → at < stretch.first + stretch.count → slice_get marks at ≡ Some true → ⊥) →
-    (k : ℕ) → unwrap_or (slice_get (part_of stretch marks) k) false ≡ false
-no_truth stretch marks none k = by (slice_get (part_of stretch marks) k) refl where
-  by : (o : Option Bool) → slice_get (part_of stretch marks) k ≡ o → unwrap_or (slice_get (part_of stretch marks) k) false ≡ false
+pub no_truth : (bracket_range : BracketRange) (marks : List Bool) → ((at : ℕ) → bracket_range.first ≤ at → at < bracket_range.first + bracket_range.count → slice_get marks at ≡ Some true → ⊥) →
+    (k : ℕ) → unwrap_or (slice_get (part_of bracket_range marks) k) false ≡ false
+no_truth bracket_range marks none k = by (slice_get (part_of bracket_range marks) k) refl where
+  by : (o : Option Bool) → slice_get (part_of bracket_range marks) k ≡ o → unwrap_or (slice_get (part_of bracket_range marks) k) false ≡ false
   by None e = rw e refl
   by (Some false) e = rw e refl
   by (Some true) e = absurd (
-      let inside = get_take stretch.count (drop stretch.first marks) k true e in let below = inside.0 in
-      none (stretch.first + k) (omega arith) (omega (arith, below)) (sym (get_drop stretch.first marks k) ∙ inside.1))
+      let inside = get_take bracket_range.count (drop bracket_range.first marks) k true e in let below = inside.0 in
+      none (bracket_range.first + k) (omega arith) (omega (arith, below)) (sym (get_drop bracket_range.first marks k) ∙ inside.1))

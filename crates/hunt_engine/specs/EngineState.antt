@@ -4,35 +4,35 @@ use Rattle.pattern_types.specs.declared.pattern.Pattern.{Pattern}
 use Rattle.pattern_types.specs.PlainPattern.{plain_pattern}
 use Rattle.match_bindings.specs.declared.log_entry.LogEntry.{LogEntry}
 use Rattle.hunt_engine.specs.EngineLog.{Row, IsLogOf, last_of_rows}
-use Rattle.hunt_engine.specs.FollowerState.{FollowerState, Follows}
+use Rattle.hunt_engine.specs.LazyMatcherState.{LazyMatcherState, Follows}
 
 pub record EngineState : Type 0 where
   -- the patterns of the hunted list
   pub patterns : List Pattern
-  -- how much may be live of each
-  pub cap : ℕ
+  -- how much may be retained of each
+  pub retained_limit : ℕ
   -- how many rows it took
   pub rows : ℕ
   -- the last time of the last one
   pub last : Option ℤ
   -- whether it has ended
   pub ended : Bool
-  -- who follows the log, by the place of the pattern
-  pub followers : List FollowerState
+  -- who follows the log, by the position of the pattern
+  pub lazy_matchers : List LazyMatcherState
 
 -- the log that some rows are to a pattern is followed
-abbrev pub FollowsRows : Pattern → ℕ → List Row → FollowerState → Type 0
-FollowsRows p cap rows follower = (log : List LogEntry) × IsLogOf (plain_pattern p) rows log × Follows p cap log follower
+abbrev pub FollowsRows : Pattern → ℕ → List Row → LazyMatcherState → Type 0
+FollowsRows p retained_limit rows lazy_matcher = (log : List LogEntry) × IsLogOf (plain_pattern p) rows log × Follows p retained_limit log lazy_matcher
 
 -- an engine that hasn't ended stands for rows where each pattern's log of them is followed
-pub record EngineStandsFor (state : EngineState) (rows : List Row) : Type 0 where
+pub record EngineRepresents (state : EngineState) (rows : List Row) : Type 0 where
   pub runs : state.ended ≡ false
   pub rows_are : state.rows ≡ length rows
   pub last_is : state.last ≡ last_of_rows rows
-  pub count : length state.followers ≡ length state.patterns
-  pub each : (place : ℕ) (p : Pattern) (follower : FollowerState) → slice_get state.patterns place ≡ Some p
-      → slice_get state.followers place ≡ Some follower → FollowsRows p state.cap rows follower
+  pub count : length state.lazy_matchers ≡ length state.patterns
+  pub each : (position : ℕ) (p : Pattern) (lazy_matcher : LazyMatcherState) → slice_get state.patterns position ≡ Some p
+      → slice_get state.lazy_matchers position ≡ Some lazy_matcher → FollowsRows p state.retained_limit rows lazy_matcher
 
 -- it has ended, or stands for some rows
 abbrev pub IsReady : EngineState → Type 0
-IsReady state = state.ended ≡ false → (rows : List Row) × EngineStandsFor state rows
+IsReady state = state.ended ≡ false → (rows : List Row) × EngineRepresents state rows

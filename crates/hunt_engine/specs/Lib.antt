@@ -1,6 +1,6 @@
 pub mod EngineLog
-pub mod FollowerState
+pub mod LazyMatcherState
 pub mod EngineState
 pub mod EngineAnswer
-pub mod Known
+pub mod Memo
 pub mod inner

@@ -1,7 +1,7 @@
 pub mod Following
 pub mod Table
-pub mod Knowing
-pub mod Pieces
-pub mod Judging
+pub mod Memos
+pub mod RootBatches
+pub mod Evaluation
 pub mod Round
 pub mod Built

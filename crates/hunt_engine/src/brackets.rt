@@ -3,8 +3,8 @@
 ghost use Rattle.std.specs.Prelude.{◌≡◌, ◌≤◌, ◌<◌, ◌+◌, ◌^◌, ◌++◌, List, [], ◌∷◌, Some, length, map, slice_get, OnOk};
 ghost use Rattle.pattern_types.specs.PlainLeaf.{plain_leaf};
 ghost use Rattle.pattern_types.specs.PlainPattern.{PlainPattern, plain_pattern};
-ghost use Rattle.hunt_engine.specs.declared.brackets.Stretch.{Stretch};
-ghost use Rattle.hunt_engine.specs.Known.{leaf_list};
+ghost use Rattle.hunt_engine.specs.declared.brackets.BracketRange.{BracketRange};
+ghost use Rattle.hunt_engine.specs.Memo.{leaf_list};
 ghost use Rattle.hunt_engine.specs.inner.Table.{part_of, repeated, IsTable};
 
 use flow_values::NoMemory;
@@ -16,7 +16,7 @@ const MAX_BRACKETS: usize = 4_294_967_295;
 
 /// Where the brackets of one pattern stand among those of all.
 #[derive(Clone, Copy, Debug)]
-pub(crate) struct Stretch {
+pub(crate) struct BracketRange {
     /// The first of them.
     pub(crate) first: u32,
     /// How many there are.
@@ -28,35 +28,35 @@ pub(crate) struct Stretch {
 pub(crate) struct Brackets<'p> {
     /// The brackets.
     pub(crate) leaves: Vec<&'p Leaf>,
-    /// For each bracket the place of its pattern.
+    /// For each bracket the position of its pattern.
     pub(crate) owners: Vec<u32>,
     /// For each pattern where its brackets stand.
-    pub(crate) stretches: Vec<Stretch>,
+    pub(crate) bracket_ranges: Vec<BracketRange>,
 }
 
 impl<'p> Brackets<'p> {
     /// The brackets of no pattern. Takes no memory.
     pub(crate) fn new(alloc: Global) -> Brackets<'p>
-        ensures table { IsTable [] (map plain_leaf (map (λ leaf. leaf.now) result.leaves.items)) result.owners.items result.stretches.items }
+        ensures table { IsTable [] (map plain_leaf (map (λ leaf. leaf.now) result.leaves.items)) result.owners.items result.bracket_ranges.items }
         ensures none { result.leaves.items ≡ [] }
     {
         Brackets {
             leaves: Vec::new(alloc),
             owners: Vec::new(alloc),
-            stretches: Vec::new(alloc),
+            bracket_ranges: Vec::new(alloc),
         }
     }
 
-    /// Adds those of a pattern, whose place is the next one. No more than a u32 counts fit.
+    /// Adds those of a pattern, whose position is the next one. No more than a u32 counts fit.
     pub(crate) fn add(&mut self, pattern: &'p Pattern) -> Result<(), NoMemory>
-        requires room { length self.old.stretches.items < 2 ^ 32 }
-        ensures table { (patterns : List PlainPattern) → IsTable patterns (map plain_leaf (map (λ leaf. leaf.now) self.old.leaves.items)) self.old.owners.items self.old.stretches.items
-            → OnOk result (IsTable (patterns ++ plain_pattern pattern.now ∷ []) (map plain_leaf (map (λ leaf. leaf.now) self.new.leaves.items)) self.new.owners.items self.new.stretches.items) }
+        requires room { length self.old.bracket_ranges.items < 2 ^ 32 }
+        ensures table { (patterns : List PlainPattern) → IsTable patterns (map plain_leaf (map (λ leaf. leaf.now) self.old.leaves.items)) self.old.owners.items self.old.bracket_ranges.items
+            → OnOk result (IsTable (patterns ++ plain_pattern pattern.now ∷ []) (map plain_leaf (map (λ leaf. leaf.now) self.new.leaves.items)) self.new.owners.items self.new.bracket_ranges.items) }
         ensures leaves { OnOk result (map plain_leaf (map (λ leaf. leaf.now) self.new.leaves.items)
             ≡ map plain_leaf (map (λ leaf. leaf.now) self.old.leaves.items) ++ leaf_list (plain_pattern pattern.now)) }
         ensures few { OnOk result (length self.new.leaves.items < 2 ^ 32) }
     {
-        let place = self.stretches.len() as u32;
+        let position = self.bracket_ranges.len() as u32;
         let first = self.leaves.len();
         add_leaves(&mut self.leaves, pattern)?;
         let end = self.leaves.len();
@@ -64,8 +64,8 @@ impl<'p> Brackets<'p> {
             return Err(NoMemory);
         }
         let count = end - first;
-        add_owner(&mut self.owners, place, count)?;
-        self.stretches.push(Stretch {
+        add_owner(&mut self.owners, position, count)?;
+        self.bracket_ranges.push(BracketRange {
             first: first as u32,
             count: count as u32,
         })?;
@@ -73,14 +73,14 @@ impl<'p> Brackets<'p> {
     }
 
     /// The truths of a pattern's brackets, by the marks of all.
-    pub(crate) fn truths<'m>(&self, place: usize, marks: &'m [bool]) -> &'m [bool]
-        requires there { place < length self.now.stretches.items }
-        requires inside { (stretch : Stretch) → slice_get self.now.stretches.items place ≡ Some stretch → stretch.first + stretch.count ≤ length marks.now }
-        ensures { (stretch : Stretch) → slice_get self.now.stretches.items place ≡ Some stretch → result.now ≡ part_of stretch marks.now }
+    pub(crate) fn truths<'m>(&self, position: usize, marks: &'m [bool]) -> &'m [bool]
+        requires there { position < length self.now.bracket_ranges.items }
+        requires inside { (bracket_range : BracketRange) → slice_get self.now.bracket_ranges.items position ≡ Some bracket_range → bracket_range.first + bracket_range.count ≤ length marks.now }
+        ensures { (bracket_range : BracketRange) → slice_get self.now.bracket_ranges.items position ≡ Some bracket_range → result.now ≡ part_of bracket_range marks.now }
     {
-        let stretch = &self.stretches[place];
-        let first = stretch.first as usize;
-        let count = stretch.count as usize;
+        let bracket_range = &self.bracket_ranges[position];
+        let first = bracket_range.first as usize;
+        let count = bracket_range.count as usize;
         &marks[first..first + count]
     }
 }
@@ -105,12 +105,12 @@ fn add_leaves<'p>(leaves: &mut Vec<&'p Leaf>, pattern: &'p Pattern) -> Result<()
     }
 }
 
-/// Makes a place the owner of so many brackets more.
-fn add_owner(owners: &mut Vec<u32>, place: u32, count: usize) -> Result<(), NoMemory>
-    ensures { OnOk result (owners.new.items ≡ owners.old.items ++ repeated place count) }
+/// Makes a position the owner of so many brackets more.
+fn add_owner(owners: &mut Vec<u32>, position: u32, count: usize) -> Result<(), NoMemory>
+    ensures { OnOk result (owners.new.items ≡ owners.old.items ++ repeated position count) }
 {
     for _ in 0..count {
-        owners.push(place)?;
+        owners.push(position)?;
     }
     Ok(())
 }

@@ -8,18 +8,18 @@ ghost use Rattle.hunt_engine.specs.declared.refusal.EngineRefusal.TheVariants as
 ghost use Rattle.pattern_types.specs.declared.pattern.Pattern.{Pattern};
 ghost use Rattle.pattern_types.specs.PlainLeaf.{plain_leaf};
 ghost use Rattle.hunt_engine.specs.EngineLog.{Row, row_of};
-ghost use Rattle.hunt_engine.specs.Known.{brackets_of, IsRight};
-ghost use Rattle.hunt_engine.specs.FollowerState.{FollowerState, Follows};
+ghost use Rattle.hunt_engine.specs.Memo.{brackets_of, IsSoundMemo};
+ghost use Rattle.hunt_engine.specs.LazyMatcherState.{LazyMatcherState, Follows};
 ghost use Rattle.hunt_engine.specs.inner.Table.{IsTable};
-ghost use Rattle.hunt_engine.specs.EngineState.{EngineStandsFor, IsReady};
-ghost use Rattle.hunt_engine.specs.EngineAnswer.{TellsRow, IsFirstCrowded};
+ghost use Rattle.hunt_engine.specs.EngineState.{EngineRepresents, IsReady};
+ghost use Rattle.hunt_engine.specs.EngineAnswer.{ReportsRow, IsFirstOverLimit};
 
 use crate::brackets::Brackets;
-use crate::follower::Follower;
-use crate::followers::{sweep, take_all};
-use crate::judging::{clear, judge};
+use crate::lazy_matcher::LazyMatcher;
+use crate::lazy_matchers::{sweep, take_all};
+use crate::evaluation::{clear, evaluate};
 use crate::next_row::NextRow;
-use crate::{EngineRefusal, Found, Known};
+use crate::{EngineRefusal, Hit, Memo};
 use flow_values::{Items, NoMemory};
 use match_bindings::laws::test_is_the_rule;
 use std::alloc::Global;
@@ -29,9 +29,9 @@ use stix_times::Instant;
 use hunt_index::Index;
 use hunt_feed::Hunted;
 
-/// Many patterns over one log. Contracts see the patterns of the hunted list, how much may be live of each, how
+/// Many patterns over one log. Contracts see the patterns of the hunted list, how much may be retained of each, how
 /// many rows it took, the last time of the last of them, whether it has ended, and who follows the log for each
-/// pattern; and by `EngineStandsFor` the rows that this stands for.
+/// pattern; and by `EngineRepresents` the rows that this stands for.
 ///
 /// A row costs what the index of brackets finds for those of its roots that aren't known, the brackets that
 /// hold at the others, and one look at the stores of one matcher that it doesn't concern, in turn, so that what
@@ -40,14 +40,14 @@ use hunt_feed::Hunted;
 pub struct Engine<'p> {
     alloc: Global,
     hunted: &'p [Hunted],
-    cap: u64,
+    retained_limit: u64,
     brackets: Brackets<'p>,
     index: Index<'p>,
     marks: Vec<bool>,
-    followers: Vec<Follower<'p>>,
-    /// The places of the patterns that have a matcher, and whose turn is next.
-    turns: Vec<u32>,
-    turn: usize,
+    lazy_matchers: Vec<LazyMatcher<'p>>,
+    /// The positions of the patterns that have a matcher, and whose turn is next.
+    sweep_order: Vec<u32>,
+    sweep_position: usize,
     rows: u64,
     last: Option<Instant>,
     ended: bool,
@@ -56,53 +56,53 @@ pub struct Engine<'p> {
 impl<'p> Model for Engine<'p> {
     ghost use Rattle.std.specs.Prelude.{map};
     ghost use Rattle.std.specs.Coded.{codes};
-    ghost use Rattle.pattern_types.specs.contracts.pattern.Pattern as held;
+    ghost use Rattle.pattern_types.specs.contracts.pattern.Pattern as matching;
     ghost use Rattle.match_stream.specs.inner.TreeCode.{tree_code};
     ghost use Rattle.hunt_engine.specs.EngineState.{EngineState};
     ghost use Rattle.hunt_engine.specs.inner.Built.{IsBuilt};
 
     ghost Value = { EngineState };
 
-    ghost coded = { Prim.hlevel (codes, held.the_row.coded, tree_code) };
+    ghost coded = { Prim.hlevel (codes, matching.the_row.coded, tree_code) };
 
     ghost view = { λ engine. record {
       patterns = map (λ h. h.pattern) engine.hunted.now;
-      cap = engine.cap;
+      retained_limit = engine.retained_limit;
       rows = engine.rows;
       last = engine.last;
       ended = engine.ended;
-      followers = engine.followers.items;
+      lazy_matchers = engine.lazy_matchers.items;
     } };
 
     ghost invariant = { IsBuilt };
 }
 
 impl<'p> Engine<'p> {
-    /// An engine for the patterns of a hunted list, that took no row yet. More than `cap` may never be live of
+    /// An engine for the patterns of a hunted list, that took no row yet. More than `retained_limit` may never be retained of
     /// one pattern. So many brackets as a u32 doesn't count take more memory than there is.
-    pub fn new(alloc: Global, hunted: &'p [Hunted], cap: u64) -> Result<Engine<'p>, NoMemory>
+    pub fn new(alloc: Global, hunted: &'p [Hunted], retained_limit: u64) -> Result<Engine<'p>, NoMemory>
         requires few { length hunted.now < 2 ^ 32 }
         requires sound { All (λ h. IsSoundPattern (plain_pattern h.pattern)) hunted.now }
         requires narrow { All (λ h. leaves h.pattern < 2 ^ 32) hunted.now }
-        ensures stands { IfOk result (λ engine. EngineStandsFor engine []) }
+        ensures represents { IfOk result (λ engine. EngineRepresents engine []) }
         ensures patterns { IfOk result (λ engine. engine.patterns ≡ map (λ h. h.pattern) hunted.now) }
-        ensures cap { IfOk result (λ engine. engine.cap ≡ cap) }
+        ensures retained_limit { IfOk result (λ engine. engine.retained_limit ≡ retained_limit) }
     {
-        let followers = followers_of(alloc, hunted, cap)?;
-        let turns = turns_of(alloc, followers.as_slice())?;
+        let lazy_matchers = lazy_matchers_of(alloc, hunted, retained_limit)?;
+        let sweep_order = sweep_order_of(alloc, lazy_matchers.as_slice())?;
         let brackets = brackets_of(alloc, hunted)?;
         let marks = vec![in alloc; false; brackets.leaves.len()]?;
         let index = Index::new(alloc, brackets.leaves.as_slice())?;
         Ok(Engine {
             alloc,
             hunted,
-            cap,
+            retained_limit,
             brackets,
             index,
             marks,
-            followers,
-            turns,
-            turn: 0,
+            lazy_matchers,
+            sweep_order,
+            sweep_position: 0,
             rows: 0,
             last: None,
             ended: false,
@@ -110,33 +110,33 @@ impl<'p> Engine<'p> {
     }
 
     /// Takes the next observation of a log, with the bundle that it is of and what is known of that: by the
-    /// pattern's place in the hunted list all bindings that end there, each once, by flat list.
+    /// pattern's position in the hunted list all bindings that end there, each once, by flat list.
     ///
-    /// It is refused where more of a pattern is live than the cap allows, or for want of memory; the engine has
+    /// It is refused where more of a pattern is retained than the retained limit allows, or for want of memory; the engine has
     /// ended then.
     pub fn take(
         &mut self,
         observation: &Observation,
         bundle: &Bundle,
-        known: &mut Known,
-    ) -> Result<Items<Found>, EngineRefusal>
+        memo: &mut Memo,
+    ) -> Result<Items<Hit>, EngineRefusal>
         requires ready { IsReady self.old }
-        requires right { IsRight (data_in bundle.now) (brackets_of self.old.patterns) known.old }
+        requires right { IsSoundMemo (data_in bundle.now) (brackets_of self.old.patterns) memo.old }
         requires span { observation.now.first ≤ℤ observation.now.last }
         requires number { observation.now.number ≡ self.old.rows + 1 }
         requires room { observation.now.number < 2 ^ 63 }
         requires order { ¬ (Falls self.old.last observation.now.last) }
-        ensures stands { (rows : List Row) → EngineStandsFor self.old rows
-            → OnOk result (EngineStandsFor self.new (rows ++ row_of observation.now (data_in bundle.now) ∷ [])) }
-        ensures tells { (rows : List Row) → EngineStandsFor self.old rows
-            → IfOk result (TellsRow self.old.patterns (rows ++ row_of observation.now (data_in bundle.now) ∷ [])) }
-        ensures crowded { (rows : List Row) → EngineStandsFor self.old rows → (place number cap : ℕ) → result ≡ Err (refusal.Crowded place number cap)
-            → IsFirstCrowded self.old.patterns self.old.cap (rows ++ row_of observation.now (data_in bundle.now) ∷ []) place number cap }
+        ensures represents { (rows : List Row) → EngineRepresents self.old rows
+            → OnOk result (EngineRepresents self.new (rows ++ row_of observation.now (data_in bundle.now) ∷ [])) }
+        ensures reports { (rows : List Row) → EngineRepresents self.old rows
+            → IfOk result (ReportsRow self.old.patterns (rows ++ row_of observation.now (data_in bundle.now) ∷ [])) }
+        ensures over_limit { (rows : List Row) → EngineRepresents self.old rows → (position number retained_limit : ℕ) → result ≡ Err (refusal.OverLimit position number retained_limit)
+            → IsFirstOverLimit self.old.patterns self.old.retained_limit (rows ++ row_of observation.now (data_in bundle.now) ∷ []) position number retained_limit }
         ensures ended { (result ≡ Err refusal.Ended) ↔ (self.old.ended ≡ true) }
         ensures ends { OnErr result (self.new.ended ≡ true) }
         ensures unchanged { self.old.ended ≡ true → self.new ≡ self.old }
-        ensures kept { (self.new.patterns ≡ self.old.patterns) × (self.new.cap ≡ self.old.cap) }
-        ensures right { OnOk result (IsRight (data_in bundle.now) (brackets_of self.old.patterns) known.new) }
+        ensures kept { (self.new.patterns ≡ self.old.patterns) × (self.new.retained_limit ≡ self.old.retained_limit) }
+        ensures right { OnOk result (IsSoundMemo (data_in bundle.now) (brackets_of self.old.patterns) memo.new) }
     {
         test_is_the_rule();
         if self.ended {
@@ -150,30 +150,30 @@ impl<'p> Engine<'p> {
             first: observation.first,
             last: observation.last,
         };
-        let followers = self.followers.as_mut_slice();
-        self.turn = sweep(followers, self.turns.as_slice(), self.turn, &row, self.cap)?;
-        let judgement = judge(
+        let lazy_matchers = self.lazy_matchers.as_mut_slice();
+        self.sweep_position = sweep(lazy_matchers, self.sweep_order.as_slice(), self.sweep_position, &row, self.retained_limit)?;
+        let row_brackets = evaluate(
             self.alloc,
             &self.brackets,
             &self.index,
             observation.roots.as_slice(),
             bundle,
-            known,
+            memo,
             self.marks.as_mut_slice(),
         )?;
         let found = match take_all(
             self.alloc,
-            self.followers.as_mut_slice(),
+            self.lazy_matchers.as_mut_slice(),
             &self.brackets,
             self.marks.as_slice(),
-            judgement.touched.as_slice(),
+            row_brackets.affected.as_slice(),
             &row,
-            self.cap,
+            self.retained_limit,
         ) {
             Ok(found) => found,
             Err(refusal) => return Err(refusal),
         };
-        clear(judgement.held.as_slice(), self.marks.as_mut_slice());
+        clear(row_brackets.matching.as_slice(), self.marks.as_mut_slice());
         self.rows = row.rows + 1;
         self.last = Some(row.last);
         self.ended = false;
@@ -186,7 +186,7 @@ fn brackets_of<'p>(alloc: Global, hunted: &'p [Hunted]) -> Result<Brackets<'p>, 
     requires few { length hunted.now < 2 ^ 32 }
     requires sound { All (λ h. IsSoundPattern (plain_pattern h.pattern)) hunted.now }
     ensures table { IfOk result (λ brackets. IsTable (map plain_pattern (map (λ h. h.pattern) hunted.now)) (map plain_leaf (map (λ leaf. leaf.now) brackets.leaves.items))
-        brackets.owners.items brackets.stretches.items) }
+        brackets.owners.items brackets.bracket_ranges.items) }
     ensures sound { IfOk result (λ brackets. All IsSoundLeaf (map plain_leaf (map (λ leaf. leaf.now) brackets.leaves.items))) }
     ensures leaves { IfOk result (λ brackets. map plain_leaf (map (λ leaf. leaf.now) brackets.leaves.items) ≡ brackets_of (map (λ h. h.pattern) hunted.now)) }
     ensures few { IfOk result (λ brackets. length brackets.leaves.items < 2 ^ 32) }
@@ -199,33 +199,33 @@ fn brackets_of<'p>(alloc: Global, hunted: &'p [Hunted]) -> Result<Brackets<'p>, 
 }
 
 /// Who follows the log for each pattern of a hunted list.
-fn followers_of<'p>(
+fn lazy_matchers_of<'p>(
     alloc: Global,
     hunted: &'p [Hunted],
-    cap: u64,
-) -> Result<Vec<Follower<'p>>, NoMemory>
+    retained_limit: u64,
+) -> Result<Vec<LazyMatcher<'p>>, NoMemory>
     requires narrow { All (λ h. leaves h.pattern < 2 ^ 32) hunted.now }
-    ensures count { IfOk result (λ followers. length followers.items ≡ length hunted.now) }
-    ensures each { IfOk result (λ followers. (place : ℕ) (p : Pattern) (follower : FollowerState) → slice_get (map (λ h. h.pattern) hunted.now) place ≡ Some p
-        → slice_get followers.items place ≡ Some follower → Follows p cap [] follower) }
+    ensures count { IfOk result (λ lazy_matchers. length lazy_matchers.items ≡ length hunted.now) }
+    ensures each { IfOk result (λ lazy_matchers. (position : ℕ) (p : Pattern) (lazy_matcher : LazyMatcherState) → slice_get (map (λ h. h.pattern) hunted.now) position ≡ Some p
+        → slice_get lazy_matchers.items position ≡ Some lazy_matcher → Follows p retained_limit [] lazy_matcher) }
 {
-    let mut followers = Vec::new(alloc);
+    let mut lazy_matchers = Vec::new(alloc);
     for indicator in hunted {
-        let follower = Follower::new(alloc, &indicator.pattern, cap)?;
-        followers.push(follower)?;
+        let lazy_matcher = LazyMatcher::new(alloc, &indicator.pattern, retained_limit)?;
+        lazy_matchers.push(lazy_matcher)?;
     }
-    Ok(followers)
+    Ok(lazy_matchers)
 }
 
-/// The places of the followers that have a matcher.
-fn turns_of(alloc: Global, followers: &[Follower<'_>]) -> Result<Vec<u32>, NoMemory>
-    requires { length followers.now < 2 ^ 32 }
+/// The positions of the lazy matchers that have a matcher.
+fn sweep_order_of(alloc: Global, lazy_matchers: &[LazyMatcher<'_>]) -> Result<Vec<u32>, NoMemory>
+    requires { length lazy_matchers.now < 2 ^ 32 }
 {
-    let mut turns = Vec::new(alloc);
-    for (place, follower) in followers.iter().enumerate() {
-        if follower.has_matcher() {
-            turns.push(place as u32)?;
+    let mut sweep_order = Vec::new(alloc);
+    for (position, lazy_matcher) in lazy_matchers.iter().enumerate() {
+        if lazy_matcher.has_matcher() {
+            sweep_order.push(position as u32)?;
         }
     }
-    Ok(turns)
+    Ok(sweep_order)
 }

@@ -4,9 +4,9 @@ ghost use Rattle.std.specs.Prelude.{◌≡◌, ℕ, List};
 ghost use Rattle.pattern_types.specs.declared.pattern.Pattern.{Pattern};
 ghost use Rattle.pattern_types.specs.PlainPattern.{PlainPattern};
 ghost use Rattle.match_bindings.specs.declared.log_entry.LogEntry.{LogEntry};
-ghost use Rattle.match_stream.specs.MatcherState.{MatcherState, StandsFor};
+ghost use Rattle.match_stream.specs.MatcherState.{MatcherState, Represents};
 ghost use Rattle.hunt_engine.specs.EngineLog.{Row, IsLogOf};
-ghost use Rattle.hunt_engine.specs.FollowerState.{FollowerState, Follows};
+ghost use Rattle.hunt_engine.specs.LazyMatcherState.{LazyMatcherState, Follows};
 
 /// Rows are one log to a pattern.
 pub fn one_log()
@@ -15,7 +15,7 @@ pub fn one_log()
 
 /// A matcher that stands for the whole of a log that is followed: what it holds where the follower's own one lags
 /// behind is what that one holds once it has passed the rows that it missed.
-pub fn followers_stand_for_logs()
-    ensures { (p : Pattern) (cap : ℕ) (log : List LogEntry) (follower : FollowerState) → Follows p cap log follower
-        → (matcher : MatcherState) × (matcher.pattern ≡ p) × (matcher.cap ≡ cap) × StandsFor matcher log }
+pub fn lazy_matchers_represent_logs()
+    ensures { (p : Pattern) (retained_limit : ℕ) (log : List LogEntry) (lazy_matcher : LazyMatcherState) → Follows p retained_limit log lazy_matcher
+        → (matcher : MatcherState) × (matcher.pattern ≡ p) × (matcher.retained_limit ≡ retained_limit) × Represents matcher log }
 {}

@@ -4,10 +4,10 @@ use thiserror::Error;
 /// Why a row has no answer. The engine has then ended.
 #[derive(Clone, Copy, Debug, PartialEq, Eq, Error)]
 pub enum EngineRefusal {
-    /// More of a pattern is live after the row of this number than the cap allows: the first such pattern,
-    /// by its place in the hunted list.
-    #[error("more than {cap} are live of pattern {hunted} after row {number}")]
-    Crowded { hunted: u32, number: u64, cap: u64 },
+    /// More of a pattern is retained after the row of this number than the retained limit allows: the first such pattern,
+    /// by its position in the hunted list.
+    #[error("more than {retained_limit} are live of pattern {hunted} after row {number}")]
+    OverLimit { hunted: u32, number: u64, retained_limit: u64 },
     /// The engine had ended before.
     #[error("the engine has ended")]
     Ended,
@@ -29,20 +29,20 @@ impl From<NoMemory> for EngineRefusal {
 
 /// Why one pattern has no answer to a row.
 #[derive(Clone, Copy, Debug)]
-pub(crate) enum FollowerRefusal {
-    /// More of it is live after the row than the cap allows.
-    Crowded,
+pub(crate) enum LazyMatcherRefusal {
+    /// More of it is retained after the row than the retained limit allows.
+    OverLimit,
     /// There was no memory.
     NoMemory,
 }
 
-impl From<NoMemory> for FollowerRefusal {
+impl From<NoMemory> for LazyMatcherRefusal {
     ghost use Rattle.std.specs.Prelude.{◌≡◌};
-    ghost use Rattle.hunt_engine.specs.declared.refusal.FollowerRefusal.TheVariants as FollowerRefusal;
+    ghost use Rattle.hunt_engine.specs.declared.refusal.LazyMatcherRefusal.TheVariants as LazyMatcherRefusal;
 
-    ghost from_gives = { λ _ refusal. refusal ≡ FollowerRefusal.NoMemory };
+    ghost from_gives = { λ _ refusal. refusal ≡ LazyMatcherRefusal.NoMemory };
 
-    fn from(_error: NoMemory) -> FollowerRefusal {
-        FollowerRefusal::NoMemory
+    fn from(_error: NoMemory) -> LazyMatcherRefusal {
+        LazyMatcherRefusal::NoMemory
     }
 }

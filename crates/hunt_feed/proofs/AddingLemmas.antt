@@ -13,7 +13,7 @@ use Rattle.stix_objects.specs.Sound.{IsNamed}
 use Rattle.stix_bundles.specs.Lookup.{IsLatest}
 use Rattle.hunt_feed.specs.declared.kept.Kept.{Kept}
 use Rattle.hunt_feed.specs.declared.version.Version.{Version}
-use Rattle.hunt_feed.specs.Indicators.{IsRevoked, IsCurrent, IsRising}
+use Rattle.hunt_feed.specs.Indicators.{IsRevoked, IsCurrent, IsAscending}
 use Rattle.hunt_feed.specs.Gathering.{Gathered, indicator_id, known_in, IsKnown, IsKeptOf, IsVersionAs, kept_places, GathersFor}
 use Rattle.hunt_feed.specs.inner.Adding.{IsIndicator, IsToKeep, AddsIndicator}
 use Rattle.hunt_feed.proofs.GrowingLemmas.{grown, get_old, get_new, get_cases, current_was}
@@ -34,14 +34,14 @@ get_map f [] k y is = absurd cc
 get_map f (x ∷ xs) zero y is = (x, refl, is)
 get_map f (x ∷ xs) (suc k) y is = get_map f xs k y is
 
--- a number behind rising numbers that are less
-pub rising_push : (ns : List ℕ) (n : ℕ) → IsRising ns → ((k m : ℕ) → slice_get ns k ≡ Some m → m < n) → IsRising (ns ++ n ∷ [])
-rising_push ns n rise below j k first second less there also =
+-- a number behind ascending numbers that are less
+pub ascending_push : (ns : List ℕ) (n : ℕ) → IsAscending ns → ((k m : ℕ) → slice_get ns k ≡ Some m → m < n) → IsAscending (ns ++ n ∷ [])
+ascending_push ns n ascend below j k first second less there also =
     elim (get_cases ns n k second also) [
       | inl before ↦
           let within = slice_get_within ns k second before in
           elim (get_cases ns n j first there) [
-            | inl earlier ↦ rise j k first second less earlier before
+            | inl earlier ↦ ascend j k first second less earlier before
             | inr here ↦ absurd (let e = here.0 in omega arith)
           ]
       | inr last ↦
@@ -83,7 +83,7 @@ added_other gathered objects d other no_indicator is = record {
     | inl before ↦ is.all at id value before
     | inr here ↦ absurd (no_indicator (subst IsIndicator (sym here.1) current.indicator.typed))
   ];
-  rise = is.rise;
+  ascend = is.ascend;
 }
 
 not_eqb : (a b : ℕ) → (a ≡ b → ⊥) → (a == b) ≡ false
@@ -128,13 +128,13 @@ place_within objects kept all k m there =
     let same : found.0.at ≡ m = (let e = found.2 in cc) in
     omega arith
 
-added_rise : (objects : List Data) (d : Data) (kept : List Kept) (at number : ℕ) (next : Version) (new : Option Kept) → at ≡ length objects
-    → IsToKeep d at number next new → All (IsKeptOf objects) kept → IsRising (kept_places kept) → IsRising (kept_places (kept ++ option_to_list new))
-added_rise objects d kept at number next None at_is keeps all rise = subst (λ (ks : List Kept). IsRising (kept_places ks)) (sym (append-nil kept)) rise
-added_rise objects d kept at number next (Some new) at_is keeps all rise =
+added_ascend : (objects : List Data) (d : Data) (kept : List Kept) (at number : ℕ) (next : Version) (new : Option Kept) → at ≡ length objects
+    → IsToKeep d at number next new → All (IsKeptOf objects) kept → IsAscending (kept_places kept) → IsAscending (kept_places (kept ++ option_to_list new))
+added_ascend objects d kept at number next None at_is keeps all ascend = subst (λ (ks : List Kept). IsAscending (kept_places ks)) (sym (append-nil kept)) ascend
+added_ascend objects d kept at number next (Some new) at_is keeps all ascend =
     let end : length objects ≡ new.at = sym at_is ∙ sym keeps.1 in
-    subst IsRising (places_push kept new)
-    (rising_push (kept_places kept) new.at rise (λ k m there. subst (λ n. m < n) end (place_within objects kept all k m there)))
+    subst IsAscending (places_push kept new)
+    (ascending_push (kept_places kept) new.at ascend (λ k m there. subst (λ n. m < n) end (place_within objects kept all k m there)))
 
 -- a current indicator that is the new object is kept
 added_here : Laws → (objects : List Data) (d : Data) (kept : List Kept) (at number : ℕ) (next : Version) (new : Option Kept) → at ≡ length objects
@@ -177,6 +177,6 @@ added_indicator laws before after objects d adds is =
                 (added_here laws objects d before.kept before.count adds.number adds.next adds.kept at_is adds.to_keep adds.has known id
                 (subst (λ n. IsCurrent (grown objects d) n id d) place (subst (IsCurrent (grown objects d) at id) (sym here.1) current)))
           ]);
-      rise = subst (λ (ks : List Kept). IsRising (kept_places ks)) (sym adds.puts.kept_are)
-          (added_rise objects d before.kept before.count adds.number adds.next adds.kept at_is adds.to_keep is.kept is.rise);
+      ascend = subst (λ (ks : List Kept). IsAscending (kept_places ks)) (sym adds.puts.kept_are)
+          (added_ascend objects d before.kept before.count adds.number adds.next adds.kept at_is adds.to_keep is.kept is.ascend);
     }

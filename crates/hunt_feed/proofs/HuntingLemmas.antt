@@ -16,12 +16,12 @@ use Rattle.hunt_feed.specs.declared.hunted.Skipped.{Skipped}
 use Rattle.hunt_feed.specs.declared.hunted.Hunt.{Hunt}
 use Rattle.hunt_feed.specs.declared.kept.Kept.{Kept}
 use Rattle.hunt_feed.specs.declared.version.Version.{Version}
-use Rattle.hunt_feed.specs.Indicators.{IsRevoked, IsValidAt, IsCandidate, IsHunted, IsSkipped, IsRising, hunted_places, skipped_places, IsHuntOf}
+use Rattle.hunt_feed.specs.Indicators.{IsRevoked, IsValidAt, IsCandidate, IsHunted, IsSkipped, IsAscending, hunted_places, skipped_places, IsHuntOf}
 use Rattle.hunt_feed.specs.Gathering.{Gathered, indicator_id, known_in, IsKnown, IsVersionAs, IsKeptOf, kept_places, GathersFor}
-use Rattle.hunt_feed.specs.inner.Hunting.{IsLast, IsValid, IsReadOf, IsRefusedOf, IsJudged, IsHuntAmong}
+use Rattle.hunt_feed.specs.inner.Hunting.{IsLast, IsValid, IsReadOf, IsRefusedOf, IsClassified, IsHuntAmong}
 use Rattle.hunt_feed.proofs.GrowingLemmas.{same_some, get_old, get_new, get_front}
 use Rattle.hunt_feed.proofs.VersionLemmas.{OneId, OneMeaning, one_latest}
-use Rattle.hunt_feed.proofs.AddingLemmas.{all_get, rising_push}
+use Rattle.hunt_feed.proofs.AddingLemmas.{all_get, ascending_push}
 
 -- what the laws of the crates below say
 pub record Laws : Type 0 where
@@ -36,8 +36,8 @@ whole_hunt gathered objects moment hunt gathers among = record {
   hunted = among.hunted;
   skipped = among.skipped;
   all = λ at id value candidate. among.all at id value candidate (gathers.all at id value candidate.current);
-  hunted_rise = among.hunted_rise;
-  skipped_rise = among.skipped_rise;
+  hunted_ascend = among.hunted_ascend;
+  skipped_ascend = among.skipped_ascend;
 }
 
 -- a kept indicator that passes the tests is a candidate
@@ -134,8 +134,8 @@ hunt_passed laws gathered objects moment seen kept hunt gathers of not among = r
     | inr here ↦ absurd (not (tests_of laws gathered objects moment kept gathers of id value
         (subst (λ n. IsCandidate objects moment n id value) (sym here) candidate)))
   ];
-  hunted_rise = among.hunted_rise;
-  skipped_rise = among.skipped_rise;
+  hunted_ascend = among.hunted_ascend;
+  skipped_ascend = among.skipped_ascend;
   hunted_seen = all_seen_more seen kept (hunted_places hunt) among.hunted_seen;
   skipped_seen = all_seen_more seen kept (skipped_places hunt) among.skipped_seen;
 }
@@ -154,9 +154,9 @@ less_than_next gathered objects seen rest kept gathers are places all k m there 
     let found = all_get (Contains (kept_places seen)) places k m all there in
     let whole : kept_places gathered.kept ≡ (kept_places seen ++ kept.at ∷ []) ++ kept_places rest =
     ap kept_places are ∙ map-append (λ (x : Kept). x.at) (seen ++ kept ∷ []) rest ∙ ap (λ (ns : List ℕ). ns ++ kept_places rest) (places_push seen kept) in
-    let rise = subst IsRising whole gathers.rise in
+    let ascend = subst IsAscending whole gathers.ascend in
     let first : slice_get (kept_places seen) found.0 ≡ Some m = slice_get-get_or (kept_places seen) found.0 m found.1 ∙ ap Some found.2 in
-    rise found.0 (length (kept_places seen)) m kept.at found.1
+    ascend found.0 (length (kept_places seen)) m kept.at found.1
     (get_front (kept_places seen ++ kept.at ∷ []) (kept_places rest) found.0 m (get_old (kept_places seen) kept.at found.0 m first))
     (get_front (kept_places seen ++ kept.at ∷ []) (kept_places rest) (length (kept_places seen)) kept.at (get_new (kept_places seen) kept.at))
 
@@ -205,10 +205,10 @@ hunt_hunted gathered objects moment seen rest kept hs ss new gathers are is at_i
             ]
             | inr here ↦ inl (subst (Contains (map hunted_at hs ++ new.at ∷ [])) (at_is ∙ here) (Contains-push (map hunted_at hs) new.at))
           ]);
-      hunted_rise = subst IsRising (sym places)
-          (rising_push (map hunted_at hs) new.at among.hunted_rise
+      hunted_ascend = subst IsAscending (sym places)
+          (ascending_push (map hunted_at hs) new.at among.hunted_ascend
           (λ k m there. subst (λ n. m < n) (sym at_is) (less_than_next gathered objects seen rest kept gathers are (map hunted_at hs) among.hunted_seen k m there)));
-      skipped_rise = among.skipped_rise;
+      skipped_ascend = among.skipped_ascend;
       hunted_seen = subst (All (Contains (kept_places (seen ++ kept ∷ [])))) (sym places)
           (All-push (Contains (kept_places (seen ++ kept ∷ []))) (map hunted_at hs) new.at (all_seen_more seen kept (map hunted_at hs) among.hunted_seen)
           (subst (Contains (kept_places (seen ++ kept ∷ []))) (sym at_is) (seen_last seen kept)));
@@ -233,9 +233,9 @@ hunt_skipped gathered objects moment seen rest kept hs ss new gathers are is at_
             ]
             | inr here ↦ inr (subst (Contains (map skipped_at ss ++ new.at ∷ [])) (at_is ∙ here) (Contains-push (map skipped_at ss) new.at))
           ]);
-      hunted_rise = among.hunted_rise;
-      skipped_rise = subst IsRising (sym places)
-          (rising_push (map skipped_at ss) new.at among.skipped_rise
+      hunted_ascend = among.hunted_ascend;
+      skipped_ascend = subst IsAscending (sym places)
+          (ascending_push (map skipped_at ss) new.at among.skipped_ascend
           (λ k m there. subst (λ n. m < n) (sym at_is) (less_than_next gathered objects seen rest kept gathers are (map skipped_at ss) among.skipped_seen k m there)));
       hunted_seen = all_seen_more seen kept (map hunted_at hs) among.hunted_seen;
       skipped_seen = subst (All (Contains (kept_places (seen ++ kept ∷ [])))) (sym places)
@@ -252,7 +252,7 @@ same_hunt objects moment seen hs ss hunt hunted_are skipped_are among =
 -- a candidate
 pub hunt_judged : Laws → (gathered : Gathered) (objects : List Data) (moment : ℤ) (seen rest : List Kept) (kept : Kept) (before after : Hunt)
     → GathersFor gathered objects → gathered.kept ≡ (seen ++ kept ∷ []) ++ rest → IsKeptOf objects kept → IsLast gathered.versions kept → IsValid moment kept
-    → IsJudged kept before after → IsHuntAmong objects moment seen before → IsHuntAmong objects moment (seen ++ kept ∷ []) after
+    → IsClassified kept before after → IsHuntAmong objects moment seen before → IsHuntAmong objects moment (seen ++ kept ∷ []) after
 hunt_judged laws gathered objects moment seen rest kept before after gathers are of last valid (inl hunted) among =
     let candidate = candidate_of laws gathered objects moment kept gathers of last valid in
     same_hunt objects moment (seen ++ kept ∷ []) (before.hunted ++ hunted.0 ∷ []) before.skipped after hunted.2 hunted.3

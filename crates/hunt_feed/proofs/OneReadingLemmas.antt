@@ -1,7 +1,7 @@
 -- A feed is read in one way.
 use Rattle.std.proofs.Common.{◌≡◌, ◌≢◌, ◌⊎◌, inl, inr, ℕ, List, [], ◌∷◌, Some, None, refl, sym, ap, subst, ◌∙◌}
 use Rattle.serde_json.specs.Data.{Data}
-use Rattle.flow_lines.specs.Lines.{Lined, ended, refused, line_then}
+use Rattle.flow_lines.specs.Lines.{LineStream, ended, refused, line_then}
 use Rattle.flow_lines.specs.declared.refusal.LineRefusal.{LineRefusal}
 use Rattle.flow_lines.specs.declared.refusal.LineRefusal.TheVariants as length_refusal
 use Rattle.stix_json.specs.declared.value.Json.{Json}
@@ -53,13 +53,13 @@ one_too_long (length_refusal.LineTooLong n) line number why other p q = (p.0 ∙
 one_too_long (length_refusal.InputTooLong n) line number why other p q = (p.0 ∙ sym q.0, p.1 ∙ sym q.1)
 one_too_long length_refusal.NoMemory line number why other p q = absurd p
 
-one_refused_at : Laws → (lines : Lined) (line number : ℕ) (why other : FeedRule) → IsRefusedAt lines line why → IsRefusedAt lines number other
+one_refused_at : Laws → (lines : LineStream) (line number : ℕ) (why other : FeedRule) → IsRefusedAt lines line why → IsRefusedAt lines number other
     → (line ≡ number) × (why ≡ other)
 one_refused_at laws ended line number why other p q = absurd p
 one_refused_at laws (refused refusal) line number why other p q = one_too_long refusal line number why other p q
 one_refused_at laws (line_then n bytes later) line number why other p q = (p.0 ∙ sym q.0, one_rule laws bytes why other p.1 q.1)
 
-pub one_reads : Laws → (lines : Lined) (objects others : List Data) (close other : FeedClose) → Reads lines objects close → Reads lines others other
+pub one_reads : Laws → (lines : LineStream) (objects others : List Data) (close other : FeedClose) → Reads lines objects close → Reads lines others other
     → (objects ≡ others) × (close ≡ other)
 one_reads laws ended objects others close other at_end at_end = (refl, refl)
 one_reads laws ended objects others close other at_end (at_refusal q) = absurd q

@@ -2,7 +2,7 @@
 -- input: blank ones are passed over.
 use Rattle.std.specs.Prelude.{◌≡◌, ℕ, List, [], ◌∷◌, All, Option, IfSome}
 use Rattle.serde_json.specs.Data.{Data}
-use Rattle.flow_lines.specs.Lines.{Lined, ended, refused, line_then, lines_of}
+use Rattle.flow_lines.specs.Lines.{LineStream, ended, refused, line_then, lines_of}
 use Rattle.flow_lines.specs.declared.refusal.LineRefusal.{LineRefusal}
 use Rattle.flow_lines.specs.declared.refusal.LineRefusal.TheVariants as line_refusal
 use Rattle.stix_objects.specs.Breaks.{AreBreaksOf}
@@ -24,19 +24,19 @@ IsTooLong (line_refusal.InputTooLong number) line why = (line ≡ number) × (wh
 IsTooLong line_refusal.NoMemory line why = ⊥
 
 -- the first of these lines is refused
-abbrev pub IsRefusedAt : Lined → ℕ → FeedRule → Type 0
+abbrev pub IsRefusedAt : LineStream → ℕ → FeedRule → Type 0
 IsRefusedAt ended line why = ⊥
 IsRefusedAt (refused refusal) line why = IsTooLong refusal line why
 IsRefusedAt (line_then number bytes later) line why = (line ≡ number) × IsRefusedFor bytes why
 
 -- The lines that come are these objects, and end so.
-pub data Reads : Lined → List Data → FeedClose → Type 0 where
+pub data Reads : LineStream → List Data → FeedClose → Type 0 where
   -- the feed ends
   at_end : Reads ended [] Whole
   -- the first line is refused
-  at_refusal : {lines : Lined} {line : ℕ} {why : FeedRule} → IsRefusedAt lines line why → Reads lines [] (Refused line why)
+  at_refusal : {lines : LineStream} {line : ℕ} {why : FeedRule} → IsRefusedAt lines line why → Reads lines [] (Refused line why)
   -- the first line is an object
-  one_object : {number : ℕ} {bytes : List ℕ} {later : Lined} {object : Data} {objects : List Data} {close : FeedClose}
+  one_object : {number : ℕ} {bytes : List ℕ} {later : LineStream} {object : Data} {objects : List Data} {close : FeedClose}
       → IsObjectOf bytes object → Reads later objects close → Reads (line_then number bytes later) (object ∷ objects) close
 
 -- these bytes are a feed of these objects, and end so, where they are told

@@ -12,7 +12,7 @@ use Rattle.stix_objects.specs.Properties.{IsTimestampAt, HasId}
 use Rattle.stix_bundles.specs.Lookup.{IsOf, IsLatest}
 use Rattle.hunt_feed.specs.declared.kept.Kept.{Kept}
 use Rattle.hunt_feed.specs.declared.version.Version.{Version}
-use Rattle.hunt_feed.specs.Indicators.{IsStixIndicator, IsRevoked, IsCurrent, IsRising}
+use Rattle.hunt_feed.specs.Indicators.{IsStixIndicator, IsRevoked, IsCurrent, IsAscending}
 
 pub record Gathered : Type 0 where
   -- how many objects came
@@ -64,4 +64,4 @@ pub record GathersFor (gathered : Gathered) (objects : List Data) : Type 0 where
   pub versions : (number : ℕ) → IsKnown objects (indicator_id number) (known_in gathered.versions number)
   pub kept : All (IsKeptOf objects) gathered.kept
   pub all : (at : ℕ) (id : Id) (object : Data) → IsCurrent objects at id object → Contains (kept_places gathered.kept) at
-  pub rise : IsRising (kept_places gathered.kept)
+  pub ascend : IsAscending (kept_places gathered.kept)

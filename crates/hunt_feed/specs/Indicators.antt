@@ -68,8 +68,8 @@ pub record IsSkipped (objects : List Data) (moment : ℤ) (skipped : Skipped) : 
   pub refused : IsRefusedAs text skipped.refusal
 
 -- each number is less than the ones behind it
-abbrev pub IsRising : List ℕ → Type 0
-IsRising numbers = (j k m n : ℕ) → j < k → slice_get numbers j ≡ Some m → slice_get numbers k ≡ Some n → m < n
+abbrev pub IsAscending : List ℕ → Type 0
+IsAscending numbers = (j k m n : ℕ) → j < k → slice_get numbers j ≡ Some m → slice_get numbers k ≡ Some n → m < n
 
 -- the places of the hunted indicators, and of the skipped ones
 abbrev pub hunted_places : Hunt → List ℕ
@@ -84,5 +84,5 @@ pub record IsHuntOf (objects : List Data) (moment : ℤ) (hunt : Hunt) : Type 0 
   pub skipped : All (IsSkipped objects moment) hunt.skipped
   pub all : (at : ℕ) (id : Id) (object : Data) → IsCandidate objects moment at id object
       → Contains (hunted_places hunt) at ⊎ Contains (skipped_places hunt) at
-  pub hunted_rise : IsRising (hunted_places hunt)
-  pub skipped_rise : IsRising (skipped_places hunt)
+  pub hunted_ascend : IsAscending (hunted_places hunt)
+  pub skipped_ascend : IsAscending (skipped_places hunt)

@@ -4,7 +4,7 @@ ghost use Rattle.std.specs.Prelude.{◌≡◌, ◌↔◌, ℕ, List, IsTrue, IfO
 ghost use Rattle.serde_json.specs.Data.{Data};
 ghost use Rattle.hunt_feed.specs.Indicators.{IsHuntOf};
 ghost use Rattle.hunt_feed.specs.Gathering.{GathersFor, indicator_id};
-ghost use Rattle.hunt_feed.specs.inner.Hunting.{IsLast, IsValid, IsJudged};
+ghost use Rattle.hunt_feed.specs.inner.Hunting.{IsLast, IsValid, IsClassified};
 
 use crate::kept::Kept;
 use crate::version::Version;
@@ -40,7 +40,7 @@ pub(crate) fn hunt_among(
     };
     for indicator in kept {
         if is_last(&indicator, versions) && is_valid(&indicator, moment) {
-            judge(alloc, indicator, &mut hunt)?;
+            classify(alloc, indicator, &mut hunt)?;
         }
     }
     Ok(hunt)
@@ -70,8 +70,8 @@ fn is_valid(kept: &Kept, moment: Instant) -> bool
 }
 
 /// Reads the pattern of a candidate, which is then hunted or skipped.
-fn judge(alloc: Global, kept: Kept, hunt: &mut Hunt) -> Result<(), NoMemory>
-    ensures { OnOk result (IsJudged kept hunt.old hunt.new) }
+fn classify(alloc: Global, kept: Kept, hunt: &mut Hunt) -> Result<(), NoMemory>
+    ensures { OnOk result (IsClassified kept hunt.old hunt.new) }
 {
     let id = indicator_id(alloc, kept.number)?;
     let at = kept.at;

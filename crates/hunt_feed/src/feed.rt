@@ -2,7 +2,7 @@
 
 ghost use Rattle.std.specs.Prelude.{◌≡◌, ◌∷◌, ◌++◌, ℕ, [], List, Err, None, IfOk, IfSome, OnOk};
 ghost use Rattle.flow_edges.specs.Faults.{Counted};
-ghost use Rattle.flow_lines.specs.Lines.{lines_ahead};
+ghost use Rattle.flow_lines.specs.Lines.{lines_remaining};
 ghost use Rattle.serde_json.specs.Data.{Data};
 ghost use Rattle.stix_json.specs.DataOf.{data_of};
 ghost use Rattle.stix_objects.specs.Breaks.{AreBreaksOf};
@@ -48,7 +48,7 @@ fn next_object<S: Source>(
     source: &mut S,
 ) -> Result<Option<Json>, FeedEnd>
     requires unrefused { lines.old.refusal ≡ None }
-    ensures next { AnswersObject (lines_ahead lines.old (S.left source.old)) (lines_ahead lines.new (S.left source.new)) result }
+    ensures next { AnswersObject (lines_remaining lines.old (S.left source.old)) (lines_remaining lines.new (S.left source.new)) result }
     ensures moves { IfOk result (λ found. IfSome found (λ _. MovesOn lines.old lines.new)) }
     ensures causes { Counted (result ≡ Err end.Fault) (S.faults source.old) (S.faults source.new) }
 {

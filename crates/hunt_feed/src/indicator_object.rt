@@ -7,7 +7,7 @@ ghost use Rattle.stix_objects.specs.Breaks.{AreBreaksOf};
 ghost use Rattle.stix_objects.specs.Properties.{IsTimestampAt, HasId};
 ghost use Rattle.hunt_feed.specs.Indicators.{Revokes, IsStixIndicator};
 ghost use Rattle.hunt_feed.specs.Gathering.{IsKeptAs, indicator_id};
-ghost use Rattle.hunt_feed.specs.inner.Adding.{IsIndicator, IsTold, IsVersionOf, IsToKeep};
+ghost use Rattle.hunt_feed.specs.inner.Adding.{IsIndicator, HasFields, IsVersionOf, IsToKeep};
 
 use crate::kept::Kept;
 use crate::version::Version;
@@ -19,10 +19,10 @@ use stix_objects::{Precision, object_id, timestamp_at};
 use stix_times::Instant;
 
 /// An indicator without breaks tells an identifier, times and a pattern.
-fn indicators_are_told(object: &Json)
+fn indicators_have_fields(object: &Json)
     requires unbroken { AreBreaksOf (data_of object.now) [] }
     requires indicator { IsIndicator (data_of object.now) }
-    ensures { IsTold (data_of object.now) }
+    ensures { HasFields (data_of object.now) }
 {
     no_breaks();
 }
@@ -57,7 +57,7 @@ pub(crate) fn number_of(object: &Json) -> u128
     requires indicator { IsIndicator (data_of object.now) }
     ensures { HasId (data_of object.now) (indicator_id result) }
 {
-    indicators_are_told(object);
+    indicators_have_fields(object);
     one_id();
     match object_id(object) {
         Some(id) => id.number,
@@ -78,7 +78,7 @@ fn time_of(object: &Json, precision: Precision, name: &str) -> Instant
 
 /// The text that an indicator tells as its pattern.
 fn pattern_of(object: &Json) -> &str
-    requires { IsTold (data_of object.now) }
+    requires { HasFields (data_of object.now) }
     ensures { text_under (codes "pattern") (data_of object.now) ≡ Some result.now }
 {
     match text_at(object, "pattern") {
@@ -94,7 +94,7 @@ pub(crate) fn version_at(object: &Json, at: u32) -> Version
     ensures at { result.at ≡ at }
     ensures version { IsVersionOf (data_of object.now) result }
 {
-    indicators_are_told(object);
+    indicators_have_fields(object);
     Version {
         at,
         modified: time_of(object, Precision::Millis, "modified"),
@@ -131,7 +131,7 @@ fn kept_at(alloc: Global, object: &Json, at: u32, number: u128) -> Result<Kept, 
     ensures kept { IfOk result (IsKeptAs (data_of object.now)) }
     ensures at { IfOk result (λ kept. kept.at ≡ at) }
 {
-    indicators_are_told(object);
+    indicators_have_fields(object);
     let pattern = Text::from_text(alloc, pattern_of(object))?;
     Ok(Kept {
         at,

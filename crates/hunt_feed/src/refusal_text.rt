@@ -6,7 +6,7 @@ ghost use Rattle.hunt_feed.specs.Texts.{first_break_text, rule_text, feed_refusa
 ghost use Rattle.hunt_feed.specs.inner.Reasons.{reason_text, path_lead};
 
 use crate::FeedRule;
-use flow_edges::{Sink, write_pieces};
+use flow_edges::{Sink, write_all_vectored};
 use flow_values::Fault;
 use itoa::Buffer;
 use stix_json::JsonRefusal;
@@ -115,7 +115,7 @@ fn write_parts<'a, S: Sink>(
     ensures causes { Counted (IsErr result) (S.faults sink.old) (S.faults sink.new) }
 {
     let at = lead_of(path);
-    write_pieces(
+    write_all_vectored(
         sink,
         &[
             b"indicators line ",

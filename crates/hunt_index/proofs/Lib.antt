@@ -1,7 +1,7 @@
 mod ListLemmas
-mod GuardLemmas
+mod IndexKeyLemmas
 mod PartsLemmas
-mod RowsLemmas
+mod PostingsLemmas
 mod PathsLemmas
 mod FinderLemmas
 mod KeyLemmas

@@ -15,12 +15,12 @@ use Rattle.std.proofs.lemmas.Option.{same_Some}
 use Rattle.serde_json.specs.Data.{Data, number as number_of}
 use Rattle.serde_json.specs.Find.{of_integer}
 use Rattle.match_comparisons.specs.Selection.{Reaches}
-use Rattle.hunt_index.specs.declared.guard.Guard.{Guard}
+use Rattle.hunt_index.specs.declared.index_key.IndexKey.{IndexKey}
 use Rattle.hunt_index.specs.declared.key.Key.{Key}
 use Rattle.hunt_index.specs.declared.key.Key.TheVariants.{Any, Integer, Text}
 use Rattle.hunt_index.specs.declared.paths.Lookup.{Lookup}
 use Rattle.hunt_index.specs.inner.Keys.{Fits, AreSame, IsAsked}
-use Rattle.hunt_index.specs.Exact.{ArePlain}
+use Rattle.hunt_index.specs.Definite.{ArePlain}
 use Rattle.hunt_index.specs.inner.Indexed.{IsReachedFrom, IsSeenFrom, IsSeen, IsOfKind}
 use Rattle.hunt_index.specs.inner.Finding.{AreAlike, Keeps, AsksByPath, AskByPaths, AsksFor, AreAsked, AddsOnly, IsSeenBy, AreSeen}
 
@@ -61,20 +61,20 @@ asked_cases None (Text text) asked = absurd asked
 asked_cases (Some other) (Integer whole) asked = inr (other, refl, asked)
 asked_cases (Some other) (Text text) asked = inr (other, refl, asked)
 
-module _ (paths : List Guard) (objects : List Data) (from : Data) (number : ℕ) where
-  module _ (guard : Guard) (there : Some guard ≡ slice_get paths number) where
-    the_path : (lookup : Lookup) → lookup.path ≡ number → (reached : IsReachedFrom paths objects from lookup) → reached.path ≡ guard
-    the_path lookup is reached = sym (same_Some guard reached.path (there ∙ ap (slice_get paths) (sym is) ∙ reached.there))
+module _ (paths : List IndexKey) (objects : List Data) (from : Data) (number : ℕ) where
+  module _ (index_key : IndexKey) (there : Some index_key ≡ slice_get paths number) where
+    the_path : (lookup : Lookup) → lookup.path ≡ number → (reached : IsReachedFrom paths objects from lookup) → reached.path ≡ index_key
+    the_path lookup is reached = sym (same_Some index_key reached.path (there ∙ ap (slice_get paths) (sym is) ∙ reached.there))
 
     -- it leads to a value, which is looked up
     pub asks_value : (lookups : List Lookup) (value_there : Data) (found : Option Key)
-        → ((value : Data) → ArePlain guard.steps.now → Reaches objects None guard.steps.now from value → Some value_there ≡ Some value)
+        → ((value : Data) → ArePlain index_key.steps.now → Reaches objects None index_key.steps.now from value → Some value_there ≡ Some value)
         → ((own : Key) → Fits own value_there → IsAsked found own) → Contains lookups (record { path = number; key = Any })
         → ((own : Key) → found ≡ Some own → Contains lookups (record { path = number; key = own })) → AsksByPath paths objects from number lookups
     asks_value lookups value_there found only asked has_any has_own lookup is reached =
         let same = the_path lookup is reached in
-        let value_is : value_there ≡ reached.value = same_Some value_there reached.value (only reached.value (subst (λ (g : Guard). ArePlain g.steps.now) same reached.plain)
-        (subst (λ (g : Guard). Reaches objects None g.steps.now from reached.value) same reached.reached)) in
+        let value_is : value_there ≡ reached.value = same_Some value_there reached.value (only reached.value (subst (λ (g : IndexKey). ArePlain g.steps.now) same reached.plain)
+        (subst (λ (g : IndexKey). Reaches objects None g.steps.now from reached.value) same reached.reached)) in
         let cases = asked_cases found lookup.key (asked lookup.key (subst (Fits lookup.key) (sym value_is) reached.fits)) in
         elim cases [
           | inl any ↦ record { found = record { path = number; key = Any }; among = has_any; alike = record { path = is; key = subst (λ (k : Key). AreSame k Any) (sym any) tt } }
@@ -82,12 +82,12 @@ module _ (paths : List Guard) (objects : List Data) (from : Data) (number : ℕ)
         ]
 
 -- what was looked up by a path is looked up still
-pub still_asks : (paths : List Guard) (objects : List Data) (from : Data) (number : ℕ) (old new : List Lookup) → Keeps old new
+pub still_asks : (paths : List IndexKey) (objects : List Data) (from : Data) (number : ℕ) (old new : List Lookup) → Keeps old new
     → AsksByPath paths objects from number old → AsksByPath paths objects from number new
 still_asks paths objects from number old new keeps asks lookup is reached = keeps lookup (asks lookup is reached)
 
 -- one path more
-pub paths_next : (paths : List Guard) (objects : List Data) (from : Data) (numbers : List (Bor (List ℕ) × ℕ)) (entry : Bor (List ℕ) × ℕ) (old new : List Lookup)
+pub paths_next : (paths : List IndexKey) (objects : List Data) (from : Data) (numbers : List (Bor (List ℕ) × ℕ)) (entry : Bor (List ℕ) × ℕ) (old new : List Lookup)
     → AskByPaths paths objects from numbers old → Keeps old new → AsksByPath paths objects from entry.1 new → AskByPaths paths objects from (numbers ++ entry ∷ []) new
 paths_next paths objects from numbers entry old new before keeps asks other has = elim ((in_more numbers entry other).0 has) [
   | inl earlier ↦ still_asks paths objects from other.1 old new keeps (before other earlier)
@@ -137,19 +137,19 @@ only_weaker Own More old new follows only lookup has = elim (only lookup has) [
 ]
 
 -- a value that a path leads to is seen by it
-pub seen_value : (paths : List Guard) (objects : List Data) (from : Data) (number : ℕ) (guard : Guard) (own : Key) (value : Data) → Some guard ≡ slice_get paths number
-    → Reaches objects None guard.steps.now from value → Fits own value
+pub seen_value : (paths : List IndexKey) (objects : List Data) (from : Data) (number : ℕ) (index_key : IndexKey) (own : Key) (value : Data) → Some index_key ≡ slice_get paths number
+    → Reaches objects None index_key.steps.now from value → Fits own value
     → (number ≡ number) × IsSeenFrom paths objects from (record { path = number; key = own })
-seen_value paths objects from number guard own value there reached fits =
-    (refl, record { path = guard; there = sym there; value = value; reached = reached; fits = fits })
+seen_value paths objects from number index_key own value there reached fits =
+    (refl, record { path = index_key; there = sym there; value = value; reached = reached; fits = fits })
 
 -- what is seen by a path is seen by one of some paths
-pub seen_by : (paths : List Guard) (objects : List Data) (from : Data) (numbers : List (Bor (List ℕ) × ℕ)) (entry : Bor (List ℕ) × ℕ) → Contains numbers entry
+pub seen_by : (paths : List IndexKey) (objects : List Data) (from : Data) (numbers : List (Bor (List ℕ) × ℕ)) (entry : Bor (List ℕ) × ℕ) → Contains numbers entry
     → (lookup : Lookup) → (lookup.path ≡ entry.1) × IsSeenFrom paths objects from lookup → IsSeenBy paths objects from numbers lookup
 seen_by paths objects from numbers entry has lookup own = record { entry = entry; among = has; path_is = own.0; seen = own.1 }
 
 -- by the paths for a root's type it is seen from the root
-pub seen_root : (paths : List Guard) (objects : List Data) (root : ℕ) (from : Data) (kind : Bor (List ℕ)) (kinds entries : List (Bor (List ℕ) × ℕ))
+pub seen_root : (paths : List IndexKey) (objects : List Data) (root : ℕ) (from : Data) (kind : Bor (List ℕ)) (kinds entries : List (Bor (List ℕ) × ℕ))
     → Some from ≡ slice_get objects root → Some kind.now ≡ text_at (codes "type") from → All (IsOfKind paths) kinds
     → ((entry : Bor (List ℕ) × ℕ) → Contains entries entry → Contains kinds entry)
     → ((entry : Bor (List ℕ) × ℕ) → Contains entries entry → slice_cmp nat_cmp entry.0.now kind.now ≡ Equal)
@@ -166,7 +166,7 @@ seen_root paths objects root from kind kinds entries there typed are_kinds only 
     }
 
 -- one root more
-pub seen_next : (paths : List Guard) (objects : List Data) (roots : List ℕ) (root : ℕ) (old new : List Lookup) → Contains roots root → AreSeen paths objects roots old
+pub seen_next : (paths : List IndexKey) (objects : List Data) (roots : List ℕ) (root : ℕ) (old new : List Lookup) → Contains roots root → AreSeen paths objects roots old
     → AddsOnly (IsSeen paths objects root) old new → AreSeen paths objects roots new
 seen_next paths objects roots root old new has before only lookup there = elim (only lookup there) [
   | inl earlier ↦ before lookup earlier
@@ -183,7 +183,7 @@ fits_same (Text text) Any value same fits = absurd same
 fits_same (Text text) (Integer other) value same fits = absurd same
 
 -- what is alike is seen as well
-pub seen_alike : (paths : List Guard) (objects : List Data) (root : ℕ) (own lookup : Lookup) → AreAlike own lookup → IsSeen paths objects root lookup → IsSeen paths objects root own
+pub seen_alike : (paths : List IndexKey) (objects : List Data) (root : ℕ) (own lookup : Lookup) → AreAlike own lookup → IsSeen paths objects root lookup → IsSeen paths objects root own
 seen_alike paths objects root own lookup alike seen = record {
   object = seen.object;
   seen = record {

@@ -37,18 +37,18 @@ neither Equal le lt = refl
 neither Greater le lt = absurd (false≢true le)
 
 module _ {K V : Type 0} {R : K → K → Ordering} (total : IsTotalOrder R) (entries : List (K × V)) (key : K) (sorted : IsSortedByKey (λ (entry : K × V). entry.0) R entries) where
-  rises : IsNonDecreasingBy (λ (entry : K × V). ordering_index (R entry.0 key)) entries
-  rises = searchable_from_sorted total (λ (entry : K × V). entry.0) entries key sorted
+  ascends : IsNonDecreasingBy (λ (entry : K × V). ordering_index (R entry.0 key)) entries
+  ascends = searchable_from_sorted total (λ (entry : K × V). entry.0) entries key sorted
 
   -- those with a lesser key stand first
   pub lesser_first : IsPartitionedBy (λ (entry : K × V). is_lt (R entry.0 key)) entries
-  lesser_first i j d low below is = below_lt (R (get_or entries i d).0 key) (R (get_or entries j d).0 key) (rises i j d low below) is
+  lesser_first i j d low below is = below_lt (R (get_or entries i d).0 key) (R (get_or entries j d).0 key) (ascends i j d low below) is
 
   -- and of the others those that aren't greater
   pub equal_first : (from : ℕ) → IsPartitionedBy (λ (entry : K × V). is_le (R entry.0 key)) (drop from entries)
   equal_first from i j d low below is =
       below_le (R (get_or (drop from entries) i d).0 key) (R (get_or (drop from entries) j d).0 key)
-      (IsNonDecreasingBy-drop (λ (entry : K × V). ordering_index (R entry.0 key)) from entries rises i j d low below) is
+      (IsNonDecreasingBy-drop (λ (entry : K × V). ordering_index (R entry.0 key)) from entries ascends i j d low below) is
 
   -- so that those between are all with the key
   pub found_between : (from count : ℕ) → IsPartitionPoint (λ (entry : K × V). is_lt (R entry.0 key) ≡ true) (λ (entry : K × V). is_lt (R entry.0 key) ≡ false) entries from

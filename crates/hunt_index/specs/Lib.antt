@@ -1,3 +1,3 @@
 pub mod Candidates
-pub mod Exact
+pub mod Definite
 pub mod inner

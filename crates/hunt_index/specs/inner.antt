@@ -1,6 +1,6 @@
 pub mod Keys
-pub mod Guards
-pub mod Rows
+pub mod IndexKeys
+pub mod Postings
 pub mod Paths
 pub mod Indexed
 pub mod Finding

@@ -8,12 +8,12 @@ ghost use Rattle.hunt_index.specs.declared.paths.Lookup.{Lookup};
 ghost use Rattle.hunt_index.specs.inner.Indexed.{IsSeenFrom, IsSeen, IsOfKind, IsFinderOf};
 ghost use Rattle.hunt_index.specs.inner.Finding.{Keeps, AreAsked, AsksFor, AsksByPath, AskByPaths, AddsOnly, IsSeenBy, AreSeen, FindsPlaces, AddsFound, AreKinds};
 
-use crate::guard::Guard;
+use crate::index_key::IndexKey;
 use crate::key::{Key, key_in};
-use crate::paths::{Lookup, file_rows};
-use crate::rows::rows_of;
+use crate::paths::{Lookup, group_by_path};
+use crate::postings::postings_of;
 use crate::table::Table;
-use crate::walk::{kind_of, value_behind};
+use crate::walk::{kind_of, value_at_path};
 use flow_values::NoMemory;
 use match_comparisons::object_at;
 use pattern_types::Leaf;
@@ -21,17 +21,17 @@ use std::alloc::Global;
 use stix_bundles::Bundle;
 use stix_json::Json;
 
-/// Finds brackets by the guards that they have.
+/// Finds brackets by the index keys that they have.
 #[derive(Drop)]
 pub(crate) struct Finder<'p> {
-    /// The numbers of the paths of the guards, by the types of the roots at which they begin.
+    /// The numbers of the paths of the index keys, by the types of the roots at which they begin.
     pub(crate) kinds: Table<&'p str, usize>,
-    /// Of each path a guard that has it.
-    pub(crate) paths: Vec<Guard<'p>>,
-    /// The places of the brackets that have guards, by what is looked up.
-    pub(crate) places: Table<Lookup<'p>, u32>,
+    /// Of each path a index key that has it.
+    pub(crate) paths: Vec<IndexKey<'p>>,
+    /// The places of the brackets that have index keys, by what is looked up.
+    pub(crate) brackets_found: Table<Lookup<'p>, u32>,
     /// The places of the others.
-    pub(crate) always: Vec<u32>,
+    pub(crate) unindexed: Vec<u32>,
 }
 
 impl<'p> Finder<'p> {
@@ -40,39 +40,39 @@ impl<'p> Finder<'p> {
         requires { length brackets.now < 2 ^ 32 }
         ensures { IfOk result (IsFinderOf (map (λ leaf. leaf.now) brackets.now)) }
     {
-        let rows = rows_of(alloc, brackets)?;
-        let filed = file_rows(alloc, rows.guarded)?;
-        let kinds = kinds_of(alloc, filed.paths.as_slice())?;
+        let postings = postings_of(alloc, brackets)?;
+        let path_table = group_by_path(alloc, postings.indexed)?;
+        let kinds = kinds_of(alloc, path_table.paths.as_slice())?;
         Ok(Finder {
             kinds: Table::new(kinds),
-            paths: filed.paths,
-            places: Table::new(filed.entries),
-            always: rows.always,
+            paths: path_table.paths,
+            brackets_found: Table::new(path_table.entries),
+            unindexed: postings.unindexed,
         })
     }
 
-    /// The places of the brackets of which a guard is met at one of the roots, and of those without one.
-    pub(crate) fn places_for(
+    /// The places of the brackets of which a index key is met at one of the roots, and of those without one.
+    pub(crate) fn candidates_for(
         &self,
         alloc: Global,
         bundle: &Bundle,
         roots: &[u32],
     ) -> Result<Vec<u32>, NoMemory>
         requires { All (IsOfKind self.now.paths.items) self.now.kinds.entries.items }
-        ensures { IfOk result (λ places. FindsPlaces self.now (data_in bundle.now) roots.now places.items) }
+        ensures { IfOk result (λ brackets_found. FindsPlaces self.now (data_in bundle.now) roots.now brackets_found.items) }
     {
         let lookups = self.lookups(alloc, bundle, roots)?;
-        let mut places = Vec::from_slice(alloc, self.always.as_slice())?;
-        self.add_found(lookups.as_slice(), &mut places)?;
-        Ok(places)
+        let mut brackets_found = Vec::from_slice(alloc, self.unindexed.as_slice())?;
+        self.add_found(lookups.as_slice(), &mut brackets_found)?;
+        Ok(brackets_found)
     }
 
-    /// Adds the places of the brackets that have a guard by one of the look-ups.
-    fn add_found(&self, lookups: &[Lookup<'_>], places: &mut Vec<u32>) -> Result<(), NoMemory>
-        ensures { OnOk result (AddsFound self.now.places.entries.items lookups.now places.old.items places.new.items) }
+    /// Adds the places of the brackets that have a index key by one of the look-ups.
+    fn add_found(&self, lookups: &[Lookup<'_>], brackets_found: &mut Vec<u32>) -> Result<(), NoMemory>
+        ensures { OnOk result (AddsFound self.now.brackets_found.entries.items lookups.now brackets_found.old.items brackets_found.new.items) }
     {
         for lookup in lookups {
-            add_places(self.places.find(lookup), places)?;
+            add_brackets(self.brackets_found.find(lookup), brackets_found)?;
         }
         Ok(())
     }
@@ -92,7 +92,7 @@ impl<'p> Finder<'p> {
         for root in roots {
             self.add_lookups(bundle, *root, &mut lookups)?;
         }
-        Ok(each_lookup_once(lookups))
+        Ok(dedup_lookups(lookups))
     }
 
     /// Adds what is looked up for a root: by each of the paths for its type the value there.
@@ -150,10 +150,10 @@ impl<'p> Finder<'p> {
         ensures only { OnOk result (AddsOnly (λ lookup. (lookup.path ≡ path) × IsSeenFrom self.now.paths.items (data_in bundle.now) (data_of object.now) lookup)
             lookups.old.items lookups.new.items) }
     {
-        let Some(guard) = self.paths.get(path) else {
+        let Some(index_key) = self.paths.get(path) else {
             return Ok(());
         };
-        let Some(value) = value_behind(bundle, object, guard.steps) else {
+        let Some(value) = value_at_path(bundle, object, index_key.steps) else {
             return Ok(());
         };
         lookups.push(Lookup {
@@ -168,7 +168,7 @@ impl<'p> Finder<'p> {
 }
 
 /// The same look-ups, each once.
-fn each_lookup_once(mut lookups: Vec<Lookup<'_>>) -> Vec<Lookup<'_>>
+fn dedup_lookups(mut lookups: Vec<Lookup<'_>>) -> Vec<Lookup<'_>>
     ensures keeps { Keeps lookups.entry.items result.items }
     ensures only { (lookup : Lookup) → Contains result.items lookup → Contains lookups.entry.items lookup }
 {
@@ -178,17 +178,17 @@ fn each_lookup_once(mut lookups: Vec<Lookup<'_>>) -> Vec<Lookup<'_>>
 }
 
 /// Adds the places of some entries.
-fn add_places(entries: &[(Lookup<'_>, u32)], places: &mut Vec<u32>) -> Result<(), NoMemory>
-    ensures { OnOk result (places.new.items ≡ places.old.items ++ map (λ entry. entry.1) entries.now) }
+fn add_brackets(entries: &[(Lookup<'_>, u32)], brackets_found: &mut Vec<u32>) -> Result<(), NoMemory>
+    ensures { OnOk result (brackets_found.new.items ≡ brackets_found.old.items ++ map (λ entry. entry.1) entries.now) }
 {
-    for (_, place) in entries {
-        places.push(*place)?;
+    for (_, bracket) in entries {
+        brackets_found.push(*bracket)?;
     }
     Ok(())
 }
 
 /// The numbers of paths, by the types of their roots.
-fn kinds_of<'p>(alloc: Global, paths: &[Guard<'p>]) -> Result<Vec<(&'p str, usize)>, NoMemory>
+fn kinds_of<'p>(alloc: Global, paths: &[IndexKey<'p>]) -> Result<Vec<(&'p str, usize)>, NoMemory>
     ensures all { IfOk result (λ kinds. AreKinds paths.now kinds.items) }
     ensures only { IfOk result (λ kinds. All (IsOfKind paths.now) kinds.items) }
 {

@@ -4,7 +4,7 @@ ghost use Rattle.pattern_types.specs.PlainLeaf.{plain_leaf};
 ghost use Rattle.hunt_index.specs.Candidates.{AreCandidates};
 
 use crate::finder::Finder;
-use crate::sorting::each_once;
+use crate::sorting::sort_dedup;
 use flow_values::{Items, NoMemory};
 use pattern_types::Leaf;
 use std::alloc::Global;
@@ -62,10 +62,10 @@ impl<'p> Index<'p> {
         ensures { IfOk result (AreCandidates (data_in bundle.now) roots.now (map plain_leaf self.now)) }
     {
         let roots = Vec::from_slice(self.alloc, roots)?;
-        let roots = each_once(roots);
-        let places = self
+        let roots = sort_dedup(roots);
+        let brackets_found = self
             .finder
-            .places_for(self.alloc, bundle, roots.as_slice())?;
-        Ok(Items::from_vec(each_once(places)))
+            .candidates_for(self.alloc, bundle, roots.as_slice())?;
+        Ok(Items::from_vec(sort_dedup(brackets_found)))
     }
 }

@@ -1,7 +1,7 @@
 ghost use Rattle.std.specs.Prelude.{IfSome};
 ghost use Rattle.stix_json.specs.DataOf.{data_of};
 ghost use Rattle.hunt_index.specs.inner.Keys.{Fits, IsAsked};
-ghost use Rattle.hunt_index.specs.inner.Guards.{StandsFor, Answers};
+ghost use Rattle.hunt_index.specs.inner.IndexKeys.{Represents, Answers};
 
 use pattern_types::Constant;
 use stix_json::Json;
@@ -19,7 +19,7 @@ pub(crate) enum Key<'p> {
 
 /// What a value that equals a constant is looked up by.
 pub(crate) fn key_of(constant: &Constant) -> Key<'_>
-    ensures stands { StandsFor constant.now result }
+    ensures stands { Represents constant.now result }
     ensures answers { Answers constant.now result }
 {
     match constant {

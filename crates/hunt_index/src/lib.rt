@@ -5,17 +5,17 @@
 //! look at each of the others.
 #![tactic(auto)]
 
-mod exact;
+mod definite;
 mod finder;
-mod guard;
-mod guarding;
+mod index_key;
+mod key_selection;
 mod index;
 mod key;
 mod paths;
-mod rows;
+mod postings;
 mod sorting;
 mod table;
 mod walk;
 
-pub use exact::is_exact;
+pub use definite::is_definite;
 pub use index::Index;

@@ -1,12 +1,12 @@
-//! The paths of guards, and the places of brackets by what is looked up at the end of a path.
+//! The paths of index keys, and the places of brackets by what is looked up at the end of a path.
 
 ghost use Rattle.std.specs.Prelude.{◌≡◌, length, IfOk, OnOk};
 ghost use Rattle.std.specs.declared.cmp.Ordering.TheVariants.{Equal};
-ghost use Rattle.hunt_index.specs.inner.Paths.{AreOnePath, IsNumber, KeepsPaths, AddsRow, AreFiled, AreAllFiled};
+ghost use Rattle.hunt_index.specs.inner.Paths.{AreOnePath, IsNumber, KeepsPaths, AddsPosting, AreGrouped, AreAllGrouped};
 
-use crate::guard::Guard;
+use crate::index_key::IndexKey;
 use crate::key::Key;
-use crate::rows::Row;
+use crate::postings::Posting;
 use flow_values::NoMemory;
 use pattern_types::Step;
 use std::alloc::Global;
@@ -19,70 +19,70 @@ pub(crate) struct Lookup<'p> {
     pub(crate) key: Key<'p>,
 }
 
-/// The paths of some guards, and the places of brackets by what is looked up.
+/// The paths of some index keys, and the places of brackets by what is looked up.
 #[derive(Drop)]
-pub(crate) struct Filed<'p> {
-    /// For each path a guard that has it.
-    pub(crate) paths: Vec<Guard<'p>>,
+pub(crate) struct PathTable<'p> {
+    /// For each path a index key that has it.
+    pub(crate) paths: Vec<IndexKey<'p>>,
     pub(crate) entries: Vec<(Lookup<'p>, u32)>,
 }
 
-/// Files rows by their paths. Those of one path are brought together first, so that each path has one
+/// Files postings by their paths. Those of one path are brought together first, so that each path has one
 /// number.
-pub(crate) fn file_rows<'p>(alloc: Global, mut rows: Vec<Row<'p>>) -> Result<Filed<'p>, NoMemory>
-    ensures { IfOk result (AreAllFiled rows.entry.items) }
+pub(crate) fn group_by_path<'p>(alloc: Global, mut postings: Vec<Posting<'p>>) -> Result<PathTable<'p>, NoMemory>
+    ensures { IfOk result (AreAllGrouped postings.entry.items) }
 {
-    rows.sort_unstable_by(|one, other| path_order(&one.guard, &other.guard));
-    let mut filed = Filed {
+    postings.sort_unstable_by(|one, other| path_order(&one.index_key, &other.index_key));
+    let mut path_table = PathTable {
         paths: Vec::new(alloc),
-        entries: Vec::with_capacity(alloc, rows.len())?,
+        entries: Vec::with_capacity(alloc, postings.len())?,
     };
-    filed.add_each(rows.as_slice())?;
-    Ok(filed)
+    path_table.add_each(postings.as_slice())?;
+    Ok(path_table)
 }
 
-impl<'p> Filed<'p> {
-    /// Adds rows.
-    fn add_each(&mut self, rows: &[Row<'p>]) -> Result<(), NoMemory>
-        requires { AreFiled rows.now 0 self.old }
-        ensures { OnOk result (AreFiled rows.now (length rows.now) self.new) }
+impl<'p> PathTable<'p> {
+    /// Adds postings.
+    fn add_each(&mut self, postings: &[Posting<'p>]) -> Result<(), NoMemory>
+        requires { AreGrouped postings.now 0 self.old }
+        ensures { OnOk result (AreGrouped postings.now (length postings.now) self.new) }
     {
-        for row in rows {
-            self.add(row)?;
+        for posting in postings {
+            self.add(posting)?;
         }
         Ok(())
     }
 
-    /// Adds a row.
-    fn add(&mut self, row: &Row<'p>) -> Result<(), NoMemory>
-        ensures { OnOk result (AddsRow row.now self.old self.new) }
+    /// Adds a posting.
+    fn add(&mut self, posting: &Posting<'p>) -> Result<(), NoMemory>
+        ensures { OnOk result (AddsPosting posting.now self.old self.new) }
     {
-        let path = self.number_of(&row.guard)?;
+        let path = self.number_of(&posting.index_key)?;
         let lookup = Lookup {
             path,
-            key: row.guard.key,
+            key: posting.index_key.key,
         };
-        self.entries.push((lookup, row.place))?;
+        self.entries.push((lookup, posting.bracket))?;
         Ok(())
     }
 
     /// The number of a guard's path: that of the last one, or of a new one.
-    fn number_of(&mut self, guard: &Guard<'p>) -> Result<usize, NoMemory>
+    fn number_of(&mut self, index_key: &IndexKey<'p>) -> Result<usize, NoMemory>
         ensures entries { self.new.entries ≡ self.old.entries }
         ensures kept { KeepsPaths self.old.paths.items self.new.paths.items }
-        ensures numbered { IfOk result (λ number. IsNumber self.new.paths.items number guard.now) }
+        ensures numbered { IfOk result (λ number. IsNumber self.new.paths.items number index_key.now) }
     {
         let count = self.paths.len();
-        if count > 0 && path_order(&self.paths[count - 1], guard) == Ordering::Equal {
+        if count > 0 && path_order(&self.paths[count - 1], index_key) == Ordering::Equal {
             return Ok(count - 1);
         }
-        self.paths.push(*guard)?;
+        self.paths.push(*index_key)?;
         Ok(count)
     }
 }
 
-/// How two guards stand by their paths.
-fn path_order(one: &Guard<'_>, other: &Guard<'_>) -> Ordering
+/// How two index keys stand by their paths.
+fn path_order(one: &IndexKey<'_>, other: &IndexKey<'_>) -> Ordering
     ensures { result ≡ Equal → AreOnePath one.now other.now }
 {
     match one.kind.cmp(other.kind) {

@@ -2,8 +2,8 @@ ghost use Rattle.std.specs.Prelude.{◌↔◌, ℕ, Contains};
 ghost use Rattle.std.specs.List.Sorted.{IsStrictlyIncreasing};
 
 /// The same numbers in order, each once.
-pub(crate) fn each_once(mut numbers: Vec<u32>) -> Vec<u32>
-    ensures rise { IsStrictlyIncreasing result.items }
+pub(crate) fn sort_dedup(mut numbers: Vec<u32>) -> Vec<u32>
+    ensures ascend { IsStrictlyIncreasing result.items }
     ensures same { (n : ℕ) → Contains result.items n ↔ Contains numbers.items n }
 {
     numbers.sort_unstable();

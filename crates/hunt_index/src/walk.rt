@@ -5,15 +5,15 @@ ghost use Rattle.stix_json.specs.Ordered.{IsOrdered};
 ghost use Rattle.stix_json.specs.Properties.{text_at};
 ghost use Rattle.stix_bundles.specs.Objects.{data_in};
 ghost use Rattle.match_comparisons.specs.Selection.{StepReaches, Reaches};
-ghost use Rattle.hunt_index.specs.Exact.{IsPlain, ArePlain};
+ghost use Rattle.hunt_index.specs.Definite.{IsPlain, ArePlain};
 
-use match_comparisons::{name_behind, selected};
+use match_comparisons::{name_after, selected};
 use pattern_types::Step;
 use stix_bundles::Bundle;
 use stix_json::{Json, get_ordered, text_of};
 
 /// The value that steps lead to from an object, where none of them is `[*]`: there is at most one.
-pub(crate) fn value_behind<'a>(
+pub(crate) fn value_at_path<'a>(
     bundle: &'a Bundle,
     object: &'a Json,
     steps: &[Step],
@@ -29,7 +29,7 @@ pub(crate) fn value_behind<'a>(
         let Some(next) = next_value(bundle, last, step, value) else {
             return None;
         };
-        last = name_behind(last, step);
+        last = name_after(last, step);
         value = next;
     }
     Some(value)

@@ -6,12 +6,12 @@ use Rattle.json.specs.Print.{escape_byte}
 use Rattle.serde_json.specs.Data.{Data}
 use Rattle.serde_json.specs.View.{items_of}
 use Rattle.serde_json.specs.Written.{compact_text, items_text}
-use Rattle.hunt_report.specs.Envelope.{behind, listed, opened, envelope_text, envelope_data}
+use Rattle.hunt_report.specs.Envelope.{comma_joined, listed, opened, envelope_text, envelope_data}
 
-behind_more : (texts : List (List ℕ)) (text : List ℕ) → behind (texts ++ text ∷ []) ≡ behind texts ++ (codes "," ++ text)
+behind_more : (texts : List (List ℕ)) (text : List ℕ) → comma_joined (texts ++ text ∷ []) ≡ comma_joined texts ++ (codes "," ++ text)
 behind_more [] text = ap (λ (l : List ℕ). codes "," ++ l) (append-nil text)
 behind_more (next ∷ texts) text =
-    ap (λ (l : List ℕ). codes "," ++ (next ++ l)) (behind_more texts text) ∙ ap (λ (l : List ℕ). codes "," ++ l) (sym (append_assoc next (behind texts) (codes "," ++ text)))
+    ap (λ (l : List ℕ). codes "," ++ (next ++ l)) (behind_more texts text) ∙ ap (λ (l : List ℕ). codes "," ++ l) (sym (append_assoc next (comma_joined texts) (codes "," ++ text)))
 
 pub opened_first : (text : List ℕ) → opened (text ∷ []) ≡ opened [] ++ text
 opened_first text = ap (λ (l : List ℕ). codes "{\"objects\":[" ++ l) (append-nil text)
@@ -19,17 +19,17 @@ opened_first text = ap (λ (l : List ℕ). codes "{\"objects\":[" ++ l) (append-
 pub opened_more : (before text : List ℕ) (texts : List (List ℕ)) → opened (before ∷ texts ++ text ∷ []) ≡ opened (before ∷ texts) ++ (codes "," ++ text)
 opened_more before text texts =
     ap (λ (l : List ℕ). codes "{\"objects\":[" ++ (before ++ l)) (behind_more texts text)
-    ∙ ap (λ (l : List ℕ). codes "{\"objects\":[" ++ l) (sym (append_assoc before (behind texts) (codes "," ++ text)))
+    ∙ ap (λ (l : List ℕ). codes "{\"objects\":[" ++ l) (sym (append_assoc before (comma_joined texts) (codes "," ++ text)))
 
-items_behind : (objects : List Data) → behind (map compact_text objects) ++ 93 ∷ [] ≡ items_text true (items_of objects)
+items_behind : (objects : List Data) → comma_joined (map compact_text objects) ++ 93 ∷ [] ≡ items_text true (items_of objects)
 items_behind [] = refl
 items_behind (next ∷ objects) =
-    ap (λ (l : List ℕ). 44 ∷ l) (append_assoc (compact_text next) (behind (map compact_text objects)) (93 ∷ []) ∙ ap (λ (l : List ℕ). compact_text next ++ l) (items_behind objects))
+    ap (λ (l : List ℕ). 44 ∷ l) (append_assoc (compact_text next) (comma_joined (map compact_text objects)) (93 ∷ []) ∙ ap (λ (l : List ℕ). compact_text next ++ l) (items_behind objects))
 
 items_listed : (objects : List Data) → listed (map compact_text objects) ++ 93 ∷ [] ≡ items_text false (items_of objects)
 items_listed [] = refl
 items_listed (first ∷ objects) =
-    append_assoc (compact_text first) (behind (map compact_text objects)) (93 ∷ []) ∙ ap (λ (l : List ℕ). compact_text first ++ l) (items_behind objects)
+    append_assoc (compact_text first) (comma_joined (map compact_text objects)) (93 ∷ []) ∙ ap (λ (l : List ℕ). compact_text first ++ l) (items_behind objects)
 
 pub envelope_whole : (objects : List Data) → envelope_text (map compact_text objects) ≡ compact_text (envelope_data objects)
 unfolding escape_byte

@@ -17,15 +17,15 @@ use Rattle.match_bindings.proofs.OnceLemmas.{same_self}
 use Rattle.match_stream.specs.Answer.{IsAnswer, AnswersAfter, AreAnswers, joined_answers}
 use Rattle.match_run.specs.Listing.{AreBindings}
 use Rattle.match_run.proofs.LogLemmas.{ends_at}
-use Rattle.hunt_engine.specs.declared.found.Found.{Found}
+use Rattle.hunt_engine.specs.declared.found.Hit.{Hit}
 use Rattle.hunt_engine.specs.EngineLog.{Row, IsEntry, IsLogOf}
-use Rattle.hunt_engine.specs.EngineAnswer.{binds_at, TellsRow}
+use Rattle.hunt_engine.specs.EngineAnswer.{binds_at, ReportsRow}
 use Rattle.hunt_report.proofs.PlaceLemmas.{seam}
 use Rattle.hunt_report.specs.Hits.{end_of, ComesBefore, AreHits, AnswerRows}
 
 -- ---- what is found at a place
 
-pub binds_append : (place : ℕ) (xs ys : List Found) → binds_at place (xs ++ ys) ≡ binds_at place xs ++ binds_at place ys
+pub binds_append : (place : ℕ) (xs ys : List Hit) → binds_at place (xs ++ ys) ≡ binds_at place xs ++ binds_at place ys
 binds_append place [] ys = refl
 binds_append place (f ∷ xs) ys = by (nat_eq f.hunted place) refl (binds_append place xs ys)
   where
@@ -34,13 +34,13 @@ binds_append place (f ∷ xs) ys = by (nat_eq f.hunted place) refl (binds_append
     by true e rest = rw e (ap (λ (l : List BindTree). tree_of f.bind ∷ l) rest)
     by false e rest = rw e rest
 
-bind_there : (own : List Found) (k : ℕ) (hit : Found) → slice_get own k ≡ Some hit → 0 < count (tree_of hit.bind) (binds_at hit.hunted own)
+bind_there : (own : List Hit) (k : ℕ) (hit : Hit) → slice_get own k ≡ Some hit → 0 < count (tree_of hit.bind) (binds_at hit.hunted own)
 bind_there [] k hit at = absurd (cc)
 bind_there (f ∷ own) zero hit at =
     let is : f ≡ hit = cc in
     let one : nat_eq hit.hunted hit.hunted ≡ true = eq-eqb hit.hunted hit.hunted refl in
     let me : same (tree_of hit.bind) (tree_of hit.bind) ≡ true = same_self (tree_of hit.bind) in
-    subst (λ (g : Found). 0 < count (tree_of hit.bind) (binds_at hit.hunted (g ∷ own))) (sym is) (rw one (rw me (omega arith)))
+    subst (λ (g : Hit). 0 < count (tree_of hit.bind) (binds_at hit.hunted (g ∷ own))) (sym is) (rw one (rw me (omega arith)))
 bind_there (f ∷ own) (suc k) hit at = by (nat_eq f.hunted hit.hunted) refl (bind_there own k hit at)
   where
     by : (b : Bool) → nat_eq f.hunted hit.hunted ≡ b → 0 < count (tree_of hit.bind) (binds_at hit.hunted own)
@@ -82,9 +82,9 @@ log_ends p (r ∷ rows) row (e ∷ log) is =
     }
 
 -- the log of the rows and the one more goes on that of the rows
-pub log_goes_on : OneLog → (p : PlainPattern) (rows : List Row) (row : Row) (before log : List LogEntry) → IsLogOf p rows before
+pub log_continues : OneLog → (p : PlainPattern) (rows : List Row) (row : Row) (before log : List LogEntry) → IsLogOf p rows before
     → (is : IsLogOf p (rows ++ row ∷ []) log) → log ≡ before ++ (log_ends p rows row log is).entry ∷ []
-log_goes_on one p rows row before log of_rows is =
+log_continues one p rows row before log of_rows is =
     let ends = log_ends p rows row log is in
     ends.log_is ∙ ap (λ (l : List LogEntry). l ++ ends.entry ∷ []) (one p rows ends.before before ends.of_rows of_rows)
 
@@ -98,7 +98,7 @@ record AnswersAt (p : Pattern) (before : List LogEntry) (rows : List Row) (binds
   pub joined : joined_answers answers ≡ binds
 
 answers_at : OneLog → (patterns : List Pattern) (place : ℕ) (p : Pattern) → slice_get patterns place ≡ Some p
-    → (before rows : List Row) (hits : List Found) (log : List LogEntry) → IsLogOf (plain_pattern p) before log → AnswerRows patterns before rows hits
+    → (before rows : List Row) (hits : List Hit) (log : List LogEntry) → IsLogOf (plain_pattern p) before log → AnswerRows patterns before rows hits
     → AnswersAt p log rows (binds_at place hits)
 answers_at one patterns place p of_p before [] hits log is answers = record {
   log = [];
@@ -107,11 +107,11 @@ answers_at one patterns place p of_p before [] hits log is answers = record {
   are = tt;
   joined = ap (binds_at place) (sym answers);
 }
-answers_at one patterns place p of_p before (row ∷ rows) hits log is (own, later, tells, rest, hits_are) =
+answers_at one patterns place p of_p before (row ∷ rows) hits log is (own, later, reports, rest, hits_are) =
     let plain = plain_pattern p in
-    let at = tells.answers place p of_p in
+    let at = reports.answers place p of_p in
     let entry = (log_ends plain before row at.0 at.1).entry in
-    let whole : at.0 ≡ log ++ entry ∷ [] = log_goes_on one plain before row log at.0 is at.1 in
+    let whole : at.0 ≡ log ++ entry ∷ [] = log_continues one plain before row log at.0 is at.1 in
     let more = answers_at one patterns place p of_p (before ++ row ∷ []) rows later (log ++ entry ∷ []) (subst (IsLogOf plain (before ++ row ∷ [])) whole at.1) rest in
     record {
       log = entry ∷ more.log;
@@ -121,87 +121,87 @@ answers_at one patterns place p of_p before (row ∷ rows) hits log is (own, lat
       joined = ap (λ (l : List BindTree). binds_at place own ++ l) more.joined ∙ sym (binds_append place own later) ∙ ap (binds_at place) (sym hits_are);
     }
 
-none_at : (patterns : List Pattern) (place : ℕ) → slice_get patterns place ≡ None → (before rows : List Row) (hits : List Found)
+none_at : (patterns : List Pattern) (place : ℕ) → slice_get patterns place ≡ None → (before rows : List Row) (hits : List Hit)
     → AnswerRows patterns before rows hits → binds_at place hits ≡ []
 none_at patterns place none before [] hits answers = ap (binds_at place) answers
-none_at patterns place none before (row ∷ rows) hits (own, later, tells, rest, is) =
-    ap (binds_at place) is ∙ binds_append place own later ∙ ap (λ (l : List BindTree). l ++ binds_at place later) (tells.no_other place none)
+none_at patterns place none before (row ∷ rows) hits (own, later, reports, rest, is) =
+    ap (binds_at place) is ∙ binds_append place own later ∙ ap (λ (l : List BindTree). l ++ binds_at place later) (reports.no_other place none)
     ∙ none_at patterns place none (before ++ row ∷ []) rows later rest
 
 -- ---- where a hit ends
 
 -- it is of an indicator, and ends at the last row
-pub record EndsAtLast (patterns : List Pattern) (rows : List Row) (hit : Found) : Type 0 where
+pub record EndsAtLast (patterns : List Pattern) (rows : List Row) (hit : Hit) : Type 0 where
   pub inside : hit.hunted < length patterns
   pub number : end_of hit ≡ length rows
 
-pub row_ends : (patterns : List Pattern) (rows : List Row) (own : List Found) → TellsRow patterns rows own → (k : ℕ) (hit : Found)
+pub row_ends : (patterns : List Pattern) (rows : List Row) (own : List Hit) → ReportsRow patterns rows own → (k : ℕ) (hit : Hit)
     → slice_get own k ≡ Some hit → EndsAtLast patterns rows hit
-row_ends patterns rows own tells k hit at = by (slice_get patterns hit.hunted) refl
+row_ends patterns rows own reports k hit at = by (slice_get patterns hit.hunted) refl
   where
     by : (o : Option Pattern) → slice_get patterns hit.hunted ≡ o → EndsAtLast patterns rows hit
     by None e =
         let found = bind_there own k hit at in
-        let none : 0 < count (tree_of hit.bind) [] = subst (λ (l : List BindTree). 0 < count (tree_of hit.bind) l) (tells.no_other hit.hunted e) found in
+        let none : 0 < count (tree_of hit.bind) [] = subst (λ (l : List BindTree). 0 < count (tree_of hit.bind) l) (reports.no_other hit.hunted e) found in
         absurd (omega (arith, none))
     by (Some p) e =
-        let answer = tells.answers hit.hunted p e in record {
+        let answer = reports.answers hit.hunted p e in record {
           inside = slice_get_within patterns hit.hunted p e;
           number = ends_at (numbered_pattern p) answer.0 (binds_at hit.hunted own) answer.2 (tree_of hit.bind) (bind_there own k hit at)
               ∙ log_length (plain_pattern p) rows answer.0 answer.1;
         }
 
 -- behind the rows that were taken before
-abbrev EndBehind : ℕ → List Found → Type 0
-EndBehind number hits = (k : ℕ) (hit : Found) → slice_get hits k ≡ Some hit → number < end_of hit
+abbrev EndBehind : ℕ → List Hit → Type 0
+EndBehind number hits = (k : ℕ) (hit : Hit) → slice_get hits k ≡ Some hit → number < end_of hit
 
 -- an item of two lists, by the one that it is of
-abbrev Seam : List Found → List Found → ℕ → Found → Type 0
+abbrev Seam : List Hit → List Hit → ℕ → Hit → Type 0
 Seam xs ys k x = ((k < length xs) × (slice_get xs k ≡ Some x)) ⊎ ((j : ℕ) × (k ≡ length xs + j) × (slice_get ys j ≡ Some x))
 
-cut_at : (own later hits : List Found) → hits ≡ own ++ later → (k : ℕ) (hit : Found) → slice_get hits k ≡ Some hit → Seam own later k hit
-cut_at own later hits is k hit at = seam own later k hit (subst (λ (l : List Found). slice_get l k ≡ Some hit) is at)
+cut_at : (own later hits : List Hit) → hits ≡ own ++ later → (k : ℕ) (hit : Hit) → slice_get hits k ≡ Some hit → Seam own later k hit
+cut_at own later hits is k hit at = seam own later k hit (subst (λ (l : List Hit). slice_get l k ≡ Some hit) is at)
 
-none_there : (hits : List Found) (k : ℕ) (hit : Found) → hits ≡ [] → slice_get hits k ≡ Some hit → ⊥
+none_there : (hits : List Hit) (k : ℕ) (hit : Hit) → hits ≡ [] → slice_get hits k ≡ Some hit → ⊥
 none_there [] k hit none at = cc
 none_there (f ∷ hits) k hit none at = cc
 
-end_behind : (patterns : List Pattern) (before rows : List Row) (hits : List Found) → AnswerRows patterns before rows hits → EndBehind (length before) hits
+end_behind : (patterns : List Pattern) (before rows : List Row) (hits : List Hit) → AnswerRows patterns before rows hits → EndBehind (length before) hits
 end_behind patterns before [] hits answers k hit at = absurd (none_there hits k hit answers at)
-end_behind patterns before (row ∷ rows) hits (own, later, tells, rest, is) k hit at =
+end_behind patterns before (row ∷ rows) hits (own, later, reports, rest, is) k hit at =
     by (end_behind patterns (before ++ row ∷ []) rows later rest) (cut_at own later hits is k hit at)
   where
     long : length (before ++ row ∷ []) ≡ length before + 1
     long = length-append before (row ∷ [])
 
     by : EndBehind (length (before ++ row ∷ [])) later → Seam own later k hit → length before < end_of hit
-    by behind (inl h) = let e = (row_ends patterns (before ++ row ∷ []) own tells k hit h.1).number in omega (arith, e, long)
-    by behind (inr h) = let less = behind h.0 hit h.2 in omega (arith, less, long)
+    by comma_joined (inl h) = let e = (row_ends patterns (before ++ row ∷ []) own reports k hit h.1).number in omega (arith, e, long)
+    by comma_joined (inr h) = let less = comma_joined h.0 hit h.2 in omega (arith, less, long)
 
 -- ---- the order of the hits
 
-abbrev Merged : List Found → Type 0
-Merged hits = (j k : ℕ) (hit other : Found) → j < k → slice_get hits j ≡ Some hit → slice_get hits k ≡ Some other → ComesBefore hit other
+abbrev Merged : List Hit → Type 0
+Merged hits = (j k : ℕ) (hit other : Hit) → j < k → slice_get hits j ≡ Some hit → slice_get hits k ≡ Some other → ComesBefore hit other
 
-place_at : (own : List Found) (k : ℕ) (hit : Found) → slice_get own k ≡ Some hit → slice_get (map (λ f. f.hunted) own) k ≡ Some hit.hunted
-place_at own k hit at = slice_get-map (λ (f : Found). f.hunted) own k ∙ ap (option_map (λ (f : Found). f.hunted)) at
+place_at : (own : List Hit) (k : ℕ) (hit : Hit) → slice_get own k ≡ Some hit → slice_get (map (λ f. f.hunted) own) k ≡ Some hit.hunted
+place_at own k hit at = slice_get-map (λ (f : Hit). f.hunted) own k ∙ ap (option_map (λ (f : Hit). f.hunted)) at
 
-merged : (patterns : List Pattern) (before rows : List Row) (hits : List Found) → AnswerRows patterns before rows hits → Merged hits
+merged : (patterns : List Pattern) (before rows : List Row) (hits : List Hit) → AnswerRows patterns before rows hits → Merged hits
 merged patterns before [] hits answers j k hit other less at there = absurd (none_there hits k other answers there)
-merged patterns before (row ∷ rows) hits (own, later, tells, rest, is) j k hit other less at there =
+merged patterns before (row ∷ rows) hits (own, later, reports, rest, is) j k hit other less at there =
     by (merged patterns (before ++ row ∷ []) rows later rest) (end_behind patterns (before ++ row ∷ []) rows later rest)
     (cut_at own later hits is j hit at) (cut_at own later hits is k other there)
   where
     by : Merged later → EndBehind (length (before ++ row ∷ [])) later → Seam own later j hit → Seam own later k other → ComesBefore hit other
-    by more behind (inl h) (inl g) =
-        let e = (row_ends patterns (before ++ row ∷ []) own tells j hit h.1).number in
-        let f = (row_ends patterns (before ++ row ∷ []) own tells k other g.1).number in
-        inr (e ∙ sym f, tells.rise j k hit.hunted other.hunted (omega (arith, less)) (place_at own j hit h.1) (place_at own k other g.1))
-    by more behind (inl h) (inr g) =
-        let e = (row_ends patterns (before ++ row ∷ []) own tells j hit h.1).number in
-        let b = behind g.0 other g.2 in inl (omega (arith, e, b))
-    by more behind (inr h) (inl g) = let e = h.1 in let f = g.0 in absurd (omega (arith, e, f, less))
-    by more behind (inr h) (inr g) = let e = h.1 in let f = g.1 in more h.0 g.0 hit other (omega (arith, less, e, f)) h.2 g.2
+    by more comma_joined (inl h) (inl g) =
+        let e = (row_ends patterns (before ++ row ∷ []) own reports j hit h.1).number in
+        let f = (row_ends patterns (before ++ row ∷ []) own reports k other g.1).number in
+        inr (e ∙ sym f, reports.ascend j k hit.hunted other.hunted (omega (arith, less)) (place_at own j hit h.1) (place_at own k other g.1))
+    by more comma_joined (inl h) (inr g) =
+        let e = (row_ends patterns (before ++ row ∷ []) own reports j hit h.1).number in
+        let b = comma_joined g.0 other g.2 in inl (omega (arith, e, b))
+    by more comma_joined (inr h) (inl g) = let e = h.1 in let f = g.0 in absurd (omega (arith, e, f, less))
+    by more comma_joined (inr h) (inr g) = let e = h.1 in let f = g.1 in more h.0 g.0 hit other (omega (arith, less, e, f)) h.2 g.2
 
 -- ---- all of it
 
@@ -210,7 +210,7 @@ abbrev pub Listed : Type 0
 Listed = (p : NumberedPattern) (log : List LogEntry) (answers : List (List BindTree)) → AreAnswers p log answers
     → IsListing (observed_in log) p (joined_answers answers)
 
-pub are_hits : OneLog → Listed → (patterns : List Pattern) (rows : List Row) (hits : List Found) → AnswerRows patterns [] rows hits → AreHits patterns rows hits
+pub are_hits : OneLog → Listed → (patterns : List Pattern) (rows : List Row) (hits : List Hit) → AnswerRows patterns [] rows hits → AreHits patterns rows hits
 are_hits one listed patterns rows hits answers = record {
   listings = λ place p of_p.
       let at = answers_at one patterns place p of_p [] rows hits [] tt answers in
@@ -220,20 +220,20 @@ are_hits one listed patterns rows hits answers = record {
 }
 
 -- the answer to one row more
-pub answers-more : (patterns : List Pattern) (before rows : List Row) (row : Row) (hits own : List Found) → AnswerRows patterns before rows hits
-    → TellsRow patterns (before ++ (rows ++ row ∷ [])) own → AnswerRows patterns before (rows ++ row ∷ []) (hits ++ own)
-answers-more patterns before [] row hits own answers tells = (
+pub answers-more : (patterns : List Pattern) (before rows : List Row) (row : Row) (hits own : List Hit) → AnswerRows patterns before rows hits
+    → ReportsRow patterns (before ++ (rows ++ row ∷ [])) own → AnswerRows patterns before (rows ++ row ∷ []) (hits ++ own)
+answers-more patterns before [] row hits own answers reports = (
   own,
   [],
-  tells,
+  reports,
   refl,
-  ap (λ (l : List Found). l ++ own) answers ∙ sym (append-nil own),
+  ap (λ (l : List Hit). l ++ own) answers ∙ sym (append-nil own),
 )
-answers-more patterns before (first ∷ rows) row hits own (mine, later, tells, rest, is) told = (
+answers-more patterns before (first ∷ rows) row hits own (mine, later, reports, rest, is) told = (
   mine,
   later ++ own,
-  tells,
+  reports,
   answers-more patterns (before ++ first ∷ []) rows row later own rest
-      (subst (λ (l : List Row). TellsRow patterns l own) (sym (append_assoc before (first ∷ []) (rows ++ row ∷ []))) told),
-  ap (λ (l : List Found). l ++ own) is ∙ append_assoc mine later own,
+      (subst (λ (l : List Row). ReportsRow patterns l own) (sym (append_assoc before (first ∷ []) (rows ++ row ∷ []))) told),
+  ap (λ (l : List Hit). l ++ own) is ∙ append_assoc mine later own,
 )

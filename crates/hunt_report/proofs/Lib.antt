@@ -5,9 +5,9 @@ mod SightingLemmas
 mod EnvelopeLemmas
 mod PlaceLemmas
 mod HitsLemmas
-mod SightLemmas
+mod HitSummaryLemmas
 mod HunterLemmas
-mod TellingLemmas
+mod HitReportingLemmas
 mod LinesLemmas
 mod ReportLemmas
 mod HuntableLemmas

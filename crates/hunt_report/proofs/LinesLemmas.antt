@@ -8,9 +8,9 @@ use Rattle.flow_edges.specs.Flow.{WritesPrefix}
 use Rattle.stix_ids.specs.Kind.{IsKind}
 use Rattle.match_bindings.specs.BindTree.{tree_of}
 use Rattle.match_run.proofs.PendingLemmas.{prefix-more}
-use Rattle.match_run.specs.OnItsWay.{IsOnItsWay}
+use Rattle.match_run.specs.Buffered.{IsBuffered}
 use Rattle.hunt_feed.specs.declared.hunted.Hunted.{Hunted}
-use Rattle.hunt_engine.specs.declared.found.Found.{Found}
+use Rattle.hunt_engine.specs.declared.found.Hit.{Hit}
 use Rattle.hunt_report.proofs.PlaceLemmas.{get_read}
 use Rattle.hunt_report.specs.Lines.{line_for, hit_line}
 
@@ -27,10 +27,10 @@ module _ {A : Type 0} (line : A → List ℕ) (xs : List A) (i : ℕ) (x : A) (w
       ap (flat_map line) (sym (take-append-drop (i + 1) xs)) ∙ flat_map-append line (take (i + 1) xs) (drop (i + 1) xs)
       ∙ ap (λ (t : List ℕ). t ++ flat_map line (drop (i + 1) xs)) lines_here
 
-  pub way_here : (before pending : List ℕ) (first now : Option (List ℕ)) → IsOnItsWay ((before ++ flat_map line (take i xs)) ++ line x) pending first now
-      → IsOnItsWay (before ++ flat_map line (take (i + 1) xs)) pending first now
+  pub way_here : (before pending : List ℕ) (first now : Option (List ℕ)) → IsBuffered ((before ++ flat_map line (take i xs)) ++ line x) pending first now
+      → IsBuffered (before ++ flat_map line (take (i + 1) xs)) pending first now
   way_here before pending first now way =
-      subst (λ (t : List ℕ). IsOnItsWay t pending first now)
+      subst (λ (t : List ℕ). IsBuffered t pending first now)
       (append_assoc before (flat_map line (take i xs)) (line x) ∙ ap (λ (t : List ℕ). before ++ t) (sym lines_here)) way
 
   -- a prefix of the lines up to that one is a prefix of all
@@ -44,7 +44,7 @@ module _ {A : Type 0} (line : A → List ℕ) (xs : List A) (i : ℕ) (x : A) (w
       (prefix-more ((before ++ flat_map line (take i xs)) ++ line x) rest first now prefix)
 
 -- the line of a hit whose indicator stands there
-pub line_at : (hunted : List Hunted) (hit : Found) (indicator : Hunted) → hit.hunted < length hunted → indicator ≡ get_or hunted hit.hunted indicator
+pub line_at : (hunted : List Hunted) (hit : Hit) (indicator : Hunted) → hit.hunted < length hunted → indicator ≡ get_or hunted hit.hunted indicator
     → line_for (Some indicator) (tree_of hit.bind) ≡ hit_line hunted hit
 line_at hunted hit indicator inside is = ap (λ (o : Option Hunted). line_for o (tree_of hit.bind)) (sym (get_read hunted hit.hunted indicator inside is))
 

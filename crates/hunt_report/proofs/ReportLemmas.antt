@@ -3,47 +3,47 @@ use Rattle.std.proofs.Common.{◌≡◌, inl, inr, ℕ, suc, ◌+◌, ◌<◌, �
 use Rattle.std.specs.Prelude.{codes, slice_get}
 use Rattle.std.proofs.lemmas.List.{append-nil, take_more}
 use Rattle.flow_edges.specs.Flow.{WritesPrefix}
-use Rattle.match_run.specs.OnItsWay.{IsOnItsWay}
+use Rattle.match_run.specs.Buffered.{IsBuffered}
 use Rattle.match_bindings.specs.BindTree.{BindTree}
 use Rattle.hunt_feed.specs.declared.hunted.Hunted.{Hunted}
-use Rattle.hunt_engine.specs.declared.found.Found.{Found}
+use Rattle.hunt_engine.specs.declared.found.Hit.{Hit}
 use Rattle.hunt_engine.specs.EngineLog.{Row}
 use Rattle.hunt_engine.specs.EngineAnswer.{binds_at}
 use Rattle.hunt_report.proofs.PlaceLemmas.{get_left}
 use Rattle.hunt_report.specs.Envelope.{opened}
-use Rattle.hunt_report.specs.declared.sight.Sight.{Sight}
-use Rattle.hunt_report.specs.Sights.{IsSightOf, IsSight, IsSighting, AreSightings, report_of, IsReport, begun_by, TellsReport}
+use Rattle.hunt_report.specs.declared.hit_summary.HitSummary.{HitSummary}
+use Rattle.hunt_report.specs.HitSummaries.{IsHitSummaryOf, IsHitSummary, IsSighting, AreSightings, report_of, IsReport, begun_by, IsReportText}
 use Rattle.hunt_report.specs.Hunting.{HunterState, HuntsOver}
-use Rattle.hunt_report.specs.inner.Reporting.{IsTextOf, TellsSight, TellsSights, is_begun, mark_of, end_of, TellsSoFar, TellsPart, AddsSight, BreaksAtSight}
+use Rattle.hunt_report.specs.inner.Reporting.{IsTextOf, ReportsHitSummary, ReportsHitSummaries, is_begun, mark_of, end_of, ReportsSoFar, ReportsPart, AddsHitSummary, BreaksAtHitSummary}
 
 -- ---- one indicator more
 
-pub tells-more : (moment : ℤ) (hunted : List Hunted) (sights : List (Option Sight)) (texts : List (List ℕ)) (indicator : Hunted) (sight : Option Sight)
-    (more : List (List ℕ)) → TellsSights moment hunted sights texts → TellsSight moment indicator sight more
-    → TellsSights moment (hunted ++ indicator ∷ []) (sights ++ sight ∷ []) (texts ++ more)
-tells-more moment [] [] texts indicator sight more tells own =
-    (more, [], own, refl, ap (λ (l : List (List ℕ)). l ++ more) tells ∙ sym (append-nil more))
-tells-more moment (h ∷ hunted) (s ∷ sights) texts indicator sight more (mine, later, told, rest, is) own = (
+pub reports-more : (moment : ℤ) (hunted : List Hunted) (hit_summaries : List (Option HitSummary)) (texts : List (List ℕ)) (indicator : Hunted) (hit_summary : Option HitSummary)
+    (more : List (List ℕ)) → ReportsHitSummaries moment hunted hit_summaries texts → ReportsHitSummary moment indicator hit_summary more
+    → ReportsHitSummaries moment (hunted ++ indicator ∷ []) (hit_summaries ++ hit_summary ∷ []) (texts ++ more)
+reports-more moment [] [] texts indicator hit_summary more reports own =
+    (more, [], own, refl, ap (λ (l : List (List ℕ)). l ++ more) reports ∙ sym (append-nil more))
+reports-more moment (h ∷ hunted) (s ∷ hit_summaries) texts indicator hit_summary more (mine, later, told, rest, is) own = (
   mine,
   later ++ more,
   told,
-  tells-more moment hunted sights later indicator sight more rest own,
+  reports-more moment hunted hit_summaries later indicator hit_summary more rest own,
   ap (λ (l : List (List ℕ)). l ++ more) is ∙ append_assoc mine later more,
 )
-tells-more moment [] (s ∷ sights) texts indicator sight more tells own = absurd tells
-tells-more moment (h ∷ hunted) [] texts indicator sight more tells own = absurd tells
+reports-more moment [] (s ∷ hit_summaries) texts indicator hit_summary more reports own = absurd reports
+reports-more moment (h ∷ hunted) [] texts indicator hit_summary more reports own = absurd reports
 
 -- up to a place
-pub tells-here : (moment : ℤ) (hunted : List Hunted) (sights : List (Option Sight)) (at : ℕ) (texts : List (List ℕ)) (indicator : Hunted) (sight : Option Sight)
-    (more : List (List ℕ)) → at < length hunted → indicator ≡ get_or hunted at indicator → at < length sights → sight ≡ get_or sights at sight
-    → TellsSights moment (take at hunted) (take at sights) texts → TellsSight moment indicator sight more
-    → TellsSights moment (take (at + 1) hunted) (take (at + 1) sights) (texts ++ more)
-tells-here moment hunted sights at texts indicator sight more within is inside same tells own =
-    subst (λ (l : List Hunted). TellsSights moment l (take (at + 1) sights) (texts ++ more))
+pub reports-here : (moment : ℤ) (hunted : List Hunted) (hit_summaries : List (Option HitSummary)) (at : ℕ) (texts : List (List ℕ)) (indicator : Hunted) (hit_summary : Option HitSummary)
+    (more : List (List ℕ)) → at < length hunted → indicator ≡ get_or hunted at indicator → at < length hit_summaries → hit_summary ≡ get_or hit_summaries at hit_summary
+    → ReportsHitSummaries moment (take at hunted) (take at hit_summaries) texts → ReportsHitSummary moment indicator hit_summary more
+    → ReportsHitSummaries moment (take (at + 1) hunted) (take (at + 1) hit_summaries) (texts ++ more)
+reports-here moment hunted hit_summaries at texts indicator hit_summary more within is inside same reports own =
+    subst (λ (l : List Hunted). ReportsHitSummaries moment l (take (at + 1) hit_summaries) (texts ++ more))
     (sym (take_more hunted at indicator within ∙ ap (λ (h : Hunted). take at hunted ++ h ∷ []) (sym is)))
-    (subst (λ (l : List (Option Sight)). TellsSights moment (take at hunted ++ indicator ∷ []) l (texts ++ more))
-    (sym (take_more sights at sight inside ∙ ap (λ (s : Option Sight). take at sights ++ s ∷ []) (sym same)))
-    (tells-more moment (take at hunted) (take at sights) texts indicator sight more tells own))
+    (subst (λ (l : List (Option HitSummary)). ReportsHitSummaries moment (take at hunted ++ indicator ∷ []) l (texts ++ more))
+    (sym (take_more hit_summaries at hit_summary inside ∙ ap (λ (s : Option HitSummary). take at hit_summaries ++ s ∷ []) (sym same)))
+    (reports-more moment (take at hunted) (take at hit_summaries) texts indicator hit_summary more reports own))
 
 -- ---- the text of an envelope, and one text more
 
@@ -70,37 +70,37 @@ report-whole (text ∷ texts) = sym (append_assoc (opened (text ∷ texts)) (cod
 
 -- ---- what is kept is what was seen
 
-sighting_of : (moment : ℤ) (rows : List Row) (indicator : Hunted) (trees : List BindTree) (sight : Sight) (text : List ℕ) → IsSightOf rows trees sight
-    → IsTextOf moment indicator sight text → IsSighting moment rows indicator trees text
-sighting_of moment rows indicator trees sight text is of = record {
+sighting_of : (moment : ℤ) (rows : List Row) (indicator : Hunted) (trees : List BindTree) (hit_summary : HitSummary) (text : List ℕ) → IsHitSummaryOf rows trees hit_summary
+    → IsTextOf moment indicator hit_summary text → IsSighting moment rows indicator trees text
+sighting_of moment rows indicator trees hit_summary text is of = record {
   seen = of.seen;
   seen_is = record {
     indicator_is = of.indicator_is;
     created_is = of.created_is;
-    sight = subst (IsSightOf rows trees) (same of.count_is of.first_is of.last_is) is;
+    hit_summary = subst (IsHitSummaryOf rows trees) (same of.count_is of.first_is of.last_is) is;
   };
   text_is = of.text_is;
 }
   where
-    same : of.seen.count ≡ sight.count → of.seen.first ≡ sight.first → of.seen.last ≡ sight.last
-        → sight ≡ record { count = of.seen.count; first = of.seen.first; last = of.seen.last }
+    same : of.seen.count ≡ hit_summary.count → of.seen.first ≡ hit_summary.first → of.seen.last ≡ hit_summary.last
+        → hit_summary ≡ record { count = of.seen.count; first = of.seen.first; last = of.seen.last }
     same a b c = λ i. record { count = sym a i; first = sym b i; last = sym c i }
 
-pub are-sightings : (moment : ℤ) (rows : List Row) (hits : List Found) (place : ℕ) (hunted : List Hunted) (sights : List (Option Sight)) (texts : List (List ℕ))
-    → ((k : ℕ) (sight : Option Sight) → slice_get sights k ≡ Some sight → IsSight rows (binds_at (place + k) hits) sight)
-    → TellsSights moment hunted sights texts → AreSightings moment rows hits place hunted texts
-are-sightings moment rows hits place [] [] texts are tells = tells
-are-sightings moment rows hits place [] (s ∷ sights) texts are tells = absurd tells
-are-sightings moment rows hits place (h ∷ hunted) [] texts are tells = absurd tells
-are-sightings moment rows hits place (h ∷ hunted) (sight ∷ sights) texts are (own, later, told, rest, is) =
-    by sight (are 0 sight refl) told
-    (are-sightings moment rows hits (place + 1) hunted sights later
-    (λ k s at. let next : place + suc k ≡ (place + 1) + k = omega arith in subst (λ (n : ℕ). IsSight rows (binds_at n hits) s) next (are (suc k) s at)) rest)
+pub are-sightings : (moment : ℤ) (rows : List Row) (hits : List Hit) (place : ℕ) (hunted : List Hunted) (hit_summaries : List (Option HitSummary)) (texts : List (List ℕ))
+    → ((k : ℕ) (hit_summary : Option HitSummary) → slice_get hit_summaries k ≡ Some hit_summary → IsHitSummary rows (binds_at (place + k) hits) hit_summary)
+    → ReportsHitSummaries moment hunted hit_summaries texts → AreSightings moment rows hits place hunted texts
+are-sightings moment rows hits place [] [] texts are reports = reports
+are-sightings moment rows hits place [] (s ∷ hit_summaries) texts are reports = absurd reports
+are-sightings moment rows hits place (h ∷ hunted) [] texts are reports = absurd reports
+are-sightings moment rows hits place (h ∷ hunted) (hit_summary ∷ hit_summaries) texts are (own, later, told, rest, is) =
+    by hit_summary (are 0 hit_summary refl) told
+    (are-sightings moment rows hits (place + 1) hunted hit_summaries later
+    (λ k s at. let next : place + suc k ≡ (place + 1) + k = omega arith in subst (λ (n : ℕ). IsHitSummary rows (binds_at n hits) s) next (are (suc k) s at)) rest)
   where
     here : place + 0 ≡ place
     here = omega arith
 
-    by : (s : Option Sight) → IsSight rows (binds_at (place + 0) hits) s → TellsSight moment h s own → AreSightings moment rows hits (place + 1) hunted later
+    by : (s : Option HitSummary) → IsHitSummary rows (binds_at (place + 0) hits) s → ReportsHitSummary moment h s own → AreSightings moment rows hits (place + 1) hunted later
         → AreSightings moment rows hits place (h ∷ hunted) texts
     by None seen none more =
         let whole : texts ≡ later = is ∙ ap (λ (l : List (List ℕ)). l ++ later) none in
@@ -108,32 +108,32 @@ are-sightings moment rows hits place (h ∷ hunted) (sight ∷ sights) texts are
     by (Some s) seen (text, of, one) more = inr (
       text,
       later,
-      sighting_of moment rows h (binds_at place hits) s text (subst (λ (n : ℕ). IsSightOf rows (binds_at n hits) s) here seen) of,
+      sighting_of moment rows h (binds_at place hits) s text (subst (λ (n : ℕ). IsHitSummaryOf rows (binds_at n hits) s) here seen) of,
       more,
       is ∙ ap (λ (l : List (List ℕ)). l ++ later) one,
     )
 
 -- ---- the line, or its beginning
 
-module _ (moment : ℤ) (rows : List Row) (hits : List Found) (hunter : HunterState) (hunts : HuntsOver hunter rows hits) where
+module _ (moment : ℤ) (rows : List Row) (hits : List Hit) (hunter : HunterState) (hunts : HuntsOver hunter rows hits) where
   -- of the first indicators
-  first_sightings : (front : List Hunted) (seen unseen : List (Option Sight)) (texts : List (List ℕ)) → hunter.sights ≡ seen ++ unseen
-      → TellsSights moment front seen texts → AreSightings moment rows hits 0 front texts
-  first_sightings front seen unseen texts are tells =
+  first_sightings : (front : List Hunted) (seen unseen : List (Option HitSummary)) (texts : List (List ℕ)) → hunter.hit_summaries ≡ seen ++ unseen
+      → ReportsHitSummaries moment front seen texts → AreSightings moment rows hits 0 front texts
+  first_sightings front seen unseen texts are reports =
       are-sightings moment rows hits 0 front seen texts
-      (λ k sight at. let none : 0 + k ≡ k = omega arith in
-      subst (λ (n : ℕ). IsSight rows (binds_at n hits) sight) (sym none)
-      (hunts.sights k sight (ap (λ (l : List (Option Sight)). slice_get l k) are ∙ get_left seen unseen k sight at))) tells
+      (λ k hit_summary at. let none : 0 + k ≡ k = omega arith in
+      subst (λ (n : ℕ). IsHitSummary rows (binds_at n hits) hit_summary) (sym none)
+      (hunts.hit_summaries k hit_summary (ap (λ (l : List (Option HitSummary)). slice_get l k) are ∙ get_left seen unseen k hit_summary at))) reports
 
-  pub all_sightings : (texts : List (List ℕ)) → TellsSights moment hunter.hunted hunter.sights texts → AreSightings moment rows hits 0 hunter.hunted texts
-  all_sightings texts tells = first_sightings hunter.hunted hunter.sights [] texts (sym (append-nil hunter.sights)) tells
+  pub all_sightings : (texts : List (List ℕ)) → ReportsHitSummaries moment hunter.hunted hunter.hit_summaries texts → AreSightings moment rows hits 0 hunter.hunted texts
+  all_sightings texts reports = first_sightings hunter.hunted hunter.hit_summaries [] texts (sym (append-nil hunter.hit_summaries)) reports
 
-  pub report : (texts : List (List ℕ)) → TellsSights moment hunter.hunted hunter.sights texts → IsReport moment rows hits hunter.hunted (report_of texts)
-  report texts tells = record { texts = texts; sightings = all_sightings texts tells; text_is = refl }
+  pub report : (texts : List (List ℕ)) → ReportsHitSummaries moment hunter.hunted hunter.hit_summaries texts → IsReport moment rows hits hunter.hunted (report_of texts)
+  report texts reports = record { texts = texts; sightings = all_sightings texts reports; text_is = refl }
 
   -- a part of what is told is a beginning of the line
-  pub part_of_report : (first now : Option (List ℕ)) → TellsPart moment hunter.hunted hunter.sights first now
-      → (text : List ℕ) × TellsReport moment rows hits hunter.hunted text × WritesPrefix text first now
+  pub part_of_report : (first now : Option (List ℕ)) → ReportsPart moment hunter.hunted hunter.hit_summaries first now
+      → (text : List ℕ) × IsReportText moment rows hits hunter.hunted text × WritesPrefix text first now
   part_of_report first now part = (
     begun_by part.texts,
     inr (record {
@@ -141,7 +141,7 @@ module _ (moment : ℤ) (rows : List Row) (hits : List Found) (hunter : HunterSt
       later = part.later;
       hunted_are = part.hunted_are;
       texts = part.texts;
-      sightings = first_sightings part.front part.seen part.unseen part.texts part.sights_are part.tells;
+      sightings = first_sightings part.front part.seen part.unseen part.texts part.hit_summaries_are part.reports;
       text_is = refl;
     }),
     part.prefix,
@@ -149,63 +149,63 @@ module _ (moment : ℤ) (rows : List Row) (hits : List Found) (hunter : HunterSt
 
 -- ---- the indicators up to a place
 
-module _ (moment : ℤ) (hunted : List Hunted) (sights : List (Option Sight)) (at : ℕ) (indicator : Hunted) (sight : Option Sight) (within : at < length hunted)
-    (is : indicator ≡ get_or hunted at indicator) (inside : at < length sights) (same : sight ≡ get_or sights at sight) (first : Option (List ℕ)) where
+module _ (moment : ℤ) (hunted : List Hunted) (hit_summaries : List (Option HitSummary)) (at : ℕ) (indicator : Hunted) (hit_summary : Option HitSummary) (within : at < length hunted)
+    (is : indicator ≡ get_or hunted at indicator) (inside : at < length hit_summaries) (same : hit_summary ≡ get_or hit_summaries at hit_summary) (first : Option (List ℕ)) where
   -- one more is on its way
-  pub goes-on : (now : Option (List ℕ)) (begun : Bool) (pending : List ℕ) (texts : List (List ℕ)) → TellsSights moment (take at hunted) (take at sights) texts
-      → AddsSight moment indicator sight texts begun pending first now → TellsSoFar moment (take (at + 1) hunted) (take (at + 1) sights) begun pending first now
-  goes-on now begun pending texts tells adds = record {
+  pub goes-on : (now : Option (List ℕ)) (begun : Bool) (pending : List ℕ) (texts : List (List ℕ)) → ReportsHitSummaries moment (take at hunted) (take at hit_summaries) texts
+      → AddsHitSummary moment indicator hit_summary texts begun pending first now → ReportsSoFar moment (take (at + 1) hunted) (take (at + 1) hit_summaries) begun pending first now
+  goes-on now begun pending texts reports adds = record {
     texts = texts ++ adds.more;
-    tells = tells-here moment hunted sights at texts indicator sight adds.more within is inside same tells adds.tells;
+    reports = reports-here moment hunted hit_summaries at texts indicator hit_summary adds.more within is inside same reports adds.reports;
     begun_is = adds.begun_is;
     way = adds.way;
   }
 
   -- or was cut
-  pub breaks-off : (now : Option (List ℕ)) (texts : List (List ℕ)) → TellsSights moment (take at hunted) (take at sights) texts
-      → BreaksAtSight moment indicator sight texts first now → TellsPart moment hunted sights first now
-  breaks-off now texts tells (inl prefix) = record {
+  pub breaks-off : (now : Option (List ℕ)) (texts : List (List ℕ)) → ReportsHitSummaries moment (take at hunted) (take at hit_summaries) texts
+      → BreaksAtHitSummary moment indicator hit_summary texts first now → ReportsPart moment hunted hit_summaries first now
+  breaks-off now texts reports (inl prefix) = record {
     front = take at hunted;
     later = drop at hunted;
     hunted_are = sym (take-append-drop at hunted);
-    seen = take at sights;
-    unseen = drop at sights;
-    sights_are = sym (take-append-drop at sights);
+    seen = take at hit_summaries;
+    unseen = drop at hit_summaries;
+    hit_summaries_are = sym (take-append-drop at hit_summaries);
     texts = texts;
-    tells = tells;
+    reports = reports;
     prefix = prefix;
   }
-  breaks-off now texts tells (inr cut) = record {
+  breaks-off now texts reports (inr cut) = record {
     front = take (at + 1) hunted;
     later = drop (at + 1) hunted;
     hunted_are = sym (take-append-drop (at + 1) hunted);
-    seen = take (at + 1) sights;
-    unseen = drop (at + 1) sights;
-    sights_are = sym (take-append-drop (at + 1) sights);
+    seen = take (at + 1) hit_summaries;
+    unseen = drop (at + 1) hit_summaries;
+    hit_summaries_are = sym (take-append-drop (at + 1) hit_summaries);
     texts = texts ++ cut.more;
-    tells = tells-here moment hunted sights at texts indicator sight cut.more within is inside same tells cut.tells;
+    reports = reports-here moment hunted hit_summaries at texts indicator hit_summary cut.more within is inside same reports cut.reports;
     prefix = cut.prefix;
   }
 
 -- ---- one sighting
 
-module _ (first_text : FirstText) (other_text : OtherText) (moment : ℤ) (indicator : Hunted) (sight : Sight) (texts : List (List ℕ)) (text : List ℕ)
-    (of : IsTextOf moment indicator sight text) (first now : Option (List ℕ)) where
-  pub adds-one : (begun : Bool) (pending : List ℕ) → begun ≡ is_begun texts → IsOnItsWay (begun_by texts ++ (mark_of begun ++ text)) pending first now
-      → AddsSight moment indicator (Some sight) texts true pending first now
+module _ (first_text : FirstText) (other_text : OtherText) (moment : ℤ) (indicator : Hunted) (hit_summary : HitSummary) (texts : List (List ℕ)) (text : List ℕ)
+    (of : IsTextOf moment indicator hit_summary text) (first now : Option (List ℕ)) where
+  pub adds-one : (begun : Bool) (pending : List ℕ) → begun ≡ is_begun texts → IsBuffered (begun_by texts ++ (mark_of begun ++ text)) pending first now
+      → AddsHitSummary moment indicator (Some hit_summary) texts true pending first now
   adds-one begun pending same way = record {
     more = text ∷ [];
-    tells = (text, of, refl);
+    reports = (text, of, refl);
     begun_is = sym (begun_is-more texts text);
-    way = subst (λ (t : List ℕ). IsOnItsWay t pending first now) (begun-more first_text other_text texts text)
-        (subst (λ (b : Bool). IsOnItsWay (begun_by texts ++ (mark_of b ++ text)) pending first now) same way);
+    way = subst (λ (t : List ℕ). IsBuffered t pending first now) (begun-more first_text other_text texts text)
+        (subst (λ (b : Bool). IsBuffered (begun_by texts ++ (mark_of b ++ text)) pending first now) same way);
   }
 
   pub cuts-one : (begun : Bool) → begun ≡ is_begun texts → WritesPrefix (begun_by texts ++ (mark_of begun ++ text)) first now
-      → BreaksAtSight moment indicator (Some sight) texts first now
+      → BreaksAtHitSummary moment indicator (Some hit_summary) texts first now
   cuts-one begun same prefix = inr (record {
     more = text ∷ [];
-    tells = (text, of, refl);
+    reports = (text, of, refl);
     prefix = subst (λ (t : List ℕ). WritesPrefix t first now) (begun-more first_text other_text texts text)
         (subst (λ (b : Bool). WritesPrefix (begun_by texts ++ (mark_of b ++ text)) first now) same prefix);
   })

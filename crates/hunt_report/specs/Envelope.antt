@@ -4,14 +4,14 @@ use Rattle.serde_json.specs.Data.{Data, array, object, no_members, member}
 use Rattle.serde_json.specs.View.{items_of}
 
 -- texts, each behind a comma
-abbrev pub behind : List (List ℕ) → List ℕ
-behind [] = []
-behind (text ∷ texts) = codes "," ++ (text ++ behind texts)
+abbrev pub comma_joined : List (List ℕ) → List ℕ
+comma_joined [] = []
+comma_joined (text ∷ texts) = codes "," ++ (text ++ comma_joined texts)
 
 -- texts with a comma between each two
 abbrev pub listed : List (List ℕ) → List ℕ
 listed [] = []
-listed (text ∷ texts) = text ++ behind texts
+listed (text ∷ texts) = text ++ comma_joined texts
 
 -- the envelope up to the last of these texts
 abbrev pub opened : List (List ℕ) → List ℕ

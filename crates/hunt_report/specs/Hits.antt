@@ -5,33 +5,33 @@ use Rattle.pattern_types.specs.PlainPattern.{plain_pattern}
 use Rattle.match_bindings.specs.declared.log_entry.LogEntry.{LogEntry}
 use Rattle.match_bindings.specs.BindTree.{greatest, tree_of}
 use Rattle.match_run.specs.Listing.{AreBindings}
-use Rattle.match_run.specs.Matching.{IsNeverCrowded}
-use Rattle.hunt_engine.specs.declared.found.Found.{Found}
+use Rattle.match_run.specs.Matching.{IsNeverOverLimit}
+use Rattle.hunt_engine.specs.declared.found.Hit.{Hit}
 use Rattle.hunt_engine.specs.EngineLog.{Row, IsLogOf}
-use Rattle.hunt_engine.specs.EngineAnswer.{binds_at, TellsRow}
+use Rattle.hunt_engine.specs.EngineAnswer.{binds_at, ReportsRow}
 
 -- the observation at which a hit ends, by its number
-abbrev pub end_of : Found → ℕ
+abbrev pub end_of : Hit → ℕ
 end_of hit = greatest (tree_of hit.bind)
 
 -- a hit that ends earlier than another one, or at the same observation, of an indicator whose place isn't behind the other's
-abbrev pub ComesBefore : Found → Found → Type 0
+abbrev pub ComesBefore : Hit → Hit → Type 0
 ComesBefore hit other = (end_of hit < end_of other) ⊎ ((end_of hit ≡ end_of other) × (hit.hunted ≤ other.hunted))
 
 -- the merge of the listings of the patterns over the log that the rows are to each: by observation, and then by place
-pub record AreHits (patterns : List Pattern) (rows : List Row) (hits : List Found) : Type 0 where
+pub record AreHits (patterns : List Pattern) (rows : List Row) (hits : List Hit) : Type 0 where
   pub listings : (place : ℕ) (p : Pattern) → slice_get patterns place ≡ Some p
       → (log : List LogEntry) × IsLogOf (plain_pattern p) rows log × AreBindings p log (binds_at place hits)
   pub no_other : (place : ℕ) → slice_get patterns place ≡ None → binds_at place hits ≡ []
-  pub merged : (j k : ℕ) (hit other : Found) → j < k → slice_get hits j ≡ Some hit → slice_get hits k ≡ Some other → ComesBefore hit other
+  pub merged : (j k : ℕ) (hit other : Hit) → j < k → slice_get hits j ≡ Some hit → slice_get hits k ≡ Some other → ComesBefore hit other
 
--- at no row more of a pattern is live than the cap allows
-abbrev pub AreNeverCrowded : List Pattern → ℕ → List Row → Type 0
-AreNeverCrowded patterns cap rows = (place : ℕ) (p : Pattern) → slice_get patterns place ≡ Some p
-    → (log : List LogEntry) × IsLogOf (plain_pattern p) rows log × IsNeverCrowded p cap log
+-- at no row more of a pattern is live than the retained limit allows
+abbrev pub AreNeverOverLimit : List Pattern → ℕ → List Row → Type 0
+AreNeverOverLimit patterns retained_limit rows = (place : ℕ) (p : Pattern) → slice_get patterns place ≡ Some p
+    → (log : List LogEntry) × IsLogOf (plain_pattern p) rows log × IsNeverOverLimit p retained_limit log
 
 -- the answers to some rows in turn, one after another, where the rows before were taken
-abbrev pub AnswerRows : List Pattern → List Row → List Row → List Found → Type 0
+abbrev pub AnswerRows : List Pattern → List Row → List Row → List Hit → Type 0
 AnswerRows patterns before [] hits = hits ≡ []
-AnswerRows patterns before (row ∷ rows) hits = (own : List Found) × (later : List Found) × TellsRow patterns (before ++ row ∷ []) own
+AnswerRows patterns before (row ∷ rows) hits = (own : List Hit) × (later : List Hit) × ReportsRow patterns (before ++ row ∷ []) own
     × AnswerRows patterns (before ++ row ∷ []) rows later × (hits ≡ own ++ later)

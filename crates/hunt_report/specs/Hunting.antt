@@ -9,23 +9,23 @@ use Rattle.pattern_types.specs.PlainPattern.{plain_pattern}
 use Rattle.pattern_types.specs.Soundness.{IsSoundPattern}
 use Rattle.match_input.specs.Reading.{BundleOf}
 use Rattle.hunt_feed.specs.declared.hunted.Hunted.{Hunted}
-use Rattle.hunt_engine.specs.declared.found.Found.{Found}
+use Rattle.hunt_engine.specs.declared.found.Hit.{Hit}
 use Rattle.hunt_engine.specs.EngineLog.{Row, row_of}
-use Rattle.hunt_engine.specs.EngineState.{EngineState, EngineStandsFor}
-use Rattle.hunt_engine.specs.EngineAnswer.{binds_at, IsFirstCrowded}
-use Rattle.hunt_report.specs.declared.sight.Sight.{Sight}
-use Rattle.hunt_report.specs.declared.crowded.Crowded.{Crowded}
+use Rattle.hunt_engine.specs.EngineState.{EngineState, EngineRepresents}
+use Rattle.hunt_engine.specs.EngineAnswer.{binds_at, IsFirstOverLimit}
+use Rattle.hunt_report.specs.declared.hit_summary.HitSummary.{HitSummary}
+use Rattle.hunt_report.specs.declared.over_limit.OverLimit.{OverLimit}
 use Rattle.hunt_report.specs.Rows.{rows_over}
-use Rattle.hunt_report.specs.Hits.{AnswerRows, AreNeverCrowded}
+use Rattle.hunt_report.specs.Hits.{AnswerRows, AreNeverOverLimit}
 use Rattle.hunt_report.specs.Lines.{hits_text}
-use Rattle.hunt_report.specs.Sights.{IsSight}
+use Rattle.hunt_report.specs.HitSummaries.{IsHitSummary}
 
 -- who hunts, without where it lies in memory
 pub record HunterState : Type 0 where
   pub hunted : List Hunted
   pub engine : EngineState
   -- what was seen of each
-  pub sights : List (Option Sight)
+  pub hit_summaries : List (Option HitSummary)
 
 abbrev pub patterns_of : List Hunted → List Pattern
 patterns_of hunted = map (λ indicator. indicator.pattern) hunted
@@ -37,29 +37,29 @@ pub record IsHuntable (indicator : Hunted) : Type 0 where
   pub sound : IsSoundPattern (plain_pattern indicator.pattern)
   pub narrow : leaves indicator.pattern < 2 ^ 32
 
--- it hunted over these rows, and these are the hits: its engine stands for the rows, at none of which a pattern was crowded, and it
+-- it hunted over these rows, and these are the hits: its engine stands for the rows, at none of which a pattern was over limit, and it
 -- knows what was seen of each indicator
-pub record HuntsOver (hunter : HunterState) (rows : List Row) (hits : List Found) : Type 0 where
+pub record HuntsOver (hunter : HunterState) (rows : List Row) (hits : List Hit) : Type 0 where
   pub patterns : hunter.engine.patterns ≡ patterns_of hunter.hunted
-  pub engine : EngineStandsFor hunter.engine rows
+  pub engine : EngineRepresents hunter.engine rows
   pub answers : AnswerRows (patterns_of hunter.hunted) [] rows hits
-  pub roomy : AreNeverCrowded (patterns_of hunter.hunted) hunter.engine.cap rows
-  pub count : length hunter.sights ≡ length hunter.hunted
-  pub sights : (place : ℕ) (sight : Option Sight) → slice_get hunter.sights place ≡ Some sight → IsSight rows (binds_at place hits) sight
+  pub within_limit : AreNeverOverLimit (patterns_of hunter.hunted) hunter.engine.retained_limit rows
+  pub count : length hunter.hit_summaries ≡ length hunter.hunted
+  pub hit_summaries : (place : ℕ) (hit_summary : Option HitSummary) → slice_get hunter.hit_summaries place ≡ Some hit_summary → IsHitSummary rows (binds_at place hits) hit_summary
 
 -- it hunts over some rows
 pub record IsReady (hunter : HunterState) : Type 0 where
   pub huntable : All IsHuntable hunter.hunted
   pub rows : List Row
-  pub hits : List Found
+  pub hits : List Hit
   pub hunts : HuntsOver hunter rows hits
 
 -- behind whatever rows, it hunted over some more, and told their hits
 pub record TakesRows (rows : List Row) (before after : HunterState) (text : List ℕ) : Type 0 where
   pub hunted : after.hunted ≡ before.hunted
-  pub cap : after.engine.cap ≡ before.engine.cap
-  pub takes : (earlier : List Row) (hits : List Found) → HuntsOver before earlier hits
-      → (more : List Found) × HuntsOver after (earlier ++ rows) (hits ++ more) × (text ≡ hits_text before.hunted more)
+  pub retained_limit : after.engine.retained_limit ≡ before.engine.retained_limit
+  pub takes : (earlier : List Row) (hits : List Hit) → HuntsOver before earlier hits
+      → (more : List Hit) × HuntsOver after (earlier ++ rows) (hits ++ more) × (text ≡ hits_text before.hunted more)
 
 -- it saw a bundle
 abbrev pub SeesBundle : HunterState → BundleOf → HunterState → List ℕ → Type 0
@@ -77,18 +77,18 @@ pub record TakesFirst (objects : List Data) (observations : List Observation) (b
 abbrev pub BeginsBundle : HunterState → BundleOf → List ℕ → Type 0
 BeginsBundle before bundle text = TakesFirst bundle.objects bundle.observations before text
 
--- it told this of the observations ahead of one at which a pattern is crowded, the first such place
-pub record TakesUpTo (objects : List Data) (observations : List Observation) (before : HunterState) (why : Crowded) (text : List ℕ) : Type 0 where
+-- it told this of the observations ahead of one at which a pattern is over limit, the first such place
+pub record TakesUpTo (objects : List Data) (observations : List Observation) (before : HunterState) (why : OverLimit) (text : List ℕ) : Type 0 where
   pub seen : List Observation
   pub observation : Observation
   pub later : List Observation
   pub observations_are : observations ≡ seen ++ observation ∷ later
   pub after : HunterState
   pub takes : TakesRows (rows_over objects seen) before after text
-  pub crowded : (earlier : List Row) (hits : List Found) → HuntsOver before earlier hits
-      → IsFirstCrowded (patterns_of before.hunted) before.engine.cap ((earlier ++ rows_over objects seen) ++ row_of observation objects ∷ [])
-      why.hunted why.number why.cap
+  pub over_limit : (earlier : List Row) (hits : List Hit) → HuntsOver before earlier hits
+      → IsFirstOverLimit (patterns_of before.hunted) before.engine.retained_limit ((earlier ++ rows_over objects seen) ++ row_of observation objects ∷ [])
+      why.hunted why.number why.retained_limit
 
 -- of those of a bundle
-abbrev pub StopsInBundle : HunterState → BundleOf → Crowded → List ℕ → Type 0
+abbrev pub StopsInBundle : HunterState → BundleOf → OverLimit → List ℕ → Type 0
 StopsInBundle before bundle why text = TakesUpTo bundle.objects bundle.observations before why text

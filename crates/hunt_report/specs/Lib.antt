@@ -4,5 +4,5 @@ pub mod inner
 pub mod Rows
 pub mod Hits
 pub mod Lines
-pub mod Sights
+pub mod HitSummaries
 pub mod Hunting

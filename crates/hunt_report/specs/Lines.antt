@@ -1,4 +1,4 @@
--- What a hunt tells of its indicators: which are skipped, and each hit.
+-- What a hunt reports of its indicators: which are skipped, and each hit.
 use Rattle.std.specs.Prelude.{ℕ, List, [], ◌++◌, codes, Option, Some, None, slice_get}
 use Rattle.std.specs.List.{flat_map}
 use Rattle.stix_ids.specs.Identifier.{canonical_text}
@@ -7,7 +7,7 @@ use Rattle.match_bindings.specs.BindTree.{BindTree, tree_of}
 use Rattle.match_bindings.specs.Line.{line_text}
 use Rattle.hunt_feed.specs.declared.hunted.Hunted.{Hunted}
 use Rattle.hunt_feed.specs.declared.hunted.Skipped.{Skipped}
-use Rattle.hunt_engine.specs.declared.found.Found.{Found}
+use Rattle.hunt_engine.specs.declared.found.Hit.{Hit}
 
 -- skipped ID: NAME at N, the place where there is one
 abbrev pub skipped_line : Skipped → List ℕ
@@ -21,8 +21,8 @@ abbrev pub line_for : Option Hunted → BindTree → List ℕ
 line_for (Some indicator) tree = canonical_text indicator.id ++ (codes " " ++ line_text tree)
 line_for None tree = []
 
-abbrev pub hit_line : List Hunted → Found → List ℕ
+abbrev pub hit_line : List Hunted → Hit → List ℕ
 hit_line hunted hit = line_for (slice_get hunted hit.hunted) (tree_of hit.bind)
 
-abbrev pub hits_text : List Hunted → List Found → List ℕ
+abbrev pub hits_text : List Hunted → List Hit → List ℕ
 hits_text hunted hits = flat_map (hit_line hunted) hits

@@ -1,5 +1,5 @@
 -- The sighting of what was seen of an indicator (STIX 2.1, section 5.2): it has the indicator's UUID and is created when
--- the indicator was, so that each run of a hunt tells a version of one object.
+-- the indicator was, so that each run of a hunt reports a version of one object.
 use Rattle.std.specs.Prelude.{◌≡◌, ◌⊎◌, ℕ, ◌%◌, ◌==◌, min, ℤ, pos, ◌≤ℤ◌, ◌<ℤ◌, ◌+ℤ◌, unsigned_abs, List, [], ◌∷◌, codes, if◌then◌else◌}
 use Rattle.serde_json.specs.Data.{Data, number, string, object}
 use Rattle.serde_json.specs.Find.{of_integer}
@@ -8,12 +8,12 @@ use Rattle.stix_ids.specs.declared.id.Id.{Id}
 use Rattle.stix_ids.specs.Identifier.{IsCanonicalTextOf as IsCanonicalIdOf}
 use Rattle.stix_json.specs.DataOf.{Member, members_of}
 use Rattle.stix_times.specs.Writing.{IsCanonicalTextOf, IsTextOfDigits, IsWhole}
-use Rattle.hunt_report.specs.declared.seen.Seen.{Seen}
+use Rattle.hunt_report.specs.declared.seen.SightingInput.{SightingInput}
 use Rattle.hunt_report.specs.declared.seen.TheConstants.{MAX_COUNT}
 
 -- what may be told of an indicator: it was created at a whole number of microseconds, and the last binding didn't end
 -- before the first
-pub record IsSeen (seen : Seen) : Type 0 where
+pub record IsSeen (seen : SightingInput) : Type 0 where
   pub kind : seen.indicator.now.kind ≡ codes "indicator"
   pub created : IsWhole 1000 seen.created
   pub in_order : seen.first ≤ℤ seen.last
@@ -63,7 +63,7 @@ abbrev pub sighting_id : Id → Id
 sighting_id indicator = record { kind = codes "sighting"; number = indicator.number }
 
 -- the sighting that is made at the moment of what was seen
-pub record IsSightingOf (moment : ℤ) (seen : Seen) (d : Data) : Type 0 where
+pub record IsSightingOf (moment : ℤ) (seen : SightingInput) (d : Data) : Type 0 where
   pub created : List ℕ
   pub created_is : IsVersionText seen.created created
   pub instant : ℤ
@@ -81,7 +81,7 @@ pub record IsSightingOf (moment : ℤ) (seen : Seen) (d : Data) : Type 0 where
   pub is : d ≡ sighting_data (min seen.count MAX_COUNT) created first id last modified of
 
 -- its text
-pub record IsSightingText (moment : ℤ) (seen : Seen) (text : List ℕ) : Type 0 where
+pub record IsSightingText (moment : ℤ) (seen : SightingInput) (text : List ℕ) : Type 0 where
   pub data_is : Data
   pub sighting : IsSightingOf moment seen data_is
   pub written : text ≡ compact_text data_is

@@ -1,5 +1,5 @@
 pub mod Adding
 pub mod Noting
 pub mod Built
-pub mod Telling
+pub mod HitReporting
 pub mod Reporting

@@ -7,7 +7,7 @@ ghost use Rattle.stix_objects.specs.Breaks.{AreBreaksOf};
 ghost use Rattle.pattern_types.specs.declared.pattern.Pattern.{Pattern};
 ghost use Rattle.hunt_feed.specs.declared.hunted.Hunt.{Hunt};
 ghost use Rattle.hunt_feed.specs.Indicators.{IsHuntOf};
-ghost use Rattle.hunt_engine.specs.declared.found.Found.{Found};
+ghost use Rattle.hunt_engine.specs.declared.found.Hit.{Hit};
 ghost use Rattle.hunt_engine.specs.EngineLog.{Row};
 ghost use Rattle.hunt_report.specs.Hits.{AnswerRows, AreHits};
 ghost use Rattle.hunt_report.specs.Hunting.{IsHuntable};
@@ -20,7 +20,7 @@ use hunt_engine::laws::one_log;
 
 /// The answers to the rows of a log, one after another, are its hits.
 pub fn answers_are_the_hits()
-    ensures { (patterns : List Pattern) (rows : List Row) (hits : List Found) → AnswerRows patterns [] rows hits → AreHits patterns rows hits }
+    ensures { (patterns : List Pattern) (rows : List Row) (hits : List Hit) → AnswerRows patterns [] rows hits → AreHits patterns rows hits }
 {
     answers_are_the_listing();
     one_log();
@@ -38,7 +38,7 @@ pub fn hunted_are_huntable()
 }
 
 /// Each indicator that is skipped can be told: its identifier is of a kind.
-pub fn skipped_can_be_told()
+pub fn skipped_have_lines()
     ensures { (objects : List Data) (moment : ℤ) (hunt : Hunt) → All (λ object. AreBreaksOf object []) objects
         → IsHuntOf objects moment hunt → All (λ s. IsKind s.id.kind) hunt.skipped }
 {

@@ -5,7 +5,7 @@ ghost use Rattle.flow_edges.specs.Faults.{Counted};
 ghost use Rattle.flow_edges.specs.Flow.{WritesPrefix};
 ghost use Rattle.stix_ids.specs.Kind.{IsKind};
 ghost use Rattle.match_bindings.specs.BindTree.{tree_of};
-ghost use Rattle.match_run.specs.OnItsWay.{IsOnItsWay};
+ghost use Rattle.match_run.specs.Buffered.{IsBuffered};
 ghost use Rattle.match_run.specs.declared.cut_short.CutShort.TheVariants as cut;
 ghost use Rattle.hunt_report.specs.Lines.{line_for, hit_line, hits_text};
 
@@ -14,24 +14,24 @@ use flow_values::NoMemory;
 use match_bindings::{Bind, line_of};
 use std::alloc::Global;
 use stix_ids::write_id;
-use hunt_engine::Found;
+use hunt_engine::Hit;
 use hunt_feed::Hunted;
-use match_run::watch_laws::parts_on_their_way;
+use match_run::watch_laws::parts_are_buffered;
 use match_run::{CutShort, Pending};
 
 /// Adds the line of each hit to what is pending.
 pub(crate) fn add_hits<O: Sink>(
     alloc: Global,
     hunted: &[Hunted],
-    hits: &[Found],
+    hits: &[Hit],
     pending: &mut Pending,
     output: &mut O,
 ) -> Result<(), CutShort>
     requires kinds { All (λ h. IsKind h.id.kind) hunted.now }
     requires inside { All (λ hit. hit.hunted < length hunted.now) hits.now }
-    ensures ok { (before : List ℕ) (first : Option (List ℕ)) → IsOnItsWay before pending.old first (O.written output.old)
-        → OnOk result (IsOnItsWay (before ++ hits_text hunted.now hits.now) pending.new first (O.written output.new)) }
-    ensures err { (before : List ℕ) (first : Option (List ℕ)) → IsOnItsWay before pending.old first (O.written output.old)
+    ensures ok { (before : List ℕ) (first : Option (List ℕ)) → IsBuffered before pending.old first (O.written output.old)
+        → OnOk result (IsBuffered (before ++ hits_text hunted.now hits.now) pending.new first (O.written output.new)) }
+    ensures err { (before : List ℕ) (first : Option (List ℕ)) → IsBuffered before pending.old first (O.written output.old)
         → OnErr result (WritesPrefix (before ++ hits_text hunted.now hits.now) first (O.written output.new)) }
     ensures causes { Counted (result ≡ Err CutShort.WriteFault) (O.faults output.old) (O.faults output.new) }
 {
@@ -45,19 +45,19 @@ pub(crate) fn add_hits<O: Sink>(
 fn add_hit<O: Sink>(
     alloc: Global,
     hunted: &[Hunted],
-    hit: &Found,
+    hit: &Hit,
     pending: &mut Pending,
     output: &mut O,
 ) -> Result<(), CutShort>
     requires kinds { All (λ h. IsKind h.id.kind) hunted.now }
     requires inside { hit.now.hunted < length hunted.now }
-    ensures ok { (before : List ℕ) (first : Option (List ℕ)) → IsOnItsWay before pending.old first (O.written output.old)
-        → OnOk result (IsOnItsWay (before ++ hit_line hunted.now hit.now) pending.new first (O.written output.new)) }
-    ensures err { (before : List ℕ) (first : Option (List ℕ)) → IsOnItsWay before pending.old first (O.written output.old)
+    ensures ok { (before : List ℕ) (first : Option (List ℕ)) → IsBuffered before pending.old first (O.written output.old)
+        → OnOk result (IsBuffered (before ++ hit_line hunted.now hit.now) pending.new first (O.written output.new)) }
+    ensures err { (before : List ℕ) (first : Option (List ℕ)) → IsBuffered before pending.old first (O.written output.old)
         → OnErr result (WritesPrefix (before ++ hit_line hunted.now hit.now) first (O.written output.new)) }
     ensures causes { Counted (result ≡ Err CutShort.WriteFault) (O.faults output.old) (O.faults output.new) }
 {
-    parts_on_their_way();
+    parts_are_buffered();
     let place = hit.hunted as usize;
     let line = hit_line(alloc, &hunted[place], &hit.bind)?;
     pending.add(line.as_str().as_bytes(), output)?;

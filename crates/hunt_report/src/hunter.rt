@@ -4,15 +4,15 @@ ghost use Rattle.stix_bundles.specs.Objects.{data_in};
 ghost use Rattle.match_stream.specs.MatcherState.{Falls};
 ghost use Rattle.match_run.specs.Reading.{MayFollow};
 ghost use Rattle.hunt_engine.specs.EngineLog.{row_of};
-ghost use Rattle.hunt_engine.specs.Known.{brackets_of, IsRight};
+ghost use Rattle.hunt_engine.specs.Memo.{brackets_of, IsSoundMemo};
 ghost use Rattle.hunt_engine.specs.declared.refusal.EngineRefusal.TheVariants.{Ended};
 ghost use Rattle.hunt_report.specs.Hunting.{patterns_of, IsHuntable, HuntsOver, IsReady, SeesBundle, BeginsBundle, StopsInBundle};
 ghost use Rattle.hunt_report.specs.inner.Noting.{noted, all_noted, AreBefore};
-ghost use Rattle.hunt_report.specs.inner.Telling.{TakesRow, end_of_engine, EndsAtRow, TakesSoFar, EndsAmong, HasCutLines};
+ghost use Rattle.hunt_report.specs.inner.HitReporting.{TakesRow, end_of_engine, EndsAtRow, TakesSoFar, EndsAmong, HasCutLines};
 
 use crate::hit_line::add_hits;
-use crate::sight::sight_after;
-use crate::{Crowded, Sight};
+use crate::hit_summary::hit_summary_after;
+use crate::{OverLimit, HitSummary};
 use flow_edges::Sink;
 use flow_values::{Items, NoMemory};
 use match_input::Batch;
@@ -21,22 +21,22 @@ use std::marker::Model;
 use stix_bundles::{Bundle, Observation};
 use stix_times::Instant;
 use hunt_engine::laws::one_log;
-use hunt_engine::{Engine, EngineRefusal, Found, Known};
+use hunt_engine::{Engine, EngineRefusal, Hit, Memo};
 use hunt_feed::Hunted;
-use match_run::watch_laws::parts_on_their_way;
+use match_run::watch_laws::parts_are_buffered;
 use match_run::{Pending, SeeEnd, Watcher};
 
 /// No log has an observation of such a number.
 const TOO_MANY: u64 = 1 << 63;
 
-/// Who hunts: it tells the hits of a log as they end, and keeps what was seen of each indicator. Contracts see the hunted list, the
+/// Who hunts: it reports the hits of a log as they end, and keeps what was seen of each indicator. Contracts see the hunted list, the
 /// engine and what was seen of each; and by `HuntsOver` the rows that it hunted over, with the hits there.
 #[derive(Drop)]
 pub struct Hunter<'p> {
     alloc: Global,
     pub(crate) hunted: &'p [Hunted],
     engine: Engine<'p>,
-    pub(crate) sights: Vec<Option<Sight>>,
+    pub(crate) hit_summaries: Vec<Option<HitSummary>>,
 }
 
 impl<'p> Model for Hunter<'p> {
@@ -51,39 +51,39 @@ impl<'p> Model for Hunter<'p> {
 
     ghost use Rattle.hunt_report.specs.inner.Built.{IsBuilt};
 
-    ghost view = { λ hunter. record { hunted = hunter.hunted.now; engine = hunter.engine; sights = hunter.sights.items } };
+    ghost view = { λ hunter. record { hunted = hunter.hunted.now; engine = hunter.engine; hit_summaries = hunter.hit_summaries.items } };
 
     ghost invariant = { IsBuilt };
 }
 
 impl<'p> Hunter<'p> {
-    /// One for the indicators of a hunt, that hunted over nothing yet. More than `cap` may never be live of one pattern.
-    pub fn new(alloc: Global, hunted: &'p [Hunted], cap: u64) -> Result<Hunter<'p>, NoMemory>
+    /// One for the indicators of a hunt, that hunted over nothing yet. More than `retained_limit` may never be live of one pattern.
+    pub fn new(alloc: Global, hunted: &'p [Hunted], retained_limit: u64) -> Result<Hunter<'p>, NoMemory>
         requires { All IsHuntable hunted.now }
         ensures hunts { IfOk result (λ hunter. HuntsOver hunter [] []) }
         ensures hunted { IfOk result (λ hunter. hunter.hunted ≡ hunted.now) }
-        ensures cap { IfOk result (λ hunter. hunter.engine.cap ≡ cap) }
+        ensures retained_limit { IfOk result (λ hunter. hunter.engine.retained_limit ≡ retained_limit) }
     {
         if u32::try_from(hunted.len()).is_err() {
             return Err(NoMemory);
         }
-        let engine = Engine::new(alloc, hunted, cap)?;
-        let sights = vec![in alloc; None; hunted.len()]?;
+        let engine = Engine::new(alloc, hunted, retained_limit)?;
+        let hit_summaries = vec![in alloc; None; hunted.len()]?;
         Ok(Hunter {
             alloc,
             hunted,
             engine,
-            sights,
+            hit_summaries,
         })
     }
 
-    /// Tells the hits at each observation of a bundle, in turn.
-    fn tell_all<O: Sink>(
+    /// Reports the hits at each observation of a bundle, in turn.
+    fn report_all<O: Sink>(
         &mut self,
         batch: &Batch,
         pending: &mut Pending,
         output: &mut O,
-    ) -> Result<(), SeeEnd<Crowded>>
+    ) -> Result<(), SeeEnd<OverLimit>>
         requires ready { IsReady self.old }
         requires follow { MayFollow self.old.engine.last (self.old.engine.rows + 1) batch.now.observations }
         requires empty { pending.old ≡ [] }
@@ -91,11 +91,11 @@ impl<'p> Hunter<'p> {
         ensures end { IfErr result (EndsAmong (data_in batch.now.bundle) batch.now.observations self.old pending.new (O.written output.old) (O.written output.new)) }
         ensures causes { Counted (result ≡ Err SeeEnd.WriteFault) (O.faults output.old) (O.faults output.new) }
     {
-        parts_on_their_way();
+        parts_are_buffered();
         let observations = batch.observations.as_slice();
-        let mut known = Known::of(self.alloc, observations)?;
+        let mut memo = Memo::of(self.alloc, observations)?;
         for observation in observations {
-            let hits = match self.take(observation, &batch.bundle, &mut known) {
+            let hits = match self.take(observation, &batch.bundle, &mut memo) {
                 Ok(hits) => hits,
                 Err(end) => return Err(end),
             };
@@ -109,34 +109,34 @@ impl<'p> Hunter<'p> {
         &mut self,
         observation: &Observation,
         bundle: &Bundle,
-        known: &mut Known,
-    ) -> Result<Items<Found>, SeeEnd<Crowded>>
+        memo: &mut Memo,
+    ) -> Result<Items<Hit>, SeeEnd<OverLimit>>
         requires ready { IsReady self.old }
-        requires right { IsRight (data_in bundle.now) (brackets_of (patterns_of self.old.hunted)) known.old }
+        requires right { IsSoundMemo (data_in bundle.now) (brackets_of (patterns_of self.old.hunted)) memo.old }
         requires span { observation.now.first ≤ℤ observation.now.last }
         requires number { observation.now.number ≡ self.old.engine.rows + 1 }
         requires order { ¬ (Falls self.old.engine.last observation.now.last) }
         ensures row { IfOk result (TakesRow (row_of observation.now (data_in bundle.now)) self.old self.new) }
         ensures end { IfErr result (EndsAtRow (row_of observation.now (data_in bundle.now)) self.old) }
-        ensures right { OnOk result (IsRight (data_in bundle.now) (brackets_of (patterns_of self.old.hunted)) known.new) }
+        ensures right { OnOk result (IsSoundMemo (data_in bundle.now) (brackets_of (patterns_of self.old.hunted)) memo.new) }
     {
         one_log();
         if observation.number >= TOO_MANY {
             return Err(SeeEnd::NoMemory);
         }
-        let hits = match self.engine.take(observation, bundle, known) {
+        let hits = match self.engine.take(observation, bundle, memo) {
             Ok(hits) => hits,
             Err(refusal) => return Err(end_of(refusal)),
         };
-        self.note_all(hits.as_slice(), observation.last);
+        self.count_all(hits.as_slice(), observation.last);
         Ok(hits)
     }
 
     /// Notes hits that end at an observation of that last time.
-    fn note_all(&mut self, hits: &[Found], last: Instant)
-        requires inside { All (λ hit. hit.hunted < length self.old.sights) hits.now }
-        requires order { AreBefore last self.old.sights }
-        ensures { self.new ≡ record self.old { sights = all_noted last hits.now self.old.sights } }
+    fn count_all(&mut self, hits: &[Hit], last: Instant)
+        requires inside { All (λ hit. hit.hunted < length self.old.hit_summaries) hits.now }
+        requires order { AreBefore last self.old.hit_summaries }
+        ensures { self.new ≡ record self.old { hit_summaries = all_noted last hits.now self.old.hit_summaries } }
     {
         for hit in hits {
             self.note(hit, last);
@@ -144,31 +144,31 @@ impl<'p> Hunter<'p> {
     }
 
     /// Notes a hit.
-    fn note(&mut self, hit: &Found, last: Instant)
-        requires inside { hit.now.hunted < length self.old.sights }
-        requires order { AreBefore last self.old.sights }
-        ensures { self.new ≡ record self.old { sights = noted last hit.now self.old.sights } }
+    fn note(&mut self, hit: &Hit, last: Instant)
+        requires inside { hit.now.hunted < length self.old.hit_summaries }
+        requires order { AreBefore last self.old.hit_summaries }
+        ensures { self.new ≡ record self.old { hit_summaries = noted last hit.now self.old.hit_summaries } }
     {
         let place = hit.hunted as usize;
-        let sight = sight_after(self.sights[place], last);
-        self.sights[place] = Some(sight);
+        let hit_summary = hit_summary_after(self.hit_summaries[place], last);
+        self.hit_summaries[place] = Some(hit_summary);
     }
 }
 
 /// How a hunter ends where its engine does.
-fn end_of(refusal: EngineRefusal) -> SeeEnd<Crowded>
+fn end_of(refusal: EngineRefusal) -> SeeEnd<OverLimit>
     requires { refusal ≢ Ended }
     ensures { result ≡ end_of_engine refusal }
 {
     match refusal {
-        EngineRefusal::Crowded {
+        EngineRefusal::OverLimit {
             hunted,
             number,
-            cap,
-        } => SeeEnd::Stopped(Crowded {
+            retained_limit,
+        } => SeeEnd::Stopped(OverLimit {
             hunted,
             number,
-            cap,
+            retained_limit,
         }),
         EngineRefusal::NoMemory => SeeEnd::NoMemory,
         EngineRefusal::Ended => unreachable!(),
@@ -176,14 +176,14 @@ fn end_of(refusal: EngineRefusal) -> SeeEnd<Crowded>
 }
 
 /// Whether an end came in the middle of lines: memory ran out, or a write failed.
-fn has_cut_lines(ended: &Result<(), SeeEnd<Crowded>>) -> bool
+fn has_cut_lines(ended: &Result<(), SeeEnd<OverLimit>>) -> bool
     ensures { IsTrue result ↔ HasCutLines ended.now }
 {
     matches!(ended, Err(SeeEnd::NoMemory | SeeEnd::WriteFault))
 }
 
 impl<'p> Watcher for Hunter<'p> {
-    type Stop = Crowded;
+    type Stop = OverLimit;
 
     ghost ready = { IsReady };
 
@@ -197,9 +197,9 @@ impl<'p> Watcher for Hunter<'p> {
 
     ghost begins = { BeginsBundle };
 
-    fn see<O: Sink>(&mut self, batch: &Batch, output: &mut O) -> Result<(), SeeEnd<Crowded>> {
+    fn see<O: Sink>(&mut self, batch: &Batch, output: &mut O) -> Result<(), SeeEnd<OverLimit>> {
         let mut pending = Pending::new(self.alloc);
-        let told = self.tell_all(batch, &mut pending, output);
+        let told = self.report_all(batch, &mut pending, output);
         if has_cut_lines(&told) {
             return told;
         }

@@ -8,11 +8,11 @@
 //! The hits of a hunt: the bindings of many indicators over one log, each told as it ends.
 //!
 //! A `Hunter` follows an input for the indicators of a hunt. It writes the line of each hit before more is read, and keeps of each
-//! indicator how often it was seen, and when first and last; `write_report` tells that at the end, as an envelope of sightings
-//! (STIX 2.1, section 5.2). `write_skipped` tells the indicators whose patterns aren't read.
+//! indicator how often it was seen, and when first and last; `write_report` reports that at the end, as an envelope of sightings
+//! (STIX 2.1, section 5.2). `write_skipped` reports the indicators whose patterns aren't read.
 #![tactic(auto)]
 
-mod crowded;
+mod over_limit;
 mod fields;
 pub mod hit_laws;
 mod hit_line;
@@ -21,15 +21,15 @@ mod moment;
 mod object;
 mod report;
 mod seen;
-mod sight;
+mod hit_summary;
 pub mod sighting_laws;
 mod skipped;
 mod times;
 
-pub use crowded::Crowded;
+pub use over_limit::OverLimit;
 pub use hunter::Hunter;
 pub use object::{sighting, sighting_text};
 pub use report::write_report;
-pub use seen::{MAX_COUNT, Seen};
-pub use sight::Sight;
+pub use seen::{MAX_COUNT, SightingInput};
+pub use hit_summary::HitSummary;
 pub use skipped::write_skipped;

@@ -7,7 +7,7 @@ ghost use Rattle.hunt_report.specs.Sightings.{IsSeen, IsSightingOf, IsSightingTe
 
 use crate::fields::Fields;
 use crate::moment::modified_at;
-use crate::{MAX_COUNT, Seen};
+use crate::{MAX_COUNT, SightingInput};
 use flow_values::{NoMemory, Text};
 use std::alloc::Global;
 use stix_ids::Id;
@@ -18,7 +18,7 @@ use stix_times::Instant;
 use stix_times::laws::{one_instant, written_reads_back};
 
 /// The sighting of what was seen of an indicator, made at a moment. It breaks no rule.
-pub fn sighting(alloc: Global, moment: Instant, seen: &Seen<'_>) -> Result<Json, NoMemory>
+pub fn sighting(alloc: Global, moment: Instant, seen: &SightingInput<'_>) -> Result<Json, NoMemory>
     requires { IsSeen seen.now }
     ensures sighting { IfOk result (λ json. IsSightingOf moment seen.now (data_of json)) }
     ensures unbroken { IfOk result (λ json. AreBreaksOf (data_of json) []) }
@@ -31,7 +31,7 @@ pub fn sighting(alloc: Global, moment: Instant, seen: &Seen<'_>) -> Result<Json,
 }
 
 /// The same, of which no more is said than what it is.
-fn object_of(alloc: Global, moment: Instant, seen: &Seen<'_>) -> Result<Json, NoMemory>
+fn object_of(alloc: Global, moment: Instant, seen: &SightingInput<'_>) -> Result<Json, NoMemory>
     requires { IsSeen seen.now }
     ensures { IfOk result (λ json. IsSightingOf moment seen.now (data_of json)) }
 {
@@ -54,15 +54,15 @@ fn object_of(alloc: Global, moment: Instant, seen: &Seen<'_>) -> Result<Json, No
     Ok(fields.into_object())
 }
 
-/// How often an indicator was seen, or the most that a sighting tells.
-fn count_of(seen: &Seen<'_>) -> u32
+/// How often an indicator was seen, or the most that a sighting reports.
+fn count_of(seen: &SightingInput<'_>) -> u32
     ensures { result ≡ min seen.now.count most }
 {
     seen.count.min(MAX_COUNT) as u32
 }
 
 /// Its text as compact JSON.
-pub fn sighting_text(alloc: Global, moment: Instant, seen: &Seen<'_>) -> Result<Text, NoMemory>
+pub fn sighting_text(alloc: Global, moment: Instant, seen: &SightingInput<'_>) -> Result<Text, NoMemory>
     requires { IsSeen seen.now }
     ensures { IfOk result (IsSightingText moment seen.now) }
 {

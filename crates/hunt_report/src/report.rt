@@ -1,26 +1,26 @@
 ghost use Rattle.std.specs.Prelude.{◌≡◌, ◌++◌, ◌≤ℤ◌, [], ℕ, List, Option, Err, All, length, IfOk, OnOk, OnErr};
 ghost use Rattle.flow_edges.specs.Faults.{Counted};
 ghost use Rattle.flow_edges.specs.Flow.{written_with, WritesPrefix};
-ghost use Rattle.match_run.specs.OnItsWay.{IsOnItsWay};
+ghost use Rattle.match_run.specs.Buffered.{IsBuffered};
 ghost use Rattle.match_run.specs.declared.cut_short.CutShort.TheVariants as cut;
-ghost use Rattle.hunt_engine.specs.declared.found.Found.{Found};
+ghost use Rattle.hunt_engine.specs.declared.found.Hit.{Hit};
 ghost use Rattle.hunt_engine.specs.EngineLog.{Row};
 ghost use Rattle.hunt_report.specs.Hunting.{IsHuntable, HuntsOver};
-ghost use Rattle.hunt_report.specs.Sights.{IsReport, TellsReport, begun_by};
-ghost use Rattle.hunt_report.specs.inner.Reporting.{IsTextOf, TellsSoFar, TellsPart, AddsSight, BreaksAtSight, is_begun, mark_of, end_of, IsSightInOrder};
+ghost use Rattle.hunt_report.specs.HitSummaries.{IsReport, IsReportText, begun_by};
+ghost use Rattle.hunt_report.specs.inner.Reporting.{IsTextOf, ReportsSoFar, ReportsPart, AddsHitSummary, BreaksAtHitSummary, is_begun, mark_of, end_of, IsHitSummaryInOrder};
 
-use crate::{Hunter, Sight};
+use crate::{Hunter, HitSummary};
 use flow_edges::Sink;
 use flow_values::{NoMemory, Text};
 use std::alloc::Global;
 use stix_times::Instant;
 use hunt_feed::Hunted;
-use match_run::watch_laws::parts_on_their_way;
+use match_run::watch_laws::parts_are_buffered;
 use match_run::{CutShort, Pending};
 use crate::sighting_laws::one_text_more;
-use crate::{Seen, sighting_text};
+use crate::{SightingInput, sighting_text};
 
-/// Writes the line that tells, at a moment, what was seen of the hunted indicators: an envelope of their sightings. Where there is
+/// Writes the line that reports, at a moment, what was seen of the hunted indicators: an envelope of their sightings. Where there is
 /// no hit, nothing is written. After an `Err` a prefix of the line was.
 pub fn write_report<O: Sink>(
     alloc: Global,
@@ -29,13 +29,13 @@ pub fn write_report<O: Sink>(
     output: &mut O,
 ) -> Result<(), CutShort>
     requires { All IsHuntable hunter.now.hunted }
-    ensures ok { (rows : List Row) (hits : List Found) → HuntsOver hunter.now rows hits → OnOk result ((text : List ℕ)
+    ensures ok { (rows : List Row) (hits : List Hit) → HuntsOver hunter.now rows hits → OnOk result ((text : List ℕ)
         × IsReport moment rows hits hunter.now.hunted text × (O.written output.new ≡ written_with text (O.written output.old))) }
-    ensures err { (rows : List Row) (hits : List Found) → HuntsOver hunter.now rows hits → OnErr result ((text : List ℕ)
-        × TellsReport moment rows hits hunter.now.hunted text × WritesPrefix text (O.written output.old) (O.written output.new)) }
+    ensures err { (rows : List Row) (hits : List Hit) → HuntsOver hunter.now rows hits → OnErr result ((text : List ℕ)
+        × IsReportText moment rows hits hunter.now.hunted text × WritesPrefix text (O.written output.old) (O.written output.new)) }
     ensures causes { Counted (result ≡ Err CutShort.WriteFault) (O.faults output.old) (O.faults output.new) }
 {
-    parts_on_their_way();
+    parts_are_buffered();
     let mut pending = Pending::new(alloc);
     let begun = add_sightings(alloc, hunter, moment, &mut pending, output)?;
     let end = end_of(begun);
@@ -53,20 +53,20 @@ fn add_sightings<O: Sink>(
     output: &mut O,
 ) -> Result<bool, CutShort>
     requires huntable { All IsHuntable hunter.now.hunted }
-    ensures ok { (first : Option (List ℕ)) → IsOnItsWay [] pending.old first (O.written output.old)
-        → IfOk result (λ begun. TellsSoFar moment hunter.now.hunted hunter.now.sights begun pending.new first (O.written output.new)) }
-    ensures err { (first : Option (List ℕ)) → IsOnItsWay [] pending.old first (O.written output.old)
-        → OnErr result (TellsPart moment hunter.now.hunted hunter.now.sights first (O.written output.new)) }
+    ensures ok { (first : Option (List ℕ)) → IsBuffered [] pending.old first (O.written output.old)
+        → IfOk result (λ begun. ReportsSoFar moment hunter.now.hunted hunter.now.hit_summaries begun pending.new first (O.written output.new)) }
+    ensures err { (first : Option (List ℕ)) → IsBuffered [] pending.old first (O.written output.old)
+        → OnErr result (ReportsPart moment hunter.now.hunted hunter.now.hit_summaries first (O.written output.new)) }
     ensures causes { Counted (result ≡ Err CutShort.WriteFault) (O.faults output.old) (O.faults output.new) }
 {
     let hunted = hunter.hunted;
-    let sights = hunter.sights.as_slice();
+    let hit_summaries = hunter.hit_summaries.as_slice();
     let mut begun = false;
     for at in 0..hunted.len() {
         begun = add_sighting(
             alloc,
             &hunted[at],
-            sights[at],
+            hit_summaries[at],
             moment,
             begun,
             pending,
@@ -80,26 +80,26 @@ fn add_sightings<O: Sink>(
 fn add_sighting<O: Sink>(
     alloc: Global,
     indicator: &Hunted,
-    sight: Option<Sight>,
+    hit_summary: Option<HitSummary>,
     moment: Instant,
     begun: bool,
     pending: &mut Pending,
     output: &mut O,
 ) -> Result<bool, CutShort>
     requires huntable { IsHuntable indicator.now }
-    requires order { IsSightInOrder sight }
-    ensures ok { (texts : List (List ℕ)) (first : Option (List ℕ)) → begun ≡ is_begun texts → IsOnItsWay (begun_by texts) pending.old first (O.written output.old)
-        → IfOk result (λ begun. AddsSight moment indicator.now sight texts begun pending.new first (O.written output.new)) }
-    ensures err { (texts : List (List ℕ)) (first : Option (List ℕ)) → begun ≡ is_begun texts → IsOnItsWay (begun_by texts) pending.old first (O.written output.old)
-        → OnErr result (BreaksAtSight moment indicator.now sight texts first (O.written output.new)) }
+    requires order { IsHitSummaryInOrder hit_summary }
+    ensures ok { (texts : List (List ℕ)) (first : Option (List ℕ)) → begun ≡ is_begun texts → IsBuffered (begun_by texts) pending.old first (O.written output.old)
+        → IfOk result (λ begun. AddsHitSummary moment indicator.now hit_summary texts begun pending.new first (O.written output.new)) }
+    ensures err { (texts : List (List ℕ)) (first : Option (List ℕ)) → begun ≡ is_begun texts → IsBuffered (begun_by texts) pending.old first (O.written output.old)
+        → OnErr result (BreaksAtHitSummary moment indicator.now hit_summary texts first (O.written output.new)) }
     ensures causes { Counted (result ≡ Err CutShort.WriteFault) (O.faults output.old) (O.faults output.new) }
 {
-    parts_on_their_way();
+    parts_are_buffered();
     one_text_more();
-    let Some(sight) = sight else {
+    let Some(hit_summary) = hit_summary else {
         return Ok(begun);
     };
-    let text = text_of(alloc, indicator, sight, moment)?;
+    let text = text_of(alloc, indicator, hit_summary, moment)?;
     add_text(text.as_str(), begun, pending, output)?;
     Ok(true)
 }
@@ -108,19 +108,19 @@ fn add_sighting<O: Sink>(
 fn text_of(
     alloc: Global,
     indicator: &Hunted,
-    sight: Sight,
+    hit_summary: HitSummary,
     moment: Instant,
 ) -> Result<Text, NoMemory>
     requires huntable { IsHuntable indicator.now }
-    requires order { sight.first ≤ℤ sight.last }
-    ensures { IfOk result (IsTextOf moment indicator.now sight) }
+    requires order { hit_summary.first ≤ℤ hit_summary.last }
+    ensures { IfOk result (IsTextOf moment indicator.now hit_summary) }
 {
-    let seen = Seen {
+    let seen = SightingInput {
         indicator: &indicator.id,
         created: indicator.created,
-        count: sight.count,
-        first: sight.first,
-        last: sight.last,
+        count: hit_summary.count,
+        first: hit_summary.first,
+        last: hit_summary.last,
     };
     sighting_text(alloc, moment, &seen)
 }
@@ -132,9 +132,9 @@ fn add_text<O: Sink>(
     pending: &mut Pending,
     output: &mut O,
 ) -> Result<(), CutShort>
-    ensures ok { (before : List ℕ) (first : Option (List ℕ)) → IsOnItsWay before pending.old first (O.written output.old)
-        → OnOk result (IsOnItsWay (before ++ (mark_of begun ++ text.now)) pending.new first (O.written output.new)) }
-    ensures err { (before : List ℕ) (first : Option (List ℕ)) → IsOnItsWay before pending.old first (O.written output.old)
+    ensures ok { (before : List ℕ) (first : Option (List ℕ)) → IsBuffered before pending.old first (O.written output.old)
+        → OnOk result (IsBuffered (before ++ (mark_of begun ++ text.now)) pending.new first (O.written output.new)) }
+    ensures err { (before : List ℕ) (first : Option (List ℕ)) → IsBuffered before pending.old first (O.written output.old)
         → OnErr result (WritesPrefix (before ++ (mark_of begun ++ text.now)) first (O.written output.new)) }
     ensures causes { Counted (result ≡ Err CutShort.WriteFault) (O.faults output.old) (O.faults output.new) }
 {

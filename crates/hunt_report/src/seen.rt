@@ -6,7 +6,7 @@ pub const MAX_COUNT: u64 = 999_999_999;
 
 /// What was seen of an indicator.
 #[derive(Clone, Copy)]
-pub struct Seen<'i> {
+pub struct SightingInput<'i> {
     /// The indicator's identifier.
     pub indicator: &'i Id,
     /// When the indicator was created: a whole number of microseconds.

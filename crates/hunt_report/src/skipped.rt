@@ -2,7 +2,7 @@ ghost use Rattle.std.specs.Prelude.{◌≡◌, ◌++◌, ℕ, List, Option, Err,
 ghost use Rattle.flow_edges.specs.Faults.{Counted};
 ghost use Rattle.flow_edges.specs.Flow.{written_with, WritesPrefix};
 ghost use Rattle.stix_ids.specs.Kind.{IsKind};
-ghost use Rattle.match_run.specs.OnItsWay.{IsOnItsWay};
+ghost use Rattle.match_run.specs.Buffered.{IsBuffered};
 ghost use Rattle.match_run.specs.declared.cut_short.CutShort.TheVariants as cut;
 ghost use Rattle.hunt_report.specs.Lines.{skipped_line, skipped_text};
 
@@ -11,7 +11,7 @@ use flow_values::NoMemory;
 use std::alloc::Global;
 use stix_ids::write_id;
 use hunt_feed::Skipped;
-use match_run::watch_laws::parts_on_their_way;
+use match_run::watch_laws::parts_are_buffered;
 use match_run::{CutShort, Pending};
 
 /// Writes a line for each indicator that is skipped: its identifier, and why its pattern isn't read. After an `Err` a prefix of
@@ -26,7 +26,7 @@ pub fn write_skipped<O: Sink>(
     ensures err { OnErr result (WritesPrefix (skipped_text skipped.now) (O.written output.old) (O.written output.new)) }
     ensures causes { Counted (result ≡ Err CutShort.WriteFault) (O.faults output.old) (O.faults output.new) }
 {
-    parts_on_their_way();
+    parts_are_buffered();
     let mut pending = Pending::new(alloc);
     for indicator in skipped {
         add_skipped(alloc, indicator, &mut pending, output)?;
@@ -43,13 +43,13 @@ fn add_skipped<O: Sink>(
     output: &mut O,
 ) -> Result<(), CutShort>
     requires { IsKind skipped.now.id.kind }
-    ensures ok { (before : List ℕ) (first : Option (List ℕ)) → IsOnItsWay before pending.old first (O.written output.old)
-        → OnOk result (IsOnItsWay (before ++ skipped_line skipped.now) pending.new first (O.written output.new)) }
-    ensures err { (before : List ℕ) (first : Option (List ℕ)) → IsOnItsWay before pending.old first (O.written output.old)
+    ensures ok { (before : List ℕ) (first : Option (List ℕ)) → IsBuffered before pending.old first (O.written output.old)
+        → OnOk result (IsBuffered (before ++ skipped_line skipped.now) pending.new first (O.written output.new)) }
+    ensures err { (before : List ℕ) (first : Option (List ℕ)) → IsBuffered before pending.old first (O.written output.old)
         → OnErr result (WritesPrefix (before ++ skipped_line skipped.now) first (O.written output.new)) }
     ensures causes { Counted (result ≡ Err CutShort.WriteFault) (O.faults output.old) (O.faults output.new) }
 {
-    parts_on_their_way();
+    parts_are_buffered();
     let line = skipped_line(alloc, skipped)?;
     pending.add(line.as_str().as_bytes(), output)?;
     Ok(())

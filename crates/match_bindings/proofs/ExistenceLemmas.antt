@@ -13,7 +13,7 @@ use Rattle.match_bindings.specs.Listing.{IsListing}
 use Rattle.match_bindings.specs.inner.Candidates.{hold, trees_of, span_of, fits, candidates}
 use Rattle.match_bindings.proofs.CandidatesLemmas.{exactly_same, all_found}
 use Rattle.match_bindings.proofs.LongerLogLemmas.{rows_of}
-use Rattle.match_bindings.proofs.FlatLemmas.{before_trans, never_before_itself, Sorted, once_each, rises_from, exactly_listed}
+use Rattle.match_bindings.proofs.FlatLemmas.{before_trans, never_before_itself, Sorted, once_each, ascends_from, exactly_listed}
 
 trees_held : (o : Observed) (xs : List BindTree) → trees_of (map (hold o) xs) ≡ xs
 trees_held o [] = refl
@@ -89,5 +89,5 @@ listing_exists log p =
     let found = trees_of (candidates o (length log) no_bounds p) in
     let each : Exactly (is_binding o p) (sorted found) = λ x. sorted_count x found ∙ all_bindings log p x in (
       sorted found,
-      exactly_listed o p (sorted found) each (rises_from o p (sorted found) (once_each (is_binding o p) (sorted found) (λ x. let e = each x in omega (arith, e))) (all_sorted found)),
+      exactly_listed o p (sorted found) each (ascends_from o p (sorted found) (once_each (is_binding o p) (sorted found) (λ x. let e = each x in omega (arith, e))) (all_sorted found)),
     )

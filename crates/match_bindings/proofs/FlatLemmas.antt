@@ -14,7 +14,7 @@ use Rattle.match_bindings.specs.Log.{Observed}
 use Rattle.match_bindings.specs.Binding.{AreRepeats, IsBinding}
 use Rattle.match_bindings.specs.Test.{is_binding}
 use Rattle.match_bindings.specs.Once.{bit, same, count, Exactly}
-use Rattle.match_bindings.specs.Flat.{flat, rank, comes_before, Rises}
+use Rattle.match_bindings.specs.Flat.{flat, rank, comes_before, Ascends}
 use Rattle.match_bindings.specs.Listing.{IsListing}
 use Rattle.match_bindings.proofs.OnceLemmas.{same_is, same_self}
 use Rattle.match_bindings.proofs.IsBindingLemmas.{binding_to, binding_from}
@@ -112,23 +112,23 @@ before_trans x y z h k =
 pub never_before_itself : (x : BindTree) → comes_before x x ≡ false
 never_before_itself x = ap is_lt (tied_itself nat_list_cmp_total (rank x))
 
--- the first of a rising list comes before each other one
-pub first_before : (x : BindTree) (xs : List BindTree) → Rises (x ∷ xs) → (y : BindTree) → 0 < count y xs → comes_before x y ≡ true
-first_before x [] rises y h = absurd (omega arith)
-first_before x (z ∷ zs) rises y h = by_test (same y z) refl (λ k. first_before z zs rises.1 y k) where
+-- the first of a ascending list comes before each other one
+pub first_before : (x : BindTree) (xs : List BindTree) → Ascends (x ∷ xs) → (y : BindTree) → 0 < count y xs → comes_before x y ≡ true
+first_before x [] ascends y h = absurd (omega arith)
+first_before x (z ∷ zs) ascends y h = by_test (same y z) refl (λ k. first_before z zs ascends.1 y k) where
   by_test : (b : Bool) → same y z ≡ b → (0 < count y zs → comes_before z y ≡ true) → comes_before x y ≡ true
-  by_test true e ih = let one : y ≡ z = same_is y z e in ap (comes_before x) one ∙ rises.0
+  by_test true e ih = let one : y ≡ z = same_is y z e in ap (comes_before x) one ∙ ascends.0
   by_test false e ih =
       let h' : 0 < bit (same y z) + count y zs = h in
       let h'' : 0 < bit false + count y zs = rw e at h' in
-      before_trans x z y rises.0 (ih (omega arith))
+      before_trans x z y ascends.0 (ih (omega arith))
 
-pub tail_rises : (x : BindTree) (xs : List BindTree) → Rises (x ∷ xs) → Rises xs
-tail_rises x [] rises = tt
-tail_rises x (y ∷ xs) rises = rises.1
+pub tail_ascends : (x : BindTree) (xs : List BindTree) → Ascends (x ∷ xs) → Ascends xs
+tail_ascends x [] ascends = tt
+tail_ascends x (y ∷ xs) ascends = ascends.1
 
--- rising lists with the same counts are one
-same_lists : (xs ys : List BindTree) → Rises xs → Rises ys → ((x : BindTree) → count x xs ≡ count x ys) → xs ≡ ys
+-- ascending lists with the same counts are one
+same_lists : (xs ys : List BindTree) → Ascends xs → Ascends ys → ((x : BindTree) → count x xs ≡ count x ys) → xs ≡ ys
 same_lists [] [] hx hy h = refl
 same_lists [] (y ∷ ys) hx hy h =
     let e : 0 ≡ bit (same y y) + count y ys = h y in
@@ -138,7 +138,7 @@ same_lists (x ∷ xs) [] hx hy h =
     let e : bit (same x x) + count x xs ≡ 0 = h x in
     let e' : 1 + count x xs ≡ 0 = rw (same_self x) at e in
     absurd (omega arith)
-same_lists (x ∷ xs) (y ∷ ys) hx hy h = by_test (same x y) (same y x) refl refl (λ k. same_lists xs ys (tail_rises x xs hx) (tail_rises y ys hy) k) where
+same_lists (x ∷ xs) (y ∷ ys) hx hy h = by_test (same x y) (same y x) refl refl (λ k. same_lists xs ys (tail_ascends x xs hx) (tail_ascends y ys hy) k) where
   by_test : (s t : Bool) → same x y ≡ s → same y x ≡ t → (((z : BindTree) → count z xs ≡ count z ys) → xs ≡ ys) → (x ∷ xs) ≡ (y ∷ ys)
   by_test true t e f ih =
       let one : x ≡ y = same_is x y e in
@@ -171,7 +171,7 @@ listed_exactly o p xs h x = by_test (is_binding o p x) refl where
   by_test false e = rw e (h.no_other x (λ k. let yes_it_is : is_binding o p x ≡ true = binding_from o p x k in absurd (cc)))
 
 pub one_listing : (o : Observed) (p : NumberedPattern) (xs ys : List BindTree) → IsListing o p xs → IsListing o p ys → xs ≡ ys
-one_listing o p xs ys hx hy = same_lists xs ys hx.rises hy.rises (λ x. listed_exactly o p xs hx x ∙ sym (listed_exactly o p ys hy x))
+one_listing o p xs ys hx hy = same_lists xs ys hx.ascends hy.ascends (λ x. listed_exactly o p xs hx x ∙ sym (listed_exactly o p ys hy x))
 
 -- ---- what is sorted by rank
 
@@ -215,10 +215,10 @@ sorted_by (x ∷ y ∷ xs) up = (
 same_rank : (x y : BindTree) → rank x ≡ rank y → flat x ≡ flat y
 same_rank x y h = cc
 
-pub rises_from : (o : Observed) (p : NumberedPattern) (xs : List BindTree) → Once (is_binding o p) xs → Sorted xs → Rises xs
-rises_from o p [] once up = tt
-rises_from o p (x ∷ []) once up = tt
-rises_from o p (x ∷ y ∷ xs) once up = (by_test (comes_before x y) refl, rises_from o p (y ∷ xs) once.2 up.1) where
+pub ascends_from : (o : Observed) (p : NumberedPattern) (xs : List BindTree) → Once (is_binding o p) xs → Sorted xs → Ascends xs
+ascends_from o p [] once up = tt
+ascends_from o p (x ∷ []) once up = tt
+ascends_from o p (x ∷ y ∷ xs) once up = (by_test (comes_before x y) refl, ascends_from o p (y ∷ xs) once.2 up.1) where
   by_test : (t : Bool) → comes_before x y ≡ t → comes_before x y ≡ true
   by_test true e = e
   by_test false e =
@@ -229,22 +229,22 @@ rises_from o p (x ∷ y ∷ xs) once up = (by_test (comes_before x y) refl, rise
       let none' : 1 + count x xs ≡ 0 = rw twice at none in
       absurd (omega arith)
 
--- the bindings, each once and rising, are the listing
-pub exactly_listed : (o : Observed) (p : NumberedPattern) (xs : List BindTree) → Exactly (is_binding o p) xs → Rises xs → IsListing o p xs
+-- the bindings, each once and ascending, are the listing
+pub exactly_listed : (o : Observed) (p : NumberedPattern) (xs : List BindTree) → Exactly (is_binding o p) xs → Ascends xs → IsListing o p xs
 exactly_listed o p xs each up = record {
   each_once = λ x h. let yes_it_is = binding_from o p x h in each x ∙ ap bit yes_it_is;
   no_other = λ x h. each x ∙ ap bit (no_binding x h (is_binding o p x) refl);
-  rises = up;
+  ascends = up;
 } where
   no_binding : (x : BindTree) → (IsBinding o p x → ⊥) → (b : Bool) → is_binding o p x ≡ b → is_binding o p x ≡ false
   no_binding x h true e = absurd (h (binding_to o p x e))
   no_binding x h false e = e
 
--- what is sorted by rank rises
-pub sorted_rise : (o : Observed) (p : NumberedPattern) (xs : List BindTree) → ((x : BindTree) → count x xs ≤ bit (is_binding o p x)) → IsSortedBy comes_before xs → Rises xs
-sorted_rise o p xs most up = rises_from o p xs (once_each (is_binding o p) xs most) (sorted_by xs up)
+-- what is sorted by rank ascends
+pub sorted_ascend : (o : Observed) (p : NumberedPattern) (xs : List BindTree) → ((x : BindTree) → count x xs ≤ bit (is_binding o p x)) → IsSortedBy comes_before xs → Ascends xs
+sorted_ascend o p xs most up = ascends_from o p xs (once_each (is_binding o p) xs most) (sorted_by xs up)
 
 -- so it is the listing where it has all bindings
 pub listing_from : (o : Observed) (p : NumberedPattern) (xs : List BindTree) → Exactly (is_binding o p) xs → IsSortedBy comes_before xs → IsListing o p xs
 listing_from o p xs each up =
-    exactly_listed o p xs each (sorted_rise o p xs (λ x. let e = each x in omega (arith, e)) up)
+    exactly_listed o p xs each (sorted_ascend o p xs (λ x. let e = each x in omega (arith, e)) up)

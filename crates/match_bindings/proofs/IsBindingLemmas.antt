@@ -4,7 +4,7 @@ use Rattle.std.specs.Prelude.{Bool, true, ◌&&◌, nat_lt, int_lt, int_le}
 use Rattle.std.proofs.lemmas.Bool.{and_parts, and_from, eqb-true, eq-eqb, or_cases, or_left, or_right, ltb-true, lt-ltb, not-true, not_from_false}
 use Rattle.std.proofs.lemmas.Int.{ints}
 use Rattle.match_bindings.specs.NumberedPattern.{NumberedPattern, Leaf, Both, Then, Either, Within, Between, Repeats}
-use Rattle.match_bindings.specs.BindTree.{BindTree, One, Pair, First, Second, Empty, Single, More, has, AreApart, disjoint, greatest}
+use Rattle.match_bindings.specs.BindTree.{BindTree, One, Pair, First, Second, Empty, Single, More, has, AreDisjoint, disjoint, greatest}
 use Rattle.match_bindings.specs.Span.{earliest, latest, later_by}
 use Rattle.match_bindings.specs.Log.{Observed}
 use Rattle.match_bindings.specs.Binding.{AreRepeats, IsBinding}
@@ -22,7 +22,7 @@ le_true a b h = grind (arith, ints)
 pub true_le : (a b : ℤ) → a ≤ℤ b → int_le a b ≡ true
 true_le a b h = grind (arith, ints)
 
-pub apart_to : (a b : BindTree) → disjoint a b ≡ true → AreApart a b
+pub apart_to : (a b : BindTree) → disjoint a b ≡ true → AreDisjoint a b
 apart_to (One m) b h n k =
     let one : n ≡ m = eqb-true n m k in
     ap (λ i. has i b) one ∙ not-true (has m b) h
@@ -37,7 +37,7 @@ apart_to (More m x) b h n k =
     let parts = and_parts (disjoint m b) (disjoint x b) h in
     elim (or_cases (has n m) (has n x) k) [ inl l ↦ apart_to m b parts.0 n l | inr r ↦ apart_to x b parts.1 n r ]
 
-pub apart_from : (a b : BindTree) → AreApart a b → disjoint a b ≡ true
+pub apart_from : (a b : BindTree) → AreDisjoint a b → disjoint a b ≡ true
 apart_from (One m) b h = not_from_false (has m b) (h m (eq-eqb m m refl))
 apart_from (Pair x y) b h =
     and_from (disjoint x b) (disjoint y b) (apart_from x b (λ n k. h n (or_left (has n x) (has n y) k))) (apart_from y b (λ n k. h n (or_right (has n x) (has n y) k)))

@@ -13,8 +13,8 @@ use Rattle.match_bindings.specs.BindTree.{tree_of, BindTree, Pair, Single, More,
 use Rattle.match_bindings.specs.Log.{Observed}
 use Rattle.match_bindings.specs.Test.{is_binding, are_repeats}
 use Rattle.match_bindings.specs.inner.Kinds.{is_pair}
-use Rattle.match_bindings.proofs.PartsLemmas.{go_on}
-use Rattle.match_bindings.specs.inner.Candidates.{span_of, span_if, joined_span, admits, judged}
+use Rattle.match_bindings.proofs.PartsLemmas.{proceed}
+use Rattle.match_bindings.specs.inner.Candidates.{span_of, span_if, joined_span, admits, verified}
 use Rattle.match_bindings.proofs.ManyLemmas.{of_many, many_last}
 use Rattle.match_bindings.proofs.ListLemmas.{map_append}
 
@@ -53,21 +53,21 @@ no_span b s e = sym (ap (λ b. span_if b s) e)
 
 -- ---- two sides
 
-pub left_fails : (o : Observed) (p q : NumberedPattern) (a b x : BindTree) → x ≡ Pair a b → judged o p a ≡ None →
+pub left_fails : (o : Observed) (p q : NumberedPattern) (a b x : BindTree) → x ≡ Pair a b → verified o p a ≡ None →
     (is_binding o (Both p q) x ≡ false) × (is_binding o (Then p q) x ≡ false)
 left_fails o p q a b x e n =
     let no_it_isnt = failed (is_binding o p a) (span_of o a) n in
     rw (e, no_it_isnt) (refl, refl)
 
-pub right_fails : (o : Observed) (p q : NumberedPattern) (a b x : BindTree) (s : Span) → x ≡ Pair a b → judged o p a ≡ Some s → judged o q b ≡ None →
+pub right_fails : (o : Observed) (p q : NumberedPattern) (a b x : BindTree) (s : Span) → x ≡ Pair a b → verified o p a ≡ Some s → verified o q b ≡ None →
     (is_binding o (Both p q) x ≡ false) × (is_binding o (Then p q) x ≡ false)
 right_fails o p q a b x s e h n =
     let yes_it_is = (passed (is_binding o p a) (span_of o a) s h).0 in
     let no_it_isnt = failed (is_binding o q b) (span_of o b) n in
     rw (e, yes_it_is, no_it_isnt) (refl, refl)
 
-pub sides_pass : (o : Observed) (p q : NumberedPattern) (a b x : BindTree) (s t : Span) (d : Bool) → x ≡ Pair a b → judged o p a ≡ Some s → judged o q b ≡ Some t → d ≡ disjoint a b →
-    (span_if (admits join.Both s t && d) (joined_span s t) ≡ judged o (Both p q) x) × (span_if (admits join.Then s t && d) (joined_span s t) ≡ judged o (Then p q) x)
+pub sides_pass : (o : Observed) (p q : NumberedPattern) (a b x : BindTree) (s t : Span) (d : Bool) → x ≡ Pair a b → verified o p a ≡ Some s → verified o q b ≡ Some t → d ≡ disjoint a b →
+    (span_if (admits join.Both s t && d) (joined_span s t) ≡ verified o (Both p q) x) × (span_if (admits join.Then s t && d) (joined_span s t) ≡ verified o (Then p q) x)
 sides_pass o p q a b x s t d e h k apart =
     let left = passed (is_binding o p a) (span_of o a) s h in
     let right = passed (is_binding o q b) (span_of o b) t k in
@@ -107,27 +107,27 @@ and_one : (p : Bool) → p ≡ (p && true)
 and_one true = refl
 and_one false = refl
 
-more_go_on : (f : BindTree → Bool) (k : ℕ) (m : BindTree) (xs : List BindTree) → are_repeats f (suc (k + length xs)) (more_of m xs) ≡ (are_repeats f (suc k) m && go_on f m xs)
-more_go_on f k m [] = ap (λ n. are_repeats f (suc n) m) (let e : k + 0 ≡ k = omega arith in e) ∙ and_one (are_repeats f (suc k) m)
-more_go_on f k m (x ∷ xs) =
+more_continue : (f : BindTree → Bool) (k : ℕ) (m : BindTree) (xs : List BindTree) → are_repeats f (suc (k + length xs)) (more_of m xs) ≡ (are_repeats f (suc k) m && proceed f m xs)
+more_continue f k m [] = ap (λ n. are_repeats f (suc n) m) (let e : k + 0 ≡ k = omega arith in e) ∙ and_one (are_repeats f (suc k) m)
+more_continue f k m (x ∷ xs) =
     let e : suc (k + length (x ∷ xs)) ≡ suc (suc k + length xs) = omega arith in
     ap (λ n. are_repeats f n (more_of (More m x) xs)) e
-    ∙ more_go_on f (suc k) (More m x) xs
-    ∙ regroup (are_repeats f (suc k) m) (f x) (nat_lt (greatest m) (greatest x) && disjoint m x) (go_on f (More m x) xs) where
+    ∙ more_continue f (suc k) (More m x) xs
+    ∙ regroup (are_repeats f (suc k) m) (f x) (nat_lt (greatest m) (greatest x) && disjoint m x) (proceed f (More m x) xs) where
       regroup : (p q r s : Bool) → (((p && q) && r) && s) ≡ (p && ((q && r) && s))
       regroup true q r s = refl
       regroup false q r s = refl
 
 -- the parts after the first go on from it
-pub first_goes_on : (f : BindTree → Bool) (x : BindTree) (xs : List BindTree) → are_repeats f (length (x ∷ xs)) (many_of (x ∷ xs)) ≡ (f x && go_on f (Single x) xs)
-first_goes_on f x xs =
+pub first_continues : (f : BindTree → Bool) (x : BindTree) (xs : List BindTree) → are_repeats f (length (x ∷ xs)) (many_of (x ∷ xs)) ≡ (f x && proceed f (Single x) xs)
+first_continues f x xs =
     let e : length (x ∷ xs) ≡ suc (0 + length xs) = omega arith in
-    ap (λ n. are_repeats f n (more_of (Single x) xs)) e ∙ more_go_on f 0 (Single x) xs
+    ap (λ n. are_repeats f n (more_of (Single x) xs)) e ∙ more_continue f 0 (Single x) xs
 
 -- ---- the parts of a Many in a loop
 
 starts : (f : BindTree → Bool) (parts : List Bind) (n : ℕ) (x : Bind) → slice_get parts 0 ≡ Some x → length parts ≡ n →
-    are_repeats f n (many_of (map tree_of parts)) ≡ (f (tree_of x) && go_on f (many_of (map tree_of (take 1 parts))) (map tree_of (drop 1 parts)))
+    are_repeats f n (many_of (map tree_of parts)) ≡ (f (tree_of x) && proceed f (many_of (map tree_of (take 1 parts))) (map tree_of (drop 1 parts)))
 starts f [] n x h e = absurd (none-some x h)
 starts f (y ∷ ys) n x h e =
     let same : y ≡ x = same_Some y x h in
@@ -135,20 +135,20 @@ starts f (y ∷ ys) n x h e =
     let front : take 1 (y ∷ ys) ≡ y ∷ [] = grind (arith, common_steps) in
     let back : drop 1 (y ∷ ys) ≡ ys = grind (arith, common_steps) in
     ap (λ m. are_repeats f m (many_of (map tree_of (y ∷ ys)))) long
-    ∙ first_goes_on f (tree_of y) (map tree_of ys)
-    ∙ ap (λ b. f (tree_of b) && go_on f (Single (tree_of y)) (map tree_of ys)) same
-    ∙ ap (λ bs. f (tree_of x) && go_on f (many_of (map tree_of bs)) (map tree_of ys)) (sym front)
-    ∙ ap (λ bs. f (tree_of x) && go_on f (many_of (map tree_of (take 1 (y ∷ ys)))) (map tree_of bs)) (sym back)
+    ∙ first_continues f (tree_of y) (map tree_of ys)
+    ∙ ap (λ b. f (tree_of b) && proceed f (Single (tree_of y)) (map tree_of ys)) same
+    ∙ ap (λ bs. f (tree_of x) && proceed f (many_of (map tree_of bs)) (map tree_of ys)) (sym front)
+    ∙ ap (λ bs. f (tree_of x) && proceed f (many_of (map tree_of (take 1 (y ∷ ys)))) (map tree_of bs)) (sym back)
 
 pub starts_well : (f : BindTree → Bool) (parts : List Bind) (n : ℕ) (x : Bind) → slice_get parts 0 ≡ Some x → length parts ≡ n → f (tree_of x) ≡ true →
-    are_repeats f n (many_of (map tree_of parts)) ≡ go_on f (many_of (map tree_of (take 1 parts))) (map tree_of (drop 1 parts))
+    are_repeats f n (many_of (map tree_of parts)) ≡ proceed f (many_of (map tree_of (take 1 parts))) (map tree_of (drop 1 parts))
 starts_well f parts n x h e yes_it_is =
-    starts f parts n x h e ∙ ap (λ b. b && go_on f (many_of (map tree_of (take 1 parts))) (map tree_of (drop 1 parts))) yes_it_is
+    starts f parts n x h e ∙ ap (λ b. b && proceed f (many_of (map tree_of (take 1 parts))) (map tree_of (drop 1 parts))) yes_it_is
 
 pub starts_badly : (f : BindTree → Bool) (parts : List Bind) (n : ℕ) (x : Bind) → slice_get parts 0 ≡ Some x → length parts ≡ n → f (tree_of x) ≡ false →
     are_repeats f n (many_of (map tree_of parts)) ≡ false
 starts_badly f parts n x h e no_it_isnt =
-    starts f parts n x h e ∙ ap (λ b. b && go_on f (many_of (map tree_of (take 1 parts))) (map tree_of (drop 1 parts))) no_it_isnt
+    starts f parts n x h e ∙ ap (λ b. b && proceed f (many_of (map tree_of (take 1 parts))) (map tree_of (drop 1 parts))) no_it_isnt
 
 pub first_span : (o : Observed) (parts : List Bind) (x : Bind) → slice_get parts 0 ≡ Some x → span_of o (tree_of x) ≡ span_of o (many_of (map tree_of (take 1 parts)))
 first_span o [] x h = absurd (none-some x h)
@@ -170,24 +170,24 @@ next_chain parts at x low high e =
 
 -- what is left before a part is that part and what is left after it
 next_rest : (f : BindTree → Bool) (parts : List Bind) (at : ℕ) (x : Bind) → 1 ≤ at → at < length parts → get_or parts at x ≡ x →
-    go_on f (many_of (map tree_of (take at parts))) (map tree_of (drop at parts))
+    proceed f (many_of (map tree_of (take at parts))) (map tree_of (drop at parts))
     ≡ ((f (tree_of x) && (nat_lt (greatest (many_of (map tree_of (take at parts)))) (greatest (tree_of x)) && disjoint (many_of (map tree_of (take at parts))) (tree_of x)))
-    && go_on f (many_of (map tree_of (take (at + 1) parts))) (map tree_of (drop (at + 1) parts)))
+    && proceed f (many_of (map tree_of (take (at + 1) parts))) (map tree_of (drop (at + 1) parts)))
 next_rest f parts at x low high e =
     let m = many_of (map tree_of (take at parts)) in
     let left : drop at parts ≡ x ∷ drop (at + 1) parts = cut at parts high e in
-    ap (λ bs. go_on f m (map tree_of bs)) left
-    ∙ ap (λ t. (f (tree_of x) && (nat_lt (greatest m) (greatest (tree_of x)) && disjoint m (tree_of x))) && go_on f t (map tree_of (drop (at + 1) parts)))
+    ap (λ bs. proceed f m (map tree_of bs)) left
+    ∙ ap (λ t. (f (tree_of x) && (nat_lt (greatest m) (greatest (tree_of x)) && disjoint m (tree_of x))) && proceed f t (map tree_of (drop (at + 1) parts)))
     (sym (next_chain parts at x low high e)) where
       cut : (at : ℕ) (parts : List Bind) → at < length parts → get_or parts at x ≡ x → drop at parts ≡ x ∷ drop (at + 1) parts
       cut at parts high e = drop-cons parts at x high ∙ ap (λ b. b ∷ drop (suc at) parts) e ∙ ap (λ n. x ∷ drop n parts) (let s : suc at ≡ at + 1 = omega arith in s)
 
 pub goes_well : (f : BindTree → Bool) (parts : List Bind) (at : ℕ) (x : Bind) (r : Bool) → 1 ≤ at → at < length parts → get_or parts at x ≡ x →
-    r ≡ go_on f (many_of (map tree_of (take at parts))) (map tree_of (drop at parts)) → f (tree_of x) ≡ true →
+    r ≡ proceed f (many_of (map tree_of (take at parts))) (map tree_of (drop at parts)) → f (tree_of x) ≡ true →
     (nat_lt (greatest (many_of (map tree_of (take at parts)))) (greatest (tree_of x)) && disjoint (many_of (map tree_of (take at parts))) (tree_of x)) ≡ true →
-    r ≡ go_on f (many_of (map tree_of (take (at + 1) parts))) (map tree_of (drop (at + 1) parts))
+    r ≡ proceed f (many_of (map tree_of (take (at + 1) parts))) (map tree_of (drop (at + 1) parts))
 goes_well f parts at x r low high e h one two =
     h ∙ next_rest f parts at x low high e
     ∙ ap (λ b. (b && (nat_lt (greatest (many_of (map tree_of (take at parts)))) (greatest (tree_of x)) && disjoint (many_of (map tree_of (take at parts))) (tree_of x)))
-    && go_on f (many_of (map tree_of (take (at + 1) parts))) (map tree_of (drop (at + 1) parts))) one
-    ∙ ap (λ b. b && go_on f (many_of (map tree_of (take (at + 1) parts))) (map tree_of (drop (at + 1) parts))) two
+    && proceed f (many_of (map tree_of (take (at + 1) parts))) (map tree_of (drop (at + 1) parts))) one
+    ∙ ap (λ b. b && proceed f (many_of (map tree_of (take (at + 1) parts))) (map tree_of (drop (at + 1) parts))) two

@@ -15,4 +15,4 @@ pub mod SpannedLemmas
 pub mod FlatLemmas
 pub mod LongerLogLemmas
 pub mod ExistenceLemmas
-pub mod RisingLemmas
+pub mod AscendingLemmas

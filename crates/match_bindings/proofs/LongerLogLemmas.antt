@@ -39,7 +39,7 @@ abbrev Stays : Observed → Observed → (BindTree → Type 0) → BindTree → 
 Stays o z Binds x = Binds x × (earliest o.first x ≡ earliest z.first x) × (latest o.last x ≡ latest z.last x)
 
 -- where what holds goes on to hold, at the same times
-record GoesOn (o z : Observed) : Type 0 where
+record Continues (o z : Observed) : Type 0 where
   stays : (k i : ℕ) → o.holds k i ≡ true → (z.holds k i ≡ true) × (o.first i ≡ z.first i) × (o.last i ≡ z.last i)
 
 repeats_stay : (o z : Observed) (A B : BindTree → Type 0) → ((x : BindTree) → A x → Stays o z B x) → (n : ℕ) (x : BindTree) → AreRepeats A n x → Stays o z (AreRepeats B n) x
@@ -52,7 +52,7 @@ repeats_stay o z A B stay (suc (suc j)) (More m a) h =
     ((sets.0, last.0, h.2, h.3), rw (e, e') refl, rw (l, l') refl)
 repeats_stay o z A B stay n x h = absurd h
 
-binding_stays : (o z : Observed) → GoesOn o z → (p : NumberedPattern) (x : BindTree) → IsBinding o p x → Stays o z (IsBinding z p) x
+binding_stays : (o z : Observed) → Continues o z → (p : NumberedPattern) (x : BindTree) → IsBinding o p x → Stays o z (IsBinding z p) x
 binding_stays o z g (Leaf k) (One i) h = g.stays k i h
 binding_stays o z g (Both p q) (Pair a b) h =
     let left = binding_stays o z g p a h.0 in let right = binding_stays o z g q b h.1 in
@@ -82,12 +82,12 @@ binding_stays o z g (Between p start stop) x h =
 binding_stays o z g (Repeats p n) x h = repeats_stay o z (IsBinding o p) (IsBinding z p) (λ y k. binding_stays o z g p y k) n x h
 binding_stays o z g p x h = absurd h
 
-goes_on : (log more : List LogEntry) → GoesOn (observed_in log) (observed_in (log ++ more))
-goes_on log more = record {
+continues : (log more : List LogEntry) → Continues (observed_in log) (observed_in (log ++ more))
+continues log more = record {
   stays = λ k i h.
       let same = sym (row_stays log more k i h) in
       (ap (λ r. truth r k) (sym same) ∙ h, ap first_time same, ap last_time same);
 }
 
-pub bindings_last : (log more : List LogEntry) (p : NumberedPattern) (x : BindTree) → IsBinding (observed_in log) p x → IsBinding (observed_in (log ++ more)) p x
-bindings_last log more p x h = (binding_stays (observed_in log) (observed_in (log ++ more)) (goes_on log more) p x h).0
+pub bindings_persist : (log more : List LogEntry) (p : NumberedPattern) (x : BindTree) → IsBinding (observed_in log) p x → IsBinding (observed_in (log ++ more)) p x
+bindings_persist log more p x h = (binding_stays (observed_in log) (observed_in (log ++ more)) (continues log more) p x h).0

@@ -18,6 +18,6 @@ greatest_from n [] = n
 greatest_from n (x ∷ xs) = greatest_from (max n (greatest x)) xs
 
 -- whether each tree passes and goes after the chain of those before it
-abbrev pub go_on : (BindTree → Bool) → BindTree → List BindTree → Bool
-go_on f m [] = true
-go_on f m (x ∷ xs) = (f x && (nat_lt (greatest m) (greatest x) && disjoint m x)) && go_on f (More m x) xs
+abbrev pub proceed : (BindTree → Bool) → BindTree → List BindTree → Bool
+proceed f m [] = true
+proceed f m (x ∷ xs) = (f x && (nat_lt (greatest m) (greatest x) && disjoint m x)) && proceed f (More m x) xs

@@ -58,8 +58,8 @@ has n (Single a) = has n a
 has n (More m a) = has n m || has n a
 
 -- no observation is in both
-abbrev pub AreApart : BindTree → BindTree → Type 0
-AreApart a b = (n : ℕ) → has n a ≡ true → has n b ≡ false
+abbrev pub AreDisjoint : BindTree → BindTree → Type 0
+AreDisjoint a b = (n : ℕ) → has n a ≡ true → has n b ≡ false
 
 -- the same as a test
 abbrev pub disjoint : BindTree → BindTree → Bool

@@ -22,7 +22,7 @@ abbrev pub comes_before : BindTree → BindTree → Bool
 comes_before x y = is_lt (slice_cmp nat_cmp (rank x) (rank y))
 
 -- each tree comes before the next
-abbrev pub Rises : List BindTree → Type 0
-Rises [] = ⊤
-Rises (x ∷ []) = ⊤
-Rises (x ∷ y ∷ xs) = (comes_before x y ≡ true) × Rises (y ∷ xs)
+abbrev pub Ascends : List BindTree → Type 0
+Ascends [] = ⊤
+Ascends (x ∷ []) = ⊤
+Ascends (x ∷ y ∷ xs) = (comes_before x y ≡ true) × Ascends (y ∷ xs)

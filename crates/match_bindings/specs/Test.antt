@@ -5,7 +5,7 @@ use Rattle.match_bindings.specs.BindTree.{BindTree, One, Pair, First, Second, Si
 use Rattle.match_bindings.specs.Span.{earliest, latest, later_by}
 use Rattle.match_bindings.specs.Log.{Observed}
 
--- a chain of so many parts, at least one: each passes, no number is in two of them, and their greatest numbers rise
+-- a chain of so many parts, at least one: each passes, no number is in two of them, and their greatest numbers ascend
 abbrev pub are_repeats : (BindTree → Bool) → ℕ → BindTree → Bool
 are_repeats f (suc zero) (Single a) = f a
 are_repeats f (suc (suc j)) (More m a) = are_repeats f (suc j) m && f a && (nat_lt (greatest m) (greatest a) && disjoint m a)

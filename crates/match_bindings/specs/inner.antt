@@ -1,3 +1,3 @@
 pub mod Kinds
 pub mod Candidates
-pub mod Rising
+pub mod Ascending

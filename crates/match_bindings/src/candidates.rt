@@ -6,7 +6,7 @@ ghost use Rattle.match_bindings.specs.Log.{observed_in};
 ghost use Rattle.match_bindings.specs.inner.Candidates.{spanned_trees, spanned_with, ones, joins, repeats_of, candidates};
 
 use crate::bounds::Bounds;
-use crate::join::{Join, alone};
+use crate::join::{Join, singleton};
 use crate::spanned_bind::SpannedBind;
 use crate::{Bind, Log};
 use flow_values::NoMemory;
@@ -186,7 +186,7 @@ fn singles(alloc: Global, parts: &[SpannedBind]) -> Result<Vec<SpannedBind>, NoM
 {
     let mut out = Vec::new(alloc);
     for part in parts {
-        let bind = alone(alloc, &part.bind)?;
+        let bind = singleton(alloc, &part.bind)?;
         let span = part.span.copied();
         out.push(SpannedBind { bind, span })?;
     }

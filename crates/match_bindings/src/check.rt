@@ -5,7 +5,7 @@ ghost use Rattle.match_bindings.specs.BindTree.{tree_of, many_of, firsts};
 ghost use Rattle.match_bindings.specs.Log.{observed_in};
 ghost use Rattle.match_bindings.specs.Binding.{IsBinding};
 ghost use Rattle.match_bindings.specs.Test.{is_binding, are_repeats};
-ghost use Rattle.match_bindings.specs.inner.Candidates.{judged, span_if, span_of, joined_span, admits, lies_within, lies_between};
+ghost use Rattle.match_bindings.specs.inner.Candidates.{verified, span_if, span_of, joined_span, admits, lies_within, lies_between};
 ghost use Rattle.match_bindings.specs.declared.join.Join.TheVariants as variant;
 
 use crate::join::Join;
@@ -21,36 +21,36 @@ pub fn check_binding(pattern: &Pattern, log: &Log, bind: &Bind) -> bool
     requires { leaves pattern.now < 2 ^ 32 }
     ensures { IsTrue result ↔ IsBinding (observed_in log.now) (numbered_pattern pattern.now) (tree_of bind.now) }
 {
-    judge(pattern, 0, log, bind).is_some()
+    verify(pattern, 0, log, bind).is_some()
 }
 
 /// The span of a bind, where it is a binding of a pattern whose leftmost leaf has the number `leaf`.
-#[cycle(judge)]
-fn judge(pattern: &Pattern, leaf: u32, log: &Log, bind: &Bind) -> Option<Span>
+#[cycle(verify)]
+fn verify(pattern: &Pattern, leaf: u32, log: &Log, bind: &Bind) -> Option<Span>
     requires { leaf + leaves pattern.now < 2 ^ 32 }
-    ensures { result ≡ judged (observed_in log.now) (numbered_from leaf pattern.now) (tree_of bind.now) }
+    ensures { result ≡ verified (observed_in log.now) (numbered_from leaf pattern.now) (tree_of bind.now) }
 {
     match pattern {
         Pattern::Leaf(_) => log.span_of(leaf, bind.number()?),
-        Pattern::Both(left, right) => judge_sides(Join::Both, left, right, leaf, log, bind),
-        Pattern::Then(left, right) => judge_sides(Join::Then, left, right, leaf, log, bind),
+        Pattern::Both(left, right) => verify_sides(Join::Both, left, right, leaf, log, bind),
+        Pattern::Then(left, right) => verify_sides(Join::Then, left, right, leaf, log, bind),
         Pattern::Either(left, right) => match bind {
-            Bind::First(more, part) => judge_left(left, leaf, log, *more, part),
-            Bind::Second(part) => judge(right, leaf + leaf_count(left), log, part),
+            Bind::First(more, part) => verify_left(left, leaf, log, *more, part),
+            Bind::Second(part) => verify(right, leaf + leaf_count(left), log, part),
             Bind::One(_) | Bind::Both(_) => None,
             Bind::Many(_) => None,
         },
-        Pattern::Within(part, seconds) => within(judge(part, leaf, log, bind), *seconds),
+        Pattern::Within(part, seconds) => within(verify(part, leaf, log, bind), *seconds),
         Pattern::Between(part, start, stop) => {
-            between(judge(part, leaf, log, bind), *start, *stop)
+            between(verify(part, leaf, log, bind), *start, *stop)
         }
-        Pattern::Repeats(part, count) => judge_repeats(part, leaf, log, bind.parts()?, *count),
+        Pattern::Repeats(part, count) => verify_repeats(part, leaf, log, bind.parts()?, *count),
     }
 }
 
 /// The span of a bind of two sides, where it is a binding of an `AND` or a `FOLLOWEDBY` of these patterns.
-#[cycle(judge)]
-fn judge_sides(
+#[cycle(verify)]
+fn verify_sides(
     join: Join,
     left: &Pattern,
     right: &Pattern,
@@ -60,33 +60,33 @@ fn judge_sides(
 ) -> Option<Span>
     requires { leaf + (leaves left.now + leaves right.now) < 2 ^ 32 }
     ensures both { join ≡ variant.Both → result
-        ≡ judged (observed_in log.now) (Both (numbered_from leaf left.now) (numbered_from (leaf + leaves left.now) right.now)) (tree_of bind.now) }
+        ≡ verified (observed_in log.now) (Both (numbered_from leaf left.now) (numbered_from (leaf + leaves left.now) right.now)) (tree_of bind.now) }
     ensures ordered { join ≡ variant.Then → result
-        ≡ judged (observed_in log.now) (Then (numbered_from leaf left.now) (numbered_from (leaf + leaves left.now) right.now)) (tree_of bind.now) }
+        ≡ verified (observed_in log.now) (Then (numbered_from leaf left.now) (numbered_from (leaf + leaves left.now) right.now)) (tree_of bind.now) }
 {
     let (first, second) = bind.sides()?;
-    let first_span = judge(left, leaf, log, first)?;
-    let second_span = judge(right, leaf + leaf_count(left), log, second)?;
+    let first_span = verify(left, leaf, log, first)?;
+    let second_span = verify(right, leaf + leaf_count(left), log, second)?;
     let apart = are_disjoint(first, second);
     joined(join, &first_span, &second_span, apart)
 }
 
 /// The span of a bind under so many `First`s: each `OR` on the way down its left sides takes one off.
-#[cycle(judge)]
-fn judge_left(pattern: &Pattern, leaf: u32, log: &Log, count: u32, bind: &Bind) -> Option<Span>
+#[cycle(verify)]
+fn verify_left(pattern: &Pattern, leaf: u32, log: &Log, count: u32, bind: &Bind) -> Option<Span>
     requires { leaf + leaves pattern.now < 2 ^ 32 }
-    ensures { result ≡ judged (observed_in log.now) (numbered_from leaf pattern.now) (firsts count (tree_of bind.now)) }
+    ensures { result ≡ verified (observed_in log.now) (numbered_from leaf pattern.now) (firsts count (tree_of bind.now)) }
 {
     if count == 0 {
-        return judge(pattern, leaf, log, bind);
+        return verify(pattern, leaf, log, bind);
     }
     match pattern {
-        Pattern::Either(left, _) => judge_left(left, leaf, log, count - 1, bind),
+        Pattern::Either(left, _) => verify_left(left, leaf, log, count - 1, bind),
         Pattern::Within(part, seconds) => {
-            within(judge_left(part, leaf, log, count, bind), *seconds)
+            within(verify_left(part, leaf, log, count, bind), *seconds)
         }
         Pattern::Between(part, start, stop) => {
-            between(judge_left(part, leaf, log, count, bind), *start, *stop)
+            between(verify_left(part, leaf, log, count, bind), *start, *stop)
         }
         Pattern::Leaf(_) | Pattern::Both(_, _) | Pattern::Then(_, _) => None,
         Pattern::Repeats(_, _) => None,
@@ -94,9 +94,9 @@ fn judge_left(pattern: &Pattern, leaf: u32, log: &Log, count: u32, bind: &Bind) 
 }
 
 /// The span of the parts of a `Many`, where there are so many, each is a binding, no number is in two
-/// of them, and their greatest numbers rise.
-#[cycle(judge)]
-fn judge_repeats(
+/// of them, and their greatest numbers ascend.
+#[cycle(verify)]
+fn verify_repeats(
     pattern: &Pattern,
     leaf: u32,
     log: &Log,
@@ -110,10 +110,10 @@ fn judge_repeats(
     if parts.len() != count as usize {
         return None;
     }
-    let mut span = judge(pattern, leaf, log, parts.first()?)?;
+    let mut span = verify(pattern, leaf, log, parts.first()?)?;
     for at in 1..parts.len() {
         let part = &parts[at];
-        let next = judge(pattern, leaf, log, part)?;
+        let next = verify(pattern, leaf, log, part)?;
         let apart = all_disjoint(&parts[..at], part);
         span = joined(Join::Repeats, &span, &next, apart)?;
     }

@@ -103,7 +103,7 @@ pub fn with_sides(alloc: Global, left: &Bind, right: &Bind) -> Result<Bind, NoMe
 }
 
 /// A bind as the only part of a `Many`.
-pub fn alone(alloc: Global, part: &Bind) -> Result<Bind, NoMemory>
+pub fn singleton(alloc: Global, part: &Bind) -> Result<Bind, NoMemory>
     ensures { IfOk result (λ bind. tree_of bind ≡ Single (tree_of part.now)) }
 {
     let mut parts = Items::new(alloc);

@@ -9,7 +9,7 @@ ghost use Rattle.match_bindings.specs.Log.{Observed, observed_in};
 ghost use Rattle.match_bindings.specs.Binding.{IsBinding};
 ghost use Rattle.match_bindings.specs.Test.{is_binding};
 ghost use Rattle.match_bindings.specs.Once.{bit, count, Exactly};
-ghost use Rattle.match_bindings.specs.Flat.{flat, comes_before, Rises};
+ghost use Rattle.match_bindings.specs.Flat.{flat, comes_before, Ascends};
 ghost use Rattle.match_bindings.specs.Listing.{IsListing};
 
 /// The test of a binding is the rule.
@@ -19,7 +19,7 @@ pub fn test_is_the_rule()
 
 /// A listing is what the test lets through, each once, in order.
 pub fn listing_is_by_the_test()
-    ensures { (o : Observed) (p : NumberedPattern) (xs : List BindTree) → IsListing o p xs ↔ (Exactly (is_binding o p) xs × Rises xs) }
+    ensures { (o : Observed) (p : NumberedPattern) (xs : List BindTree) → IsListing o p xs ↔ (Exactly (is_binding o p) xs × Ascends xs) }
 {}
 
 /// There is one listing.
@@ -28,20 +28,20 @@ pub fn one_listing()
 {}
 
 /// Different bindings of a pattern have different flat lists.
-pub fn flat_lists_tell()
+pub fn flat_lists_are_unique()
     ensures { (o : Observed) (p : NumberedPattern) (x y : BindTree) → IsBinding o p x → IsBinding o p y → flat x ≡ flat y → x ≡ y }
 {}
 
 /// A binding over a log is one over every longer log.
-pub fn bindings_last()
+pub fn bindings_persist()
     ensures { (log more : List LogEntry) (p : NumberedPattern) (x : BindTree) → IsBinding (observed_in log) p x
         → IsBinding (observed_in (log ++ more)) p x }
 {}
 
-/// Bindings of one pattern, none of them twice, rise where each isn't before the one ahead of it.
-pub fn sorted_bindings_rise()
+/// Bindings of one pattern, none of them twice, ascend where each isn't before the one ahead of it.
+pub fn sorted_bindings_ascend()
     ensures { (o : Observed) (p : NumberedPattern) (xs : List BindTree) → ((x : BindTree) → count x xs ≤ bit (is_binding o p x))
-        → IsSortedBy comes_before xs → Rises xs }
+        → IsSortedBy comes_before xs → Ascends xs }
 {}
 
 /// Every log has a listing.
@@ -49,7 +49,7 @@ pub fn listings_exist()
     ensures { (log : List LogEntry) (p : NumberedPattern) → (xs : List BindTree) × IsListing (observed_in log) p xs }
 {}
 
-/// In a rising list each tree comes before all behind it.
-pub fn rising_lists_are_ordered()
-    ensures { (x : BindTree) (xs : List BindTree) → Rises (x ∷ xs) → (y : BindTree) → 0 < count y xs → comes_before x y ≡ true }
+/// In a ascending list each tree comes before all behind it.
+pub fn ascending_lists_are_ordered()
+    ensures { (x : BindTree) (xs : List BindTree) → Ascends (x ∷ xs) → (y : BindTree) → 0 < count y xs → comes_before x y ≡ true }
 {}

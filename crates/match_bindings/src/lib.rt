@@ -18,7 +18,7 @@ mod log_entry;
 mod numbers;
 mod order;
 mod ranked;
-mod rising;
+mod ascending;
 mod span;
 mod spanned_bind;
 
@@ -27,7 +27,7 @@ pub use bindings::listing;
 pub use bounds::Bounds;
 pub use check::check_binding;
 pub use flat_list::flat;
-pub use join::{alone, with_part, with_sides};
+pub use join::{singleton, with_part, with_sides};
 pub use line::line_of;
 pub use log::Log;
 pub use numbers::{are_disjoint, greatest_number};

@@ -9,16 +9,16 @@ use crate::Bind;
 use crate::flat_list::push_flat;
 use crate::numbers::greatest_number;
 use crate::ranked::Ranked;
-use crate::rising::are_rising;
+use crate::ascending::are_ascending;
 use flow_values::NoMemory;
 use std::alloc::Global;
 
 /// Binds by greatest number and then by flat list. Those that are seen to be in order take no memory.
 pub fn in_order(alloc: Global, binds: Vec<Bind>) -> Result<Vec<Bind>, NoMemory>
     ensures counts { IfOk result (λ sorted. (x : BindTree) → count x (map tree_of sorted.items) ≡ count x (map tree_of binds.items)) }
-    ensures rises { IfOk result (λ sorted. IsSortedBy comes_before (map tree_of sorted.items)) }
+    ensures ascends { IfOk result (λ sorted. IsSortedBy comes_before (map tree_of sorted.items)) }
 {
-    if binds.len() < 2 || are_rising(&binds) {
+    if binds.len() < 2 || are_ascending(&binds) {
         return Ok(binds);
     }
     let sorted = by_rank(alloc, binds)?;
@@ -28,7 +28,7 @@ pub fn in_order(alloc: Global, binds: Vec<Bind>) -> Result<Vec<Bind>, NoMemory>
 /// Binds by their ranks.
 fn by_rank(alloc: Global, binds: Vec<Bind>) -> Result<Vec<Bind>, NoMemory>
     ensures counts { IfOk result (λ sorted. (x : BindTree) → count x (map tree_of sorted.items) ≡ count x (map tree_of binds.items)) }
-    ensures rises { IfOk result (λ sorted. IsSortedBy comes_before (map tree_of sorted.items)) }
+    ensures ascends { IfOk result (λ sorted. IsSortedBy comes_before (map tree_of sorted.items)) }
 {
     let mut all = ranked(alloc, binds)?;
     all.sort_by(|a, b| a.key.as_slice().cmp(b.key.as_slice()))?;

@@ -7,9 +7,9 @@ use Rattle.std.proofs.lemmas.Str.{chars-nil, chars-append, chars_past_char, enco
 use Rattle.std.proofs.lemmas.List.Prefix.{front_rest}
 use Rattle.std.proofs.lemmas.Bool.Decides.{eqb_tells}
 use Rattle.match_comparisons.specs.Like.{any_run, any_one, IsLike}
-use Rattle.match_comparisons.specs.inner.Pieces.{Lacks, StandsBehind}
+use Rattle.match_comparisons.specs.inner.Segments.{Lacks, OccursAfter}
 use Rattle.match_comparisons.proofs.IsLikeLemmas.{like_first, run_splits, like_splits}
-use Rattle.match_comparisons.proofs.PiecesLemmas.{lacks_head, lacks_tail}
+use Rattle.match_comparisons.proofs.SegmentsLemmas.{lacks_head, lacks_tail}
 
 -- only the empty text has no characters
 pub chars-none : (bs : List ℕ) → IsUtf8 bs → chars bs ≡ [] → length bs ≡ 0
@@ -49,7 +49,7 @@ pub lacks_chars : (bs : List ℕ) (c : ℕ) → c < 128 → IsUtf8 bs → Lacks 
 lacks_chars bs c small utf8 lacks front back split =
     lacks (encode_utf8_all front) (encode_utf8_all back) (bytes_around bs front back c small utf8 split)
 
-pub lacks_within : (bs : List ℕ) (most : ℕ) → IsUtf8 bs → StandsBehind bs any_run most → length bs ≤ most → Lacks (chars bs) any_run
+pub lacks_within : (bs : List ℕ) (most : ℕ) → IsUtf8 bs → OccursAfter bs any_run most → length bs ≤ most → Lacks (chars bs) any_run
 lacks_within bs most utf8 behind within =
     lacks_chars bs any_run (omega arith) utf8 (λ front back split. omega (arith, behind front back split, within, ap length split, length-append front (any_run ∷ back)))
 
@@ -60,24 +60,24 @@ lacks_where_not_found bs c found finds none front back split =
     let yes = finds (length front) inside (rw split (get_or-append_seam front c back 0)) in
     cc (yes, none)
 
--- a piece has at most as many bytes as what it fits
-like_weighs : (front piece : List ℕ) → Lacks piece any_run → IsLike front piece → length (encode_utf8_all piece) ≤ length (encode_utf8_all front)
+-- a segment has at most as many bytes as what it fits
+like_weighs : (front segment : List ℕ) → Lacks segment any_run → IsLike front segment → length (encode_utf8_all segment) ≤ length (encode_utf8_all front)
 like_weighs front [] lacks like = omega arith
-like_weighs front (character ∷ piece) lacks like =
-    let first = like_first character front piece (lacks_head any_run character _ piece refl lacks) like in
-    let rest = like_weighs first.1 piece (lacks_tail any_run character _ piece refl lacks) first.4 in
+like_weighs front (character ∷ segment) lacks like =
+    let first = like_first character front segment (lacks_head any_run character _ segment refl lacks) like in
+    let rest = like_weighs first.1 segment (lacks_tail any_run character _ segment refl lacks) first.4 in
     let own : length (encode_utf8 character) ≤ length (encode_utf8 first.0) = elim (eqb_tells character any_one) [
       | inl is ↦ omega (arith, ap (λ c. length (encode_utf8 c)) is.1, length-encode any_one, len_utf8_ascii any_one (omega arith), length-encode first.0, (len_utf8_bounds first.0).0)
       | inr is ↦ le_of_eq (ap (λ c. length (encode_utf8 c)) (first.3.itself is.1))
     ] in
-    omega (arith, own, rest, ap (λ cs. length (encode_utf8_all cs)) first.2, length-append (encode_utf8 character) (encode_utf8_all piece), length-append (encode_utf8 first.0) (encode_utf8_all first.1))
+    omega (arith, own, rest, ap (λ cs. length (encode_utf8_all cs)) first.2, length-append (encode_utf8 character) (encode_utf8_all segment), length-append (encode_utf8 first.0) (encode_utf8_all first.1))
 
 -- what stands before the first `%`, if there is one
-record FirstPiece (pattern : List ℕ) : Type 0 where
-  piece : List ℕ
+record FirstSegment (pattern : List ℕ) : Type 0 where
+  segment : List ℕ
   rest : List ℕ
-  split : pattern ≡ piece ++ rest
-  lacks : Lacks piece any_run
+  split : pattern ≡ segment ++ rest
+  lacks : Lacks segment any_run
   ends : (rest ≡ []) ⊎ ((behind : List ℕ) × (rest ≡ any_run ∷ behind))
 
 lacks_none : Lacks [] any_run
@@ -87,35 +87,35 @@ lacks_more : (character : ℕ) (list : List ℕ) → character ≢ any_run → L
 lacks_more character list differs lacks [] back is = differs cc
 lacks_more character list differs lacks (x ∷ front) back is = lacks front back cc
 
-first_of : (pattern : List ℕ) → FirstPiece pattern
-first_of [] = record { piece = []; rest = []; split = refl; lacks = lacks_none; ends = inl refl }
+first_of : (pattern : List ℕ) → FirstSegment pattern
+first_of [] = record { segment = []; rest = []; split = refl; lacks = lacks_none; ends = inl refl }
 first_of (character ∷ pattern) = elim (eqb_tells character any_run) [
-  | inl is ↦ record { piece = []; rest = character ∷ pattern; split = refl; lacks = lacks_none; ends = inr (pattern, ap (λ one. one ∷ pattern) is.1) }
+  | inl is ↦ record { segment = []; rest = character ∷ pattern; split = refl; lacks = lacks_none; ends = inr (pattern, ap (λ one. one ∷ pattern) is.1) }
   | inr is ↦
       let later = first_of pattern in
       record {
-        piece = character ∷ later.piece;
+        segment = character ∷ later.segment;
         rest = later.rest;
         split = ap (λ rest. character ∷ rest) later.split;
-        lacks = lacks_more character later.piece is.1 later.lacks;
+        lacks = lacks_more character later.segment is.1 later.lacks;
         ends = later.ends;
       }
 ]
 
--- no text is like a pattern whose first piece has more bytes than it
-pub too_long : (text pattern : List ℕ) → IsUtf8 text → IsUtf8 pattern → StandsBehind pattern any_run (length text) → length text < length pattern → ¬ (IsLike (chars text) (any_run ∷ chars pattern))
+-- no text is like a pattern whose first segment has more bytes than it
+pub too_long : (text pattern : List ℕ) → IsUtf8 text → IsUtf8 pattern → OccursAfter pattern any_run (length text) → length text < length pattern → ¬ (IsLike (chars text) (any_run ∷ chars pattern))
 too_long text pattern text_utf8 pattern_utf8 behind longer like =
     let first = first_of (chars pattern) in
     let run = run_splits (chars text) (chars pattern) like in
-    let cut = like_splits run.1 first.piece first.rest (subst (λ cs. IsLike run.1 cs) first.split run.3) in
-    let weighs = like_weighs cut.1.0 first.piece first.lacks cut.1.2 in
+    let cut = like_splits run.1 first.segment first.rest (subst (λ cs. IsLike run.1 cs) first.split run.3) in
+    let weighs = like_weighs cut.1.0 first.segment first.lacks cut.1.2 in
     let whole : text ≡ encode_utf8_all run.0 ++ (encode_utf8_all cut.1.0 ++ encode_utf8_all cut.0) = sym (encodes-chars text text_utf8) ∙ ap encode_utf8_all (run.2 ∙ ap (λ end. run.0 ++ end) cut.1.1) ∙ encodes-append run.0 (cut.1.0 ++ cut.0) ∙ ap (λ end. encode_utf8_all run.0 ++ end) (encodes-append cut.1.0 cut.0) in
-    let short : length (encode_utf8_all first.piece) ≤ length text = omega (arith, weighs, ap length whole, length-append (encode_utf8_all run.0) (encode_utf8_all cut.1.0 ++ encode_utf8_all cut.0), length-append (encode_utf8_all cut.1.0) (encode_utf8_all cut.0)) in
+    let short : length (encode_utf8_all first.segment) ≤ length text = omega (arith, weighs, ap length whole, length-append (encode_utf8_all run.0) (encode_utf8_all cut.1.0 ++ encode_utf8_all cut.0), length-append (encode_utf8_all cut.1.0) (encode_utf8_all cut.0)) in
     elim first.ends [
       | inl none ↦
-          let all : pattern ≡ encode_utf8_all first.piece = sym (encodes-chars pattern pattern_utf8) ∙ ap encode_utf8_all (first.split ∙ ap (λ end. first.piece ++ end) none ∙ append-nil first.piece) in
+          let all : pattern ≡ encode_utf8_all first.segment = sym (encodes-chars pattern pattern_utf8) ∙ ap encode_utf8_all (first.split ∙ ap (λ end. first.segment ++ end) none ∙ append-nil first.segment) in
           omega (arith, short, longer, ap length all)
       | inr some ↦
-          let at = bytes_around pattern first.piece some.0 any_run (omega arith) pattern_utf8 (first.split ∙ ap (λ end. first.piece ++ end) some.1) in
-          omega (arith, short, behind (encode_utf8_all first.piece) (encode_utf8_all some.0) at)
+          let at = bytes_around pattern first.segment some.0 any_run (omega arith) pattern_utf8 (first.split ∙ ap (λ end. first.segment ++ end) some.1) in
+          omega (arith, short, behind (encode_utf8_all first.segment) (encode_utf8_all some.0) at)
     ]

@@ -10,7 +10,7 @@ use Rattle.hex.specs.Hex.{decode_of}
 use Rattle.stix_times.specs.Reading.{IsTextOf}
 use Rattle.match_comparisons.specs.Selection.{EndsIn}
 use Rattle.match_comparisons.specs.Tests.{IsBytesOf, BytesCompare}
-use Rattle.match_comparisons.specs.inner.Bytes.{StandsFor}
+use Rattle.match_comparisons.specs.inner.Bytes.{Represents}
 
 -- how the instants that a text names compare with another
 abbrev pub TimeCompares : List ℕ → ℤ → Ordering → Type 0
@@ -38,7 +38,7 @@ text_compares value text instant answer is exact order = (
 )
 
 -- how the bytes that a value stands for compare with others
-pub bytes_compare : (last : Option (List ℕ)) (value : Data) (own : Option (List ℕ)) (bytes : List ℕ) (answer : Option Ordering) → StandsFor last value own
+pub bytes_compare : (last : Option (List ℕ)) (value : Data) (own : Option (List ℕ)) (bytes : List ℕ) (answer : Option Ordering) → Represents last value own
     → answer ≡ option_map (λ (decoded : List ℕ). slice_cmp nat_cmp decoded bytes) own → (order : Ordering) → BytesCompare last value bytes order ↔ (answer ≡ Some order)
 bytes_compare last value None bytes answer stands is order = (
   λ h. let never = (stands h.1).0 (h.0, h.2, h.3) in absurd (none-some h.1 never),

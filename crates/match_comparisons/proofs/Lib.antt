@@ -1,7 +1,7 @@
 pub mod CharactersLemmas
 pub mod IsLikeLemmas
-pub mod PiecesLemmas
-pub mod PlainPieceLemmas
+pub mod SegmentsLemmas
+pub mod PlainSegmentLemmas
 pub mod RunsLemmas
 pub mod OrderedLemmas
 pub mod MembersLemmas
@@ -20,7 +20,7 @@ pub mod BlockLemmas
 pub mod MetLemmas
 pub mod LeavesLemmas
 pub mod SearchLemmas
-pub mod PlacesLemmas
+pub mod VisitSetLemmas
 pub mod ContainsLemmas
 pub mod SplitsLemmas
 pub mod RowsLemmas

@@ -7,12 +7,12 @@ use Rattle.pattern_types.specs.declared.check.Check.{Check}
 use Rattle.pattern_types.specs.declared.check.Check.TheVariants.{Exists}
 use Rattle.pattern_types.specs.declared.leaf.Test.{Test}
 use Rattle.match_comparisons.specs.Selection.{Reaches, IsRoot}
-use Rattle.match_comparisons.specs.Tests.{Turned, Meets, IsAbsence, TestHolds, last_of}
+use Rattle.match_comparisons.specs.Tests.{NegatedIf, Meets, IsAbsence, TestHolds, last_of}
 
 -- the steps reach a value that meets the check, or where it is negated one that doesn't
 abbrev pub ReachesMet : List Data → Test → Bool → Data → Type 0
 ReachesMet objects test negated root = (value : Data) × Reaches objects None test.path.steps root value
-    × Turned negated (Meets (last_of test.path) value test.check)
+    × NegatedIf negated (Meets (last_of test.path) value test.check)
 
 one_root : (objects : List Data) (root : ℕ) (kind : List ℕ) (first second : Data) → IsRoot objects root kind first → IsRoot objects root kind second → first ≡ second
 one_root objects root kind first second is also = same_Some first second (sym is.there ∙ also.there)

@@ -3,8 +3,8 @@ use Rattle.std.proofs.Common.{◌≡◌, ◌↔◌, ◌⊎◌, inl, inr, ℕ, Li
 use Rattle.std.specs.Prelude.{Contains}
 use Rattle.std.proofs.lemmas.Bool.{false≢true}
 use Rattle.stix_bundles.specs.declared.observation.Observation.{Observation}
-use Rattle.match_comparisons.specs.declared.positions.Positions.{Positions}
-use Rattle.match_comparisons.specs.inner.Positions.{IsIn, AreOf}
+use Rattle.match_comparisons.specs.declared.position_set.PositionSet.{PositionSet}
+use Rattle.match_comparisons.specs.inner.PositionSet.{IsIn, AreOf}
 use Rattle.match_comparisons.specs.inner.Roots.{IsSomeRoot}
 use Rattle.match_comparisons.proofs.ContainsLemmas.{none_in, in_more}
 
@@ -12,7 +12,7 @@ pub not_not : (b : Bool) → ¬ (¬ IsTrue b) → IsTrue b
 not_not true twice = refl
 not_not false twice = absurd (twice (λ yes. false≢true yes))
 
-module _ (roots : List ℕ) (seen more : Positions) (x : ℕ) (same : AreOf roots seen)
+module _ (roots : List ℕ) (seen more : PositionSet) (x : ℕ) (same : AreOf roots seen)
     (added : (at : ℕ) → IsIn more at ↔ (IsIn seen at ⊎ (at ≡ x))) where
   pub new_same : AreOf (roots ++ x ∷ []) more
   new_same at = (

@@ -8,20 +8,20 @@ use Rattle.serde_json.specs.Data.{Data}
 use Rattle.match_comparisons.proofs.ContainsLemmas.{take_next}
 use Rattle.stix_bundles.specs.declared.observation.Observation.{Observation}
 use Rattle.pattern_types.specs.PlainLeaf.{PlainLeaf}
-use Rattle.match_comparisons.specs.declared.positions.Positions.{Positions}
+use Rattle.match_comparisons.specs.declared.position_set.PositionSet.{PositionSet}
 use Rattle.match_comparisons.specs.declared.split.Split.{Split}
 use Rattle.match_comparisons.specs.Tests.{HoldsAt, LeafHolds}
 use Rattle.match_comparisons.specs.Truths.{AreOfBoth}
-use Rattle.match_comparisons.specs.inner.Positions.{IsIn, AreOf}
+use Rattle.match_comparisons.specs.inner.PositionSet.{IsIn, AreOf}
 use Rattle.match_comparisons.specs.inner.Splits.{Splits}
 use Rattle.match_comparisons.specs.inner.Rows.{Adds, AddsToEach}
 
 -- one of the roots is among the positions at which the bracket holds
-abbrev pub HasSome : Positions → List ℕ → Type 0
-HasSome positions roots = (root : ℕ) × Contains roots root × IsIn positions root
+abbrev pub HasSome : PositionSet → List ℕ → Type 0
+HasSome position_set roots = (root : ℕ) × Contains roots root × IsIn position_set root
 
 -- a bracket holds for an observation where one of its roots is among those at which it was found to hold
-pub holds_some : (objects : List Data) (leaf : PlainLeaf) (roots asked : List ℕ) (split : Split) (held : Positions)
+pub holds_some : (objects : List Data) (leaf : PlainLeaf) (roots asked : List ℕ) (split : Split) (held : PositionSet)
     → Splits (λ (at : ℕ). HoldsAt objects at leaf) asked split → AreOf split.held.items held
     → ((at : ℕ) → Contains roots at → Contains asked at) → HasSome held roots ↔ LeafHolds objects roots leaf
 holds_some objects leaf roots asked split held splits same among = (

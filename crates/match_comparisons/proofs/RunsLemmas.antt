@@ -4,7 +4,7 @@ use Rattle.std.proofs.Math.Seq.{get_or-append_seam}
 use Rattle.std.proofs.lemmas.Bool.{cases_lt}
 use Rattle.memchr.specs.Find.{Passes, Nowhere, is_byte}
 use Rattle.match_comparisons.specs.Like.{any_run}
-use Rattle.match_comparisons.specs.inner.Pieces.{Lacks, StandsBehind}
+use Rattle.match_comparisons.specs.inner.Segments.{Lacks, OccursAfter}
 
 -- the byte at which a list is split
 byte_at : (bytes front back : List ℕ) (byte : ℕ) → bytes ≡ front ++ byte ∷ back → get_or bytes (length front) 0 ≡ byte
@@ -18,12 +18,12 @@ module _ (bytes near : List ℕ) (n : ℕ) (near_is : near ≡ take n bytes) whe
   near_reads : (k : ℕ) → k < n → get_or near k 0 ≡ get_or bytes k 0
   near_reads k within = rw near_is (get_or-take n bytes k 0 within)
 
-  pub run_behind : (most : ℕ) → ((k : ℕ) → k < length bytes → k ≤ most → k < n) → Nowhere (Passes (is_byte any_run) near) 0 (length near) → StandsBehind bytes any_run most
-  run_behind most reaches nowhere front back split = elim (cases_lt most (length front)) [
+  pub run_behind : (most : ℕ) → ((k : ℕ) → k < length bytes → k ≤ most → k < n) → Nowhere (Passes (is_byte any_run) near) 0 (length near) → OccursAfter bytes any_run most
+  run_behind most compares_or_equals nowhere front back split = elim (cases_lt most (length front)) [
     | inl behind ↦ behind
     | inr within ↦
         let inside : length front < length bytes = omega (arith, ap length split, length-append front (any_run ∷ back)) in
-        let reached = reaches (length front) inside within in
+        let reached = compares_or_equals (length front) inside within in
         let read = near_reads (length front) reached ∙ byte_at bytes front back any_run split in
         absurd (nowhere (length front) (omega arith) (omega (arith, near_length, inside, reached)) (eq-eqb _ _ read))
   ]

@@ -13,9 +13,9 @@ use Rattle.stix_bundles.specs.Objects.{data_in}
 use Rattle.pattern_types.specs.declared.path.Step.{Step}
 use Rattle.match_comparisons.specs.Selection.{StepReaches, last_name, Reaches}
 use Rattle.match_comparisons.specs.declared.search.Search.{Search}
-use Rattle.match_comparisons.specs.declared.findings.Findings.{Findings}
-use Rattle.match_comparisons.specs.inner.Places.{Has}
-use Rattle.match_comparisons.specs.inner.Search.{IsWanted, Finds, SomeFinds, FindsAt, AreLast, AreRight}
+use Rattle.match_comparisons.specs.declared.memo.SearchMemo.{SearchMemo}
+use Rattle.match_comparisons.specs.inner.VisitSet.{Has}
+use Rattle.match_comparisons.specs.inner.Search.{IsTarget, Finds, SomeFinds, FindsAt, AreLast, IsSoundMemo}
 
 -- the steps reach a value that the fact holds of
 abbrev pub From : List Data → (Data → Type 0) → Option (List ℕ) → List Step → Data → Type 0
@@ -58,22 +58,22 @@ same_last search steps others last also count =
     sym (same_end search.steps.now last.0 steps (length others) last.1 count) ∙ same_end search.steps.now also.0 others (length others) also.1 refl
 
 -- one finding more
-pub one_more : (search : Search) (old new : Findings) (step : Step) (rest : List Step) (at : ℕ) (found : Bool) → AreRight search old
+pub one_more : (search : Search) (old new : SearchMemo) (step : Step) (rest : List Step) (at : ℕ) (found : Bool) → IsSoundMemo search old
     → AreLast search (step ∷ rest) → IsTrue found ↔ FindsAt search (step ∷ rest) at
-    → ((count place : ℕ) → Has new.live count place → (Has old.live count place ⊎ ((found ≡ true) × (count ≡ length rest) × (place ≡ at))))
-    → ((count place : ℕ) → Has new.dead count place → (Has old.dead count place ⊎ ((found ≡ false) × (count ≡ length rest) × (place ≡ at))))
-    → AreRight search new
+    → ((count place : ℕ) → Has new.positive count place → (Has old.positive count place ⊎ ((found ≡ true) × (count ≡ length rest) × (place ≡ at))))
+    → ((count place : ℕ) → Has new.negative count place → (Has old.negative count place ⊎ ((found ≡ false) × (count ≡ length rest) × (place ≡ at))))
+    → IsSoundMemo search new
 one_more search old new step rest at found right last exact lives dies =
     let here = λ (other : Step) (others : List Step) (also : AreLast search (other ∷ others)) (count : length others ≡ length rest).
     same_last search (other ∷ others) (step ∷ rest) also last (ap suc count) in record {
-      dead = λ other others place also has finds. elim (dies (length others) place has) [
-        | inl before ↦ right.dead other others place also before finds
+      negative = λ other others place also has finds. elim (dies (length others) place has) [
+        | inl before ↦ right.negative other others place also before finds
         | inr now ↦
             let there = subst (FindsAt search (step ∷ rest)) now.2 (subst (λ (steps : List Step). FindsAt search steps place) (here other others also now.1) finds) in
             absurd (false≢true (sym now.0 ∙ exact.1 there))
       ];
-      live = λ other others place also has. elim (lives (length others) place has) [
-        | inl before ↦ right.live other others place also before
+      positive = λ other others place also has. elim (lives (length others) place has) [
+        | inl before ↦ right.positive other others place also before
         | inr now ↦
             subst (λ (steps : List Step). FindsAt search steps place) (sym (here other others also now.1))
             (subst (FindsAt search (step ∷ rest)) (sym now.2) (exact.0 now.0))
@@ -81,12 +81,12 @@ one_more search old new step rest at found right last exact lives dies =
     }
 
 -- an answer that is known is right
-pub known_right : (search : Search) (findings : Findings) (step : Step) (rest : List Step) (at : ℕ) (found : Bool) → AreRight search findings
-    → AreLast search (step ∷ rest) → (found ≡ true → Has findings.live (length rest) at) → (found ≡ false → Has findings.dead (length rest) at)
+pub known_right : (search : Search) (memo : SearchMemo) (step : Step) (rest : List Step) (at : ℕ) (found : Bool) → IsSoundMemo search memo
+    → AreLast search (step ∷ rest) → (found ≡ true → Has memo.positive (length rest) at) → (found ≡ false → Has memo.negative (length rest) at)
     → IsTrue found ↔ FindsAt search (step ∷ rest) at
-known_right search findings step rest at true right last live dead = (λ yes. right.live step rest at last (live refl), λ finds. refl)
-known_right search findings step rest at false right last live dead =
-    (λ yes. absurd (false≢true yes), λ finds. absurd (right.dead step rest at last (dead refl) finds))
+known_right search memo step rest at true right last positive negative = (λ yes. right.positive step rest at last (positive refl), λ finds. refl)
+known_right search memo step rest at false right last positive negative =
+    (λ yes. absurd (false≢true yes), λ finds. absurd (right.negative step rest at last (negative refl) finds))
 
 one_item : {A : Type 0} (x y : A) (k : ℕ) → k < 1 → get_or (x ∷ []) k y ≡ y → x ≡ y
 one_item x y zero below is = is
@@ -124,16 +124,16 @@ ok_same (Err e) same exact = tt
 ok_same (Ok answer) same exact = (λ yes. same.0 (exact.0 yes), λ holds. exact.1 (same.1 holds))
 
 module _ (search : Search) (last : Option (List ℕ)) (value : Data) where
-  pub finds_here : (steps : List Step) → length steps ≡ 0 → IsWanted search value ↔ Finds search last steps value
+  pub finds_here : (steps : List Step) → length steps ≡ 0 → IsTarget search value ↔ Finds search last steps value
   finds_here steps none =
-      subst (λ (ss : List Step). IsWanted search value ↔ Finds search last ss value) (sym (no_items steps none))
-      (no_steps (data_in search.bundle.now) (IsWanted search) last value)
+      subst (λ (ss : List Step). IsTarget search value ↔ Finds search last ss value) (sym (no_items steps none))
+      (no_steps (data_in search.bundle.now) (IsTarget search) last value)
 
   pub finds_next : (steps : List Step) (step : Step) (rest : List Step) (behind : Option (List ℕ)) (values : List Data) → steps ≡ step ∷ rest → behind ≡ last_name last step
       → ((next : Data) → Contains values next ↔ StepReaches (data_in search.bundle.now) last step value next)
       → SomeFinds search behind rest values ↔ Finds search last steps value
   finds_next steps step rest behind values is named reached =
-      let here = next_step (data_in search.bundle.now) (IsWanted search) last step rest value values reached in
+      let here = next_step (data_in search.bundle.now) (IsTarget search) last step rest value values reached in
       let from = subst (λ (ss : List Step). SomeFinds search (last_name last step) rest values ↔ Finds search last ss value) (sym is) here in
       subst (λ (name : Option (List ℕ)). SomeFinds search name rest values ↔ Finds search last steps value) (sym named) from
 
@@ -145,7 +145,7 @@ pub finds_there : (search : Search) (step : Step) (rest : List Step) (at : ℕ) 
 finds_there search step rest at meant behind values is named reached =
     let objects = data_in search.bundle.now in
     let next = finds_next search None meant (step ∷ rest) step rest behind values refl named reached in
-    let there = at_object objects (IsWanted search) (step ∷ rest) at meant is in
+    let there = at_object objects (IsTarget search) (step ∷ rest) at meant is in
     (λ some. there.0 (next.0 some), λ finds. next.1 (there.1 finds))
 
 -- each of the trees is ordered

@@ -86,7 +86,7 @@ steps_reach one objects last (step ∷ steps) value values selects found =
     let here = step_reaches one objects last step value selects.0 selects.1 in
     let joined = joined_reach (StepsSelect objects below steps) (Reaches objects below steps) (steps_reach one objects below steps) selects.0 values selects.2 found in (
       λ has. let some = joined.0 has in (some.0, (here some.0).0 some.1, some.2),
-      λ reaches. joined.1 (reaches.0, (here reaches.0).1 reaches.1, reaches.2),
+      λ compares_or_equals. joined.1 (compares_or_equals.0, (here compares_or_equals.0).1 compares_or_equals.1, compares_or_equals.2),
     )
 
 selected_from : OneMeaning → (objects : List Data) (root : ℕ) (path : Path) (from : Option Data) (values : List Data)

@@ -11,24 +11,24 @@ any_run = 37
 abbrev pub any_one : ℕ
 any_one = 95
 
--- a piece fits a character of the pattern: `%` asks nothing of it, `_` that it is one code point, and
+-- a segment fits a character of the pattern: `%` asks nothing of it, `_` that it is one code point, and
 -- any other character that it is this character
-pub record Fits (piece : List ℕ) (character : ℕ) : Type 0 where
-  pub one : character ≡ any_one → length piece ≡ 1
-  pub itself : character ≢ any_run → character ≢ any_one → piece ≡ character ∷ []
+pub record Fits (segment : List ℕ) (character : ℕ) : Type 0 where
+  pub one : character ≡ any_one → length segment ≡ 1
+  pub itself : character ≢ any_run → character ≢ any_one → segment ≡ character ∷ []
 
--- there are as many pieces as characters, and each piece fits its character
+-- there are as many segments as characters, and each segment fits its character
 abbrev pub AllFit : List (List ℕ) → List ℕ → Type 0
 AllFit [] [] = Unit {0}
-AllFit (piece ∷ pieces) (character ∷ characters) = Fits piece character × AllFit pieces characters
+AllFit (segment ∷ segments) (character ∷ characters) = Fits segment character × AllFit segments characters
 AllFit [] (character ∷ characters) = ⊥
-AllFit (piece ∷ pieces) [] = ⊥
+AllFit (segment ∷ segments) [] = ⊥
 
--- a cut of the whole text into pieces that fit the pattern's characters, in order
+-- a cut of the whole text into segments that fit the pattern's characters, in order
 pub record Cut (text pattern : List ℕ) : Type 0 where
-  pub pieces : List (List ℕ)
-  pub whole : text ≡ concat pieces
-  pub fit : AllFit pieces pattern
+  pub segments : List (List ℕ)
+  pub whole : text ≡ concat segments
+  pub fit : AllFit segments pattern
 
 -- the text is like the pattern where there is such a cut
 unfoldable pub IsLike : List ℕ → List ℕ → Type 0

@@ -70,13 +70,13 @@ Meets last value (Superset address) = (block : Block) × IsBlockOf value block �
 Meets last value Exists = ⊤
 
 -- NOT turns a fact
-abbrev pub Turned : Bool → Type 0 → Type 0
-Turned false Fact = Fact
-Turned true Fact = ¬ Fact
+abbrev pub NegatedIf : Bool → Type 0 → Type 0
+NegatedIf false Fact = Fact
+NegatedIf true Fact = ¬ Fact
 
 -- a negated test turns the answer for each value, whatever its kind
 abbrev pub MeetsTest : Option (List ℕ) → Data → Test → Type 0
-MeetsTest last value test = Turned test.negated (Meets last value test.check)
+MeetsTest last value test = NegatedIf test.negated (Meets last value test.check)
 
 -- the test is NOT EXISTS
 abbrev pub IsAbsence : Test → Type 0

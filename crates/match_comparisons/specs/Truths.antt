@@ -8,7 +8,7 @@ use Rattle.match_comparisons.specs.Tests.{LeafHolds}
 
 -- those of the left side, and then those of the right
 abbrev pub AreOfBoth : {A : Type 0} → (List A → Type 0) → (List A → Type 0) → List A → Type 0
-AreOfBoth {A} AreLeft AreRight truths = (lefts rights : List A) × AreLeft lefts × AreRight rights × (truths ≡ lefts ++ rights)
+AreOfBoth {A} AreLeft IsSoundMemo truths = (lefts rights : List A) × AreLeft lefts × IsSoundMemo rights × (truths ≡ lefts ++ rights)
 
 -- one truth for each leaf of a pattern, from left to right
 abbrev pub AreTruths : List Data → List ℕ → PlainPattern → List Bool → Type 0

@@ -1,10 +1,10 @@
-pub mod Pieces
+pub mod Segments
 pub mod Frames
 pub mod PropertyOf
 pub mod Bytes
-pub mod Places
+pub mod VisitSet
 pub mod Search
-pub mod Positions
+pub mod PositionSet
 pub mod Roots
 pub mod Splits
 pub mod Rows

@@ -4,7 +4,7 @@ ghost use Rattle.base64.specs.Engines.{standard};
 ghost use Rattle.base64.specs.GeneralPurpose.{encode_of, IsBytes};
 ghost use Rattle.stix_json.specs.DataOf.{data_of};
 ghost use Rattle.match_comparisons.specs.Tests.{IsBytesOf};
-ghost use Rattle.match_comparisons.specs.inner.Bytes.{StandsFor};
+ghost use Rattle.match_comparisons.specs.inner.Bytes.{Represents};
 
 use base64::DecodeAllocError;
 use base64::engine::general_purpose::STANDARD;
@@ -20,7 +20,7 @@ pub(crate) fn bytes_in(
     last: Option<&str>,
     value: &Json,
 ) -> Result<Option<Items<u8>>, NoMemory>
-    ensures { IfOk result (StandsFor (option_map (λ name. name.now) last.entry) (data_of value.now)) }
+    ensures { IfOk result (Represents (option_map (λ name. name.now) last.entry) (data_of value.now)) }
 {
     match text_of(value) {
         Some(text) => bytes_of(alloc, last, text),

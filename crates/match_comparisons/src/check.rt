@@ -3,8 +3,8 @@ ghost use Rattle.std.specs.declared.cmp.Ordering.TheVariants.{Equal};
 ghost use Rattle.stix_json.specs.DataOf.{data_of};
 ghost use Rattle.pattern_types.specs.declared.check.Check.TheVariants.{Among, Like};
 ghost use Rattle.pattern_types.specs.Soundness.{IsSoundCheck};
-ghost use Rattle.match_comparisons.specs.Tests.{Compares, Meets, Turned};
-ghost use Rattle.match_comparisons.specs.inner.Bytes.{StandsFor};
+ghost use Rattle.match_comparisons.specs.Tests.{Compares, Meets, NegatedIf};
+ghost use Rattle.match_comparisons.specs.inner.Bytes.{Represents};
 
 use crate::block::{holds_block, lies_in};
 use crate::bytes::bytes_in;
@@ -17,7 +17,7 @@ use std::cmp::Ordering;
 use stix_json::{Json, text_of};
 
 /// Whether a value meets a check, behind that last name; of a negated one, whether it doesn't.
-pub(crate) fn meets_turned(
+pub(crate) fn meets_unless_negated(
     alloc: Global,
     last: Option<&str>,
     value: &Json,
@@ -25,7 +25,7 @@ pub(crate) fn meets_turned(
     negated: bool,
 ) -> Result<bool, NoMemory>
     requires { IsSoundCheck check.now }
-    ensures { IfOk result (λ met. IsTrue met ↔ Turned negated (Meets (option_map (λ name. name.now) last.entry) (data_of value.now) check.now)) }
+    ensures { IfOk result (λ met. IsTrue met ↔ NegatedIf negated (Meets (option_map (λ name. name.now) last.entry) (data_of value.now) check.now)) }
 {
     let met = meets(alloc, last, value, check)?;
     if negated { Ok(!met) } else { Ok(met) }
@@ -40,9 +40,9 @@ fn meets(alloc: Global, last: Option<&str>, value: &Json, check: &Check) -> Resu
         Check::Equal(constant) => compares(alloc, last, value, constant, Ordering::Equal),
         Check::Differ(constant) => Ok(!compares(alloc, last, value, constant, Ordering::Equal)?),
         Check::Less(constant) => compares(alloc, last, value, constant, Ordering::Less),
-        Check::LessEqual(constant) => reaches(alloc, last, value, constant, Ordering::Less),
+        Check::LessEqual(constant) => compares_or_equals(alloc, last, value, constant, Ordering::Less),
         Check::Greater(constant) => compares(alloc, last, value, constant, Ordering::Greater),
-        Check::GreaterEqual(constant) => reaches(alloc, last, value, constant, Ordering::Greater),
+        Check::GreaterEqual(constant) => compares_or_equals(alloc, last, value, constant, Ordering::Greater),
         Check::Among(constants) => equals_some(alloc, last, value, constants.as_slice()),
         Check::Like(pattern) => Ok(is_like(value, pattern.as_str())),
         Check::Subset(address) => Ok(lies_in(value, &address.block)),
@@ -57,36 +57,36 @@ fn compares(
     last: Option<&str>,
     value: &Json,
     constant: &Constant,
-    wanted: Ordering,
+    expected: Ordering,
 ) -> Result<bool, NoMemory>
-    ensures { IfOk result (λ so. IsTrue so ↔ Compares (option_map (λ name. name.now) last.entry) (data_of value.now) constant.now wanted) }
+    ensures { IfOk result (λ so. IsTrue so ↔ Compares (option_map (λ name. name.now) last.entry) (data_of value.now) constant.now expected) }
 {
     let own = bytes_in(alloc, last, value)?;
-    Ok(compares_so(value, &own, constant, wanted))
+    Ok(compares_so(value, &own, constant, expected))
 }
 
 /// The same, where the value stands for those bytes.
-fn compares_so(value: &Json, own: &Option<Items<u8>>, constant: &Constant, wanted: Ordering) -> bool
-    ensures { (last : Option (List ℕ)) → StandsFor last (data_of value.now) own.now
-        → IsTrue result ↔ Compares last (data_of value.now) constant.now wanted }
+fn compares_so(value: &Json, own: &Option<Items<u8>>, constant: &Constant, expected: Ordering) -> bool
+    ensures { (last : Option (List ℕ)) → Represents last (data_of value.now) own.now
+        → IsTrue result ↔ Compares last (data_of value.now) constant.now expected }
 {
-    compared(value, own, constant) == Some(wanted)
+    compared(value, own, constant) == Some(expected)
 }
 
 /// Whether a value compares so with the constant, or equals it.
-fn reaches(
+fn compares_or_equals(
     alloc: Global,
     last: Option<&str>,
     value: &Json,
     constant: &Constant,
-    wanted: Ordering,
+    expected: Ordering,
 ) -> Result<bool, NoMemory>
-    ensures { IfOk result (λ so. IsTrue so ↔ Compares (option_map (λ name. name.now) last.entry) (data_of value.now) constant.now wanted
+    ensures { IfOk result (λ so. IsTrue so ↔ Compares (option_map (λ name. name.now) last.entry) (data_of value.now) constant.now expected
         ⊎ Compares (option_map (λ name. name.now) last.entry) (data_of value.now) constant.now Equal) }
 {
     let own = bytes_in(alloc, last, value)?;
     let found = compared(value, &own, constant);
-    Ok(found == Some(wanted) || found == Some(Ordering::Equal))
+    Ok(found == Some(expected) || found == Some(Ordering::Equal))
 }
 
 /// Whether a value equals one of the constants. Its bytes are decoded once for all of them.
@@ -104,7 +104,7 @@ fn equals_some(
 
 /// The same, where the value stands for those bytes.
 fn is_among(value: &Json, own: &Option<Items<u8>>, constants: &[Constant]) -> bool
-    ensures { (last : Option (List ℕ)) → StandsFor last (data_of value.now) own.now
+    ensures { (last : Option (List ℕ)) → Represents last (data_of value.now) own.now
         → IsTrue result ↔ Meets last (data_of value.now) (Among constants.now) }
 {
     for constant in constants {

@@ -6,7 +6,7 @@ ghost use Rattle.stix_times.specs.Reading.{IsTextOf};
 ghost use Rattle.stix_json.specs.DataOf.{data_of};
 ghost use Rattle.pattern_types.specs.declared.constant.Constant.TheVariants.{Integer, String, Boolean, Timestamp};
 ghost use Rattle.match_comparisons.specs.Tests.{Compares};
-ghost use Rattle.match_comparisons.specs.inner.Bytes.{StandsFor};
+ghost use Rattle.match_comparisons.specs.inner.Bytes.{Represents};
 
 use flow_values::Items;
 use pattern_types::Constant;
@@ -21,7 +21,7 @@ pub(crate) fn compared(
     own: &Option<Items<u8>>,
     constant: &Constant,
 ) -> Option<Ordering>
-    ensures { (last : Option (List ℕ)) → StandsFor last (data_of value.now) own.now
+    ensures { (last : Option (List ℕ)) → Represents last (data_of value.now) own.now
         → (order : Ordering) → Compares last (data_of value.now) constant.now order ↔ (result ≡ Some order) }
 {
     match constant {

@@ -2,9 +2,9 @@
 //! character, as the operator LIKE of STIX 2.1 does (section 9.6.1). Characters are Unicode code
 //! points, and nothing is normalised. The answer is exact, and takes no memory and no recursion.
 //!
-//! A pattern is taken piece by piece between its `%`. It costs about as many steps as text and pattern
+//! A pattern is taken segment by segment between its `%`. It costs about as many steps as text and pattern
 //! have bytes together, and where no two `%` stand side by side as the text alone has: no more of a
-//! pattern is looked at than may fit. Only a piece with a `_` between two `%` may cost more, the product
+//! pattern is looked at than may fit. Only a segment with a `_` between two `%` may cost more, the product
 //! of its length and the text's: it is tried at each character in turn.
 //!
 //! `like("cmd.exe", "%.e_e")` is true, and `like("cmd.exe", "cmd")` is false.
@@ -29,7 +29,7 @@ mod bytes;
 mod characters;
 mod check;
 mod compare;
-mod findings;
+mod memo;
 mod frame;
 mod last;
 pub mod laws;
@@ -39,9 +39,9 @@ mod met;
 mod name;
 mod object;
 mod path_values;
-mod piece;
-mod places;
-mod positions;
+mod segment;
+mod visit_set;
+mod position_set;
 mod root;
 mod roots;
 mod rows;
@@ -55,7 +55,7 @@ mod wildcards;
 pub use leaf::{leaf_holds, leaf_roots};
 pub use matching::like;
 pub use met::holds;
-pub use name::{ends_in, name_behind};
+pub use name::{ends_in, name_after};
 pub use object::object_at;
 pub use path_values::{PathValues, values};
 pub use root::root_of;

@@ -5,10 +5,10 @@ ghost use Rattle.stix_json.specs.Ordered.{IsOrdered};
 ghost use Rattle.stix_bundles.specs.Objects.{data_in};
 ghost use Rattle.pattern_types.specs.Soundness.{IsSoundTest};
 ghost use Rattle.match_comparisons.specs.Selection.{Reaches};
-ghost use Rattle.match_comparisons.specs.Tests.{TestHolds, Turned, Meets, last_of};
-ghost use Rattle.match_comparisons.specs.inner.Search.{AreRight, IsSearchOf};
+ghost use Rattle.match_comparisons.specs.Tests.{TestHolds, NegatedIf, Meets, last_of};
+ghost use Rattle.match_comparisons.specs.inner.Search.{IsSoundMemo, IsSearchOf};
 
-use crate::findings::Findings;
+use crate::memo::SearchMemo;
 use crate::search::{Search, finds, is_absence};
 use flow_values::NoMemory;
 use crate::root_of;
@@ -27,27 +27,27 @@ pub fn holds(alloc: Global, test: &Test, bundle: &Bundle, root: u32) -> Result<b
     ensures { IfOk result (λ holds. IsTrue holds ↔ TestHolds (data_in bundle.now) root test.now) }
 {
     let search = Search::new(alloc, bundle, test, 1);
-    let mut findings = Findings::new(alloc);
-    meets_test(&search, &mut findings, test, root)
+    let mut memo = SearchMemo::new(alloc);
+    meets_test(&search, &mut memo, test, root)
 }
 
 /// The same, by the search that the test asks for, which knows what it found out from other positions.
 pub(crate) fn meets_test(
     search: &Search<'_>,
-    findings: &mut Findings,
+    memo: &mut SearchMemo,
     test: &Test,
     root: u32,
 ) -> Result<bool, NoMemory>
     requires sound { IsSoundTest test.now }
     requires is { IsSearchOf test.now search.now }
-    requires right { AreRight search.now findings.old }
+    requires right { IsSoundMemo search.now memo.old }
     ensures holds { IfOk result (λ holds. IsTrue holds ↔ TestHolds (data_in search.now.bundle.now) root test.now) }
-    ensures right { OnOk result (AreRight search.now findings.new) }
+    ensures right { OnOk result (IsSoundMemo search.now memo.new) }
 {
     let Some(object) = root_of(search.bundle, root, test.path.kind.as_str()) else {
         return Ok(false);
     };
-    let found = is_reached(search, findings, test, object)?;
+    let found = is_reached(search, memo, test, object)?;
     if is_absence(test) {
         Ok(!found)
     } else {
@@ -58,18 +58,18 @@ pub(crate) fn meets_test(
 /// Whether the steps of a test's path reach, from an object, a value that is searched for.
 fn is_reached(
     search: &Search<'_>,
-    findings: &mut Findings,
+    memo: &mut SearchMemo,
     test: &Test,
     object: &Json,
 ) -> Result<bool, NoMemory>
     requires sound { IsSoundTest test.now }
     requires is { IsSearchOf test.now search.now }
-    requires right { AreRight search.now findings.old }
+    requires right { IsSoundMemo search.now memo.old }
     requires ordered { IsOrdered (data_of object.now) }
     ensures found { IfOk result (λ found. IsTrue found
         ↔ ((value : Data) × Reaches (data_in search.now.bundle.now) None test.now.path.steps (data_of object.now) value
-        × Turned search.now.negated (Meets (last_of test.now.path) value test.now.check))) }
-    ensures right { OnOk result (AreRight search.now findings.new) }
+        × NegatedIf search.now.negated (Meets (last_of test.now.path) value test.now.check))) }
+    ensures right { OnOk result (IsSoundMemo search.now memo.new) }
 {
-    finds(search, findings, None, search.steps, object)
+    finds(search, memo, None, search.steps, object)
 }

@@ -21,7 +21,7 @@ pub(crate) fn is_reference(last: Option<&str>) -> bool
 }
 
 /// The last name behind a step.
-pub fn name_behind<'a>(last: Option<&'a str>, step: &'a Step) -> Option<&'a str>
+pub fn name_after<'a>(last: Option<&'a str>, step: &'a Step) -> Option<&'a str>
     ensures { option_map (λ name. name.now) result ≡ last_name (option_map (λ name. name.now) last.entry) step.now }
 {
     match step {

@@ -3,11 +3,11 @@ ghost use Rattle.stix_bundles.specs.Objects.{data_in};
 ghost use Rattle.pattern_types.specs.PlainLeaf.{plain_leaf};
 ghost use Rattle.pattern_types.specs.PlainPattern.{plain_pattern, a_leaf};
 ghost use Rattle.pattern_types.specs.Soundness.{IsSoundLeaf, IsSoundPattern};
-ghost use Rattle.match_comparisons.specs.inner.Positions.{IsIn, AreOf};
+ghost use Rattle.match_comparisons.specs.inner.PositionSet.{IsIn, AreOf};
 ghost use Rattle.match_comparisons.specs.inner.Roots.{IsSomeRoot};
 ghost use Rattle.match_comparisons.specs.inner.Rows.{AddsTruths};
 
-use crate::positions::Positions;
+use crate::position_set::PositionSet;
 use crate::split::split_by;
 use flow_values::{Items, NoMemory};
 use pattern_types::{Leaf, Pattern};
@@ -16,7 +16,7 @@ use stix_bundles::{Bundle, Observation};
 
 /// The observations of a bundle, and their roots, each once.
 #[derive(Clone, Copy)]
-pub(crate) struct Seen<'a> {
+pub(crate) struct BundleView<'a> {
     pub(crate) bundle: &'a Bundle,
     pub(crate) observations: &'a [Observation],
     pub(crate) roots: &'a [u32],
@@ -26,7 +26,7 @@ pub(crate) struct Seen<'a> {
 pub(crate) fn add_truths(
     alloc: Global,
     pattern: &Pattern,
-    seen: &Seen<'_>,
+    seen: &BundleView<'_>,
     rows: &mut [Items<bool>],
 ) -> Result<(), NoMemory>
     requires sound { IsSoundPattern (plain_pattern pattern.now) }
@@ -50,7 +50,7 @@ pub(crate) fn add_truths(
 fn add_leaf(
     alloc: Global,
     leaf: &Leaf,
-    seen: &Seen<'_>,
+    seen: &BundleView<'_>,
     rows: &mut [Items<bool>],
 ) -> Result<(), NoMemory>
     requires sound { IsSoundLeaf (plain_leaf leaf.now) }
@@ -67,22 +67,22 @@ fn add_leaf(
 }
 
 /// Positions as a set.
-fn positions_of(alloc: Global, list: &[u32]) -> Result<Positions, NoMemory>
+fn positions_of(alloc: Global, list: &[u32]) -> Result<PositionSet, NoMemory>
     ensures { IfOk result (AreOf list.now) }
 {
-    let mut positions = Positions::new(alloc);
+    let mut position_set = PositionSet::new(alloc);
     for at in list {
-        positions.add(*at)?;
+        position_set.add(*at)?;
     }
-    Ok(positions)
+    Ok(position_set)
 }
 
 /// Whether one of the roots is among the positions.
-fn has_some(positions: &Positions, roots: &[u32]) -> bool
-    ensures { IsTrue result ↔ ((root : ℕ) × Contains roots.now root × IsIn positions.now root) }
+fn has_some(position_set: &PositionSet, roots: &[u32]) -> bool
+    ensures { IsTrue result ↔ ((root : ℕ) × Contains roots.now root × IsIn position_set.now root) }
 {
     for root in roots {
-        if positions.has(*root) {
+        if position_set.has(*root) {
             return true;
         }
     }

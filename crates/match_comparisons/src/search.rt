@@ -4,14 +4,14 @@ ghost use Rattle.stix_json.specs.Ordered.{IsOrdered};
 ghost use Rattle.stix_bundles.specs.Objects.{data_in};
 ghost use Rattle.pattern_types.specs.declared.path.Step.{Step};
 ghost use Rattle.match_comparisons.specs.Tests.{IsAbsence};
-ghost use Rattle.match_comparisons.specs.inner.Search.{name_of, Finds, SomeFinds, FindsAt, AreRight, StandsBefore, IsSearchOf};
+ghost use Rattle.match_comparisons.specs.inner.Search.{name_of, Finds, SomeFinds, FindsAt, IsSoundMemo, IsSearchState, IsSearchOf};
 
-use crate::check::meets_turned;
-use crate::findings::Findings;
+use crate::check::meets_unless_negated;
+use crate::memo::SearchMemo;
 use crate::last::last_name;
 use flow_values::NoMemory;
 use crate::laws::same_lead;
-use crate::{name_behind, object_at, reference, selected};
+use crate::{name_after, object_at, reference, selected};
 use pattern_types::{Check, Step, Test};
 use std::alloc::Global;
 use stix_bundles::Bundle;
@@ -63,18 +63,18 @@ pub(crate) fn is_absence(test: &Test) -> bool
 #[cycle(search)]
 pub(crate) fn finds(
     search: &Search<'_>,
-    findings: &mut Findings,
+    memo: &mut SearchMemo,
     last: Option<&str>,
     steps: &[Step],
     value: &Json,
 ) -> Result<bool, NoMemory>
-    requires before { StandsBefore search.now steps.now findings.old }
+    requires before { IsSearchState search.now steps.now memo.old }
     requires ordered { IsOrdered (data_of value.now) }
     ensures found { IfOk result (λ found. IsTrue found ↔ Finds search.now (name_of last.entry) steps.now (data_of value.now)) }
-    ensures right { OnOk result (AreRight search.now findings.new) }
+    ensures right { OnOk result (IsSoundMemo search.now memo.new) }
 {
     let Some((step, rest)) = steps.split_first() else {
-        return meets_turned(
+        return meets_unless_negated(
             search.alloc,
             search.last,
             value,
@@ -83,10 +83,10 @@ pub(crate) fn finds(
         );
     };
     if let Some(at) = referred(search, last, step, value) {
-        return finds_at(search, findings, step, rest, at);
+        return finds_at(search, memo, step, rest, at);
     }
     let values = selected(search.bundle, last, step, value);
-    some_finds(search, findings, name_behind(last, step), rest, values)
+    some_finds(search, memo, name_after(last, step), rest, values)
 }
 
 /// The position of the object from which a step goes on, where it leads through a reference.
@@ -105,18 +105,18 @@ fn referred(search: &Search<'_>, last: Option<&str>, step: &Step, value: &Json) 
 #[cycle(search)]
 fn some_finds(
     search: &Search<'_>,
-    findings: &mut Findings,
+    memo: &mut SearchMemo,
     last: Option<&str>,
     steps: &[Step],
     values: &[Json],
 ) -> Result<bool, NoMemory>
-    requires before { StandsBefore search.now steps.now findings.old }
+    requires before { IsSearchState search.now steps.now memo.old }
     requires ordered { All IsOrdered (data_in values.now) }
     ensures found { IfOk result (λ found. IsTrue found ↔ SomeFinds search.now (name_of last.entry) steps.now (data_in values.now)) }
-    ensures right { OnOk result (AreRight search.now findings.new) }
+    ensures right { OnOk result (IsSoundMemo search.now memo.new) }
 {
     for value in values {
-        if finds(search, findings, last, steps, value)? {
+        if finds(search, memo, last, steps, value)? {
             return Ok(true);
         }
     }
@@ -128,25 +128,25 @@ fn some_finds(
 #[cycle(search)]
 fn finds_at(
     search: &Search<'_>,
-    findings: &mut Findings,
+    memo: &mut SearchMemo,
     step: &Step,
     rest: &[Step],
     at: u32,
 ) -> Result<bool, NoMemory>
-    requires { StandsBefore search.now (step.now ∷ rest.now) findings.old }
+    requires { IsSearchState search.now (step.now ∷ rest.now) memo.old }
     ensures found { IfOk result (λ found. IsTrue found ↔ FindsAt search.now (step.now ∷ rest.now) at) }
-    ensures right { OnOk result (AreRight search.now findings.new) }
+    ensures right { OnOk result (IsSoundMemo search.now memo.new) }
 {
-    if let Some(found) = findings.known(rest.len(), at) {
+    if let Some(found) = memo.known(rest.len(), at) {
         return Ok(found);
     }
     let Some(object) = object_at(search.bundle, at) else {
         return Ok(false);
     };
     let values = selected(search.bundle, None, step, object);
-    let found = some_finds(search, findings, name_behind(None, step), rest, values)?;
+    let found = some_finds(search, memo, name_after(None, step), rest, values)?;
     if search.revisits {
-        findings.add(rest.len(), at, found)?;
+        memo.add(rest.len(), at, found)?;
     }
     Ok(found)
 }

@@ -5,7 +5,7 @@ ghost use Rattle.pattern_types.specs.Soundness.{IsSoundLeaf, IsSoundTest, AreSou
 ghost use Rattle.match_comparisons.specs.Tests.{TestHolds, HoldsAt, AllHold, SomeHold};
 ghost use Rattle.match_comparisons.specs.inner.Splits.{Splits, Adds};
 
-use crate::findings::Findings;
+use crate::memo::SearchMemo;
 use crate::met::meets_test;
 use crate::search::Search;
 use flow_values::NoMemory;
@@ -75,10 +75,10 @@ fn split_by_test(
     ensures { IfOk result (Splits (λ (at : ℕ). TestHolds (data_in bundle.now) at test.now) asked.now) }
 {
     let search = Search::new(alloc, bundle, test, asked.len());
-    let mut findings = Findings::new(alloc);
+    let mut memo = SearchMemo::new(alloc);
     let mut split = Split::new(alloc);
     for at in asked {
-        let holds = meets_test(&search, &mut findings, test, *at)?;
+        let holds = meets_test(&search, &mut memo, test, *at)?;
         split.add(*at, holds)?;
     }
     Ok(split)

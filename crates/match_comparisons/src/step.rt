@@ -125,14 +125,14 @@ pub fn reference(bundle: &Bundle, last: Option<&str>, value: &Json) -> Option<u3
 {
     one_meaning();
     if is_reference(last) {
-        place_of(bundle, value)
+        position_of(bundle, value)
     } else {
         None
     }
 }
 
 /// The position that a value means, where it is a text.
-fn place_of(bundle: &Bundle, value: &Json) -> Option<u32>
+fn position_of(bundle: &Bundle, value: &Json) -> Option<u32>
     ensures { MatchOption (as_str (data_of value.now)) (result ≡ None)
         (λ text. Means (data_in bundle.now) text result) }
 {

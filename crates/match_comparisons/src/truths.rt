@@ -5,7 +5,7 @@ ghost use Rattle.pattern_types.specs.Soundness.{IsSoundPattern};
 ghost use Rattle.match_comparisons.specs.Truths.{AreTruthsOfEach};
 
 use crate::roots::roots_of;
-use crate::rows::{Seen, add_truths};
+use crate::rows::{BundleView, add_truths};
 use flow_values::{Items, NoMemory};
 use pattern_types::Pattern;
 use std::alloc::Global;
@@ -23,7 +23,7 @@ pub fn leaf_truths(
     ensures { IfOk result (AreTruthsOfEach (data_in bundle.now) observations.now (plain_pattern pattern.now)) }
 {
     let roots = roots_of(alloc, observations)?;
-    let seen = Seen {
+    let seen = BundleView {
         bundle,
         observations,
         roots: roots.as_slice(),

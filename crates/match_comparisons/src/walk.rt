@@ -6,7 +6,7 @@ ghost use Rattle.match_comparisons.specs.Remaining.{Follows};
 ghost use Rattle.match_comparisons.specs.inner.Frames.{LeftIn, Fits, weight};
 
 use crate::frame::{Frame, Frames};
-use crate::name::name_behind;
+use crate::name::name_after;
 use crate::step::selected;
 use stix_bundles::Bundle;
 use stix_bundles::laws::one_meaning;
@@ -54,7 +54,7 @@ fn visit<'a>(bundle: &'a Bundle, frame: Frame<'a>, frames: &mut Frames<'a>) -> O
         return Some(value);
     };
     frames.push(Frame {
-        last: name_behind(frame.last, step),
+        last: name_after(frame.last, step),
         steps,
         values: selected(bundle, frame.last, step, value),
     });

@@ -1,4 +1,4 @@
 pub mod InputRefusalTextLemmas
 pub mod OneReadingLemmas
-pub mod GoesOnLemmas
+pub mod ContinuesLemmas
 pub mod SomeReadingLemmas

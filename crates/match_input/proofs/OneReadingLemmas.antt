@@ -2,7 +2,7 @@
 use Rattle.std.proofs.Common.{◌≡◌, ◌≢◌, ◌⊎◌, inl, inr, ℕ, zero, suc, ◌+◌, ◌<◌, ℤ, List, [], ◌∷◌, length, Option, Some, None, refl, sym, ap, subst, ◌∙◌, arith}
 use Rattle.std.proofs.lemmas.Int.{ints}
 use Rattle.serde_json.specs.Data.{Data}
-use Rattle.flow_lines.specs.Lines.{Lined, ended, refused, line_then}
+use Rattle.flow_lines.specs.Lines.{LineStream, ended, refused, line_then}
 use Rattle.flow_lines.specs.declared.refusal.LineRefusal.{LineRefusal}
 use Rattle.flow_lines.specs.declared.refusal.LineRefusal.TheVariants as length_refusal
 use Rattle.stix_json.specs.declared.value.Json.{Json}
@@ -16,7 +16,7 @@ use Rattle.stix_bundles.specs.Bundle.{IsBundle, IsBundleRefused}
 use Rattle.stix_bundles.specs.Observations.{NoneEmbeds, IsFirstEmbedding, AreObservations}
 use Rattle.match_input.specs.declared.rule.InputRule.{InputRule}
 use Rattle.match_input.specs.declared.rule.InputRule.TheVariants as rule
-use Rattle.match_input.specs.Line.{IsTextOf, IsInOrder, IsBehind, last_after, IsBundleLine, IsNoBundle, IsEmbedded, IsOutOfOrder, IsRefusedFor}
+use Rattle.match_input.specs.Line.{IsTextOf, IsInOrder, Decreases, last_after, IsBundleLine, IsNoBundle, IsEmbedded, IsOutOfOrder, IsRefusedFor}
 use Rattle.match_input.specs.Reading.{BundleOf, InputEnd, Refused, IsTooLong, IsRefusedAt, Reads, at_end, at_refusal, one_bundle}
 
 -- the laws of JSON, of bundles and of their observations
@@ -74,12 +74,12 @@ not_apart laws bytes at objects p text none =
     let same = one_text laws bytes p.0 objects p.1 text in
     none at (subst (λ (ds : List Data). IsFirstEmbedding ds at) same p.2).embeds
 
-one_behind : (last : Option ℤ) (observations : List Observation) (a b c d : ℤ) → IsBehind last observations a b → IsBehind last observations c d → (a ≡ c) × (b ≡ d)
+one_behind : (last : Option ℤ) (observations : List Observation) (a b c d : ℤ) → Decreases last observations a b → Decreases last observations c d → (a ≡ c) × (b ≡ d)
 one_behind None observations a b c d p q = absurd p
 one_behind (Some last) [] a b c d p q = absurd p
 one_behind (Some last) (first ∷ observations) a b c d p q = (p.0 ∙ sym q.0, p.1 ∙ sym q.1)
 
-not_behind : (last : Option ℤ) (observations : List Observation) (a b : ℤ) → IsBehind last observations a b → IsInOrder last observations → ⊥
+not_behind : (last : Option ℤ) (observations : List Observation) (a b : ℤ) → Decreases last observations a b → IsInOrder last observations → ⊥
 not_behind None observations a b p q = p
 not_behind (Some last) [] a b p q = p
 not_behind (Some last) (first ∷ observations) a b p q =
@@ -97,7 +97,7 @@ same_list laws bytes next first second xs ys p q a b =
 one_out_of_order : Laws → (last : Option ℤ) (next : ℕ) (bytes : List ℕ) (a b c d : ℤ) → IsOutOfOrder last next bytes a b → IsOutOfOrder last next bytes c d → (a ≡ c) × (b ≡ d)
 one_out_of_order laws last next bytes a b c d p q =
     let same = same_list laws bytes next p.objects q.objects p.observations q.observations p.text q.text p.are q.are in
-    one_behind last q.observations a b c d (subst (λ (os : List Observation). IsBehind last os a b) same p.behind) q.behind
+    one_behind last q.observations a b c d (subst (λ (os : List Observation). Decreases last os a b) same p.behind) q.behind
 
 one_rule : Laws → (last : Option ℤ) (next : ℕ) (bytes : List ℕ) (why other : InputRule) → IsRefusedFor last next bytes why → IsRefusedFor last next bytes other → why ≡ other
 one_rule laws last next bytes (rule.Json r) (rule.Json s) p q = ap rule.Json (laws.json_refusal bytes r s p.0 q.0 p.1 q.1)
@@ -132,7 +132,7 @@ no_line laws last next bytes objects observations (rule.Bundle r) p q = no_text 
 no_line laws last next bytes objects observations (rule.Embedded at) p q = not_apart laws bytes at objects p q.text q.apart
 no_line laws last next bytes objects observations (rule.OutOfOrder a b) p q =
     let same = same_list laws bytes next p.objects objects p.observations observations p.text q.text p.are q.are in
-    not_behind last observations a b (subst (λ (os : List Observation). IsBehind last os a b) same p.behind) q.in_order
+    not_behind last observations a b (subst (λ (os : List Observation). Decreases last os a b) same p.behind) q.in_order
 
 one_too_long : (refusal : LineRefusal) (line number : ℕ) (why other : InputRule) → IsTooLong refusal line why → IsTooLong refusal number other → (line ≡ number) × (why ≡ other)
 one_too_long length_refusal.Fault line number why other p q = absurd p
@@ -140,13 +140,13 @@ one_too_long (length_refusal.LineTooLong n) line number why other p q = (p.0 ∙
 one_too_long (length_refusal.InputTooLong n) line number why other p q = (p.0 ∙ sym q.0, p.1 ∙ sym q.1)
 one_too_long length_refusal.NoMemory line number why other p q = absurd p
 
-one_refused_at : Laws → (last : Option ℤ) (next : ℕ) (lines : Lined) (line number : ℕ) (why other : InputRule) → IsRefusedAt last next lines line why
+one_refused_at : Laws → (last : Option ℤ) (next : ℕ) (lines : LineStream) (line number : ℕ) (why other : InputRule) → IsRefusedAt last next lines line why
     → IsRefusedAt last next lines number other → (line ≡ number) × (why ≡ other)
 one_refused_at laws last next ended line number why other p q = absurd p
 one_refused_at laws last next (refused refusal) line number why other p q = one_too_long refusal line number why other p q
 one_refused_at laws last next (line_then n bytes later) line number why other p q = (p.0 ∙ sym q.0, one_rule laws last next bytes why other p.1 q.1)
 
-pub one_reads : Laws → (last : Option ℤ) (next : ℕ) (lines : Lined) (bundles others : List BundleOf) (end other : InputEnd)
+pub one_reads : Laws → (last : Option ℤ) (next : ℕ) (lines : LineStream) (bundles others : List BundleOf) (end other : InputEnd)
     → Reads last next lines bundles end → Reads last next lines others other → (bundles ≡ others) × (end ≡ other)
 one_reads laws last next ended bundles others end other at_end at_end = (refl, refl)
 one_reads laws last next ended bundles others end other at_end (at_refusal q) = absurd q
@@ -167,12 +167,12 @@ one_reads laws last next (line_then n bytes later) bundles others end other (one
     (cc, tail.1)
 
 -- where the first line is a bundle, the input is read as that bundle and what comes behind it
-pub goes_on : Laws → (last : Option ℤ) (next number : ℕ) (bytes : List ℕ) (later : Lined) (objects : List Data) (observations : List Observation)
+pub continues : Laws → (last : Option ℤ) (next number : ℕ) (bytes : List ℕ) (later : LineStream) (objects : List Data) (observations : List Observation)
     (all : List BundleOf) (end : InputEnd) → IsBundleLine last next bytes objects observations → Reads last next (line_then number bytes later) all end
     → (rest : List BundleOf) × (all ≡ record { line = number; objects = objects; observations = observations } ∷ rest)
     × Reads (last_after last observations) (next + length observations) later rest end
-goes_on laws last next number bytes later objects observations all (Refused line why) is (at_refusal p) = absurd (no_line laws last next bytes objects observations why p.1 is)
-goes_on laws last next number bytes later objects observations all end is (one_bundle {objects = ds} {observations = xs} {bundles = more} p reads) =
+continues laws last next number bytes later objects observations all (Refused line why) is (at_refusal p) = absurd (no_line laws last next bytes objects observations why p.1 is)
+continues laws last next number bytes later objects observations all end is (one_bundle {objects = ds} {observations = xs} {bundles = more} p reads) =
     let same = one_text laws bytes ds objects p.text is.text in
     let list = same_list laws bytes next ds objects xs observations p.text is.text p.are is.are in
     (more, cc, subst (λ (os : List Observation). Reads (last_after last os) (next + length os) later more end) list reads)

@@ -3,7 +3,7 @@ use Rattle.std.proofs.Common.{◌≢◌, ◌⊎◌, inl, inr, ℕ, ◌+◌, ℤ,
 use Rattle.std.specs.Prelude.{⊤}
 use Rattle.std.proofs.lemmas.Int.{by_lt_z}
 use Rattle.serde_json.specs.Data.{Data}
-use Rattle.flow_lines.specs.Lines.{Lined, ended, refused, line_then, RawLine, raw_lines, content, width, is_blank, unless_blank, unless_refused, lines_from}
+use Rattle.flow_lines.specs.Lines.{LineStream, ended, refused, line_then, RawLine, raw_lines, content, width, is_blank, unless_blank, unless_refused, lines_from}
 use Rattle.flow_lines.specs.declared.refusal.TheConstants.{MAX_LINE, MAX_INPUT}
 use Rattle.flow_lines.specs.declared.refusal.LineRefusal.{LineRefusal}
 use Rattle.flow_lines.specs.declared.refusal.LineRefusal.TheVariants.{Fault, LineTooLong, InputTooLong, NoMemory}
@@ -21,7 +21,7 @@ use Rattle.match_input.specs.declared.mode.Mode.{Mode}
 use Rattle.match_input.specs.declared.mode.Mode.TheVariants as mode
 use Rattle.match_input.specs.declared.rule.InputRule.{InputRule}
 use Rattle.match_input.specs.declared.rule.InputRule.TheVariants as rule
-use Rattle.match_input.specs.Line.{IsTextOf, IsInOrder, IsBehind, last_after, IsBundleLine, IsRefusedFor}
+use Rattle.match_input.specs.Line.{IsTextOf, IsInOrder, Decreases, last_after, IsBundleLine, IsRefusedFor}
 use Rattle.match_input.specs.Reading.{BundleOf, InputEnd, Whole, Refused, Reads, at_end, at_refusal, one_bundle, lines_in, Reading}
 
 -- what a line rests on
@@ -38,7 +38,7 @@ record IsNeither (last : Option ℤ) (next : ℕ) (bytes : List ℕ) : Type 0 wh
   bundle : (objects : List Data) (observations : List Observation) → ¬ IsBundleLine last next bytes objects observations
   refused : (why : InputRule) → ¬ IsRefusedFor last next bytes why
 
-order_told : (last : Option ℤ) (observations : List Observation) → IsInOrder last observations ⊎ ((before now : ℤ) × IsBehind last observations before now)
+order_told : (last : Option ℤ) (observations : List Observation) → IsInOrder last observations ⊎ ((before now : ℤ) × Decreases last observations before now)
 order_told None observations = inl tt
 order_told (Some last) [] = inl tt
 order_told (Some last) (first ∷ observations) =
@@ -46,7 +46,7 @@ order_told (Some last) (first ∷ observations) =
 
 by_order : (last : Option ℤ) (next : ℕ) (bytes : List ℕ) → IsNeither last next bytes → (objects : List Data) → IsTextOf bytes objects → NoneEmbeds objects
     → (observations : List Observation) → AreObservations objects next observations
-    → IsInOrder last observations ⊎ ((before now : ℤ) × IsBehind last observations before now) → ⊥
+    → IsInOrder last observations ⊎ ((before now : ℤ) × Decreases last observations before now) → ⊥
 by_order last next bytes neither objects text apart observations are (inl in_order) =
     neither.bundle objects observations (record { text = text; apart = apart; are = are; in_order = in_order })
 by_order last next bytes neither objects text apart observations are (inr (before, now, behind)) =
@@ -81,18 +81,18 @@ IsForLength (LineTooLong number) = ⊤
 IsForLength (InputTooLong number) = ⊤
 IsForLength NoMemory = ⊥
 
-abbrev AreForLength : Lined → Type 0
+abbrev AreForLength : LineStream → Type 0
 AreForLength ended = ⊤
 AreForLength (refused refusal) = IsForLength refusal
 AreForLength (line_then number bytes later) = AreForLength later
 
-length_told : (number : ℕ) (long past : Bool) (lines : Lined) → AreForLength lines
+length_told : (number : ℕ) (long past : Bool) (lines : LineStream) → AreForLength lines
     → AreForLength (unless_refused (cond long (Some (LineTooLong number)) (cond past (Some (InputTooLong number)) None)) lines)
 length_told number true past lines are = tt
 length_told number false true lines are = tt
 length_told number false false lines are = are
 
-blank_told : (blank : Bool) (number : ℕ) (bytes : List ℕ) (lines : Lined) → AreForLength lines → AreForLength (cond blank lines (line_then number bytes lines))
+blank_told : (blank : Bool) (number : ℕ) (bytes : List ℕ) (lines : LineStream) → AreForLength lines → AreForLength (cond blank lines (line_then number bytes lines))
 blank_told true number bytes lines are = are
 blank_told false number bytes lines are = are
 
@@ -101,7 +101,7 @@ for_length number place [] = tt
 for_length number place (l ∷ ls) =
     let later = lines_from (number + 1) (place + width l) ls in
     let long = nat_lt MAX_LINE (length l.bytes) && nat_le (place + MAX_LINE) MAX_INPUT in
-    let past = nat_lt MAX_INPUT (place + length l.bytes + cond l.closed 1 0) in
+    let past = nat_lt MAX_INPUT (place + length l.bytes + cond l.terminated 1 0) in
     length_told number long past (unless_blank number (content l) later)
     (blank_told (is_blank (content l)) number (content l) later (for_length (number + 1) (place + width l) ls))
 
@@ -113,7 +113,7 @@ in_for_length : (cut : Mode) (bytes : List ℕ) → AreForLength (lines_in cut b
 in_for_length mode.Lines bytes = for_length 1 0 (raw_lines bytes)
 in_for_length mode.Whole bytes = whole_told (nat_lt MAX_WHOLE_INPUT (length bytes)) bytes
 
-some_reads : Laws → (lines : Lined) → AreForLength lines → (last : Option ℤ) (next : ℕ) → ¬ ((bundles : List BundleOf) (end : InputEnd) → ¬ Reads last next lines bundles end)
+some_reads : Laws → (lines : LineStream) → AreForLength lines → (last : Option ℤ) (next : ℕ) → ¬ ((bundles : List BundleOf) (end : InputEnd) → ¬ Reads last next lines bundles end)
 some_reads laws ended are last next = λ fails. fails [] Whole at_end
 some_reads laws (refused Fault) are last next = absurd are
 some_reads laws (refused (LineTooLong number)) are last next = λ fails. fails [] (Refused number rule.LineTooLong) (at_refusal (refl, refl))

@@ -2,7 +2,7 @@
 use Rattle.std.specs.Prelude.{◌≡◌, ⊤, ℕ, ◌+◌, ◌<◌, ◌≤◌, ℤ, List, [], length, Result, Ok, Err, Option, Some, None, option_map, IfSome}
 use Rattle.flow_edges.specs.declared.source.TheConstants.{MAX_READ}
 use Rattle.flow_edges.specs.Flow.{IsAtEnd, TakesAtMost}
-use Rattle.flow_lines.specs.Lines.{Lined, ended, line_then, LinesState, lines_start, lines_ahead, GoesOnAccounting, KeepsLines, HoldsLine, LacksLine}
+use Rattle.flow_lines.specs.Lines.{LineStream, ended, line_then, LinesState, lines_start, lines_remaining, ContinuesAccounting, KeepsLines, HoldsLine, LacksLine}
 use Rattle.flow_lines.specs.declared.refusal.TheConstants.{MAX_LINE, MAX_INPUT}
 use Rattle.flow_lines.specs.declared.whole_input.TheConstants.{MAX_WHOLE_INPUT}
 use Rattle.stix_bundles.specs.Objects.{data_in}
@@ -43,8 +43,8 @@ IsOpen AtEnd = ⊥
 IsOpen Ended = ⊥
 
 -- the lines that come yet, where the source tells its bytes
-abbrev pub ahead : Stage → Option (List ℕ) → Option Lined
-ahead (Lines lines) left = lines_ahead lines left
+abbrev pub ahead : Stage → Option (List ℕ) → Option LineStream
+ahead (Lines lines) left = lines_remaining lines left
 ahead Whole left = option_map one_line left
 ahead AtEnd left = option_map (λ bytes. ended) left
 ahead Ended left = option_map (λ bytes. ended) left
@@ -64,7 +64,7 @@ LacksLineIn _ number left bytes = ⊥
 -- is then at its end
 abbrev pub Moves : ℕ → Stage → Stage → Option (List ℕ) → Option (List ℕ) → Type 0
 Moves number (Lines before) (Lines after) left left_after = (after.refusal ≡ None) × (number ≡ after.count) × (before.given < after.given)
-    × (after.given ≤ MAX_INPUT) × (length after.held ≤ MAX_READ) × GoesOnAccounting before after left left_after
+    × (after.given ≤ MAX_INPUT) × (length after.held ≤ MAX_READ) × ContinuesAccounting before after left left_after
 Moves number Whole AtEnd left left_after = (number ≡ 1) × IsAtEnd left_after × TakesAtMost (MAX_WHOLE_INPUT + MAX_READ) left left_after
 Moves number _ _ left left_after = ⊥
 
@@ -74,7 +74,7 @@ pub record StopsAt (before : LinesState) (line : ℕ) (left left_after : Option 
   pub at : LinesState
   pub lines : at.count ≤ line
   pub few : length at.held ≤ MAX_LINE + MAX_READ
-  pub accounts : GoesOnAccounting before at left left_after
+  pub accounts : ContinuesAccounting before at left left_after
 
 -- what was taken where a line is refused
 abbrev pub TakesLittle : Stage → ℕ → Option (List ℕ) → Option (List ℕ) → Type 0
@@ -86,7 +86,7 @@ TakesLittle _ line left left_after = ⊥
 pub record KeepsBytes (before : LinesState) (left left_after : Option (List ℕ)) : Type 0 where
   pub at : LinesState
   pub keeps : KeepsLines before at left left_after
-  pub accounts : GoesOnAccounting before at left left_after
+  pub accounts : ContinuesAccounting before at left left_after
 
 abbrev pub BreaksOff : Stage → Option (List ℕ) → Option (List ℕ) → Type 0
 BreaksOff (Lines before) left left_after = KeepsBytes before left left_after

@@ -27,10 +27,10 @@ IsInOrder (Some last) [] = ⊤
 IsInOrder (Some last) (first ∷ observations) = last ≤ℤ first.last
 
 -- it was last observed earlier: the two times
-abbrev pub IsBehind : Option ℤ → List Observation → ℤ → ℤ → Type 0
-IsBehind None observations before now = ⊥
-IsBehind (Some last) [] before now = ⊥
-IsBehind (Some last) (first ∷ observations) before now = (before ≡ last) × (now ≡ first.last) × (now <ℤ before)
+abbrev pub Decreases : Option ℤ → List Observation → ℤ → ℤ → Type 0
+Decreases None observations before now = ⊥
+Decreases (Some last) [] before now = ⊥
+Decreases (Some last) (first ∷ observations) before now = (before ≡ last) × (now ≡ first.last) × (now <ℤ before)
 
 -- when the last of these was last observed; what it was, where there are none
 abbrev pub last_after : Option ℤ → List Observation → Option ℤ
@@ -58,7 +58,7 @@ pub record IsOutOfOrder (last : Option ℤ) (next : ℕ) (bytes : List ℕ) (bef
   pub apart : NoneEmbeds objects
   pub observations : List Observation
   pub are : AreObservations objects next observations
-  pub behind : IsBehind last observations before now
+  pub behind : Decreases last observations before now
 
 -- why the bytes are refused, of which there aren't too many: the first cause in this order
 abbrev pub IsRefusedFor : Option ℤ → ℕ → List ℕ → InputRule → Type 0

@@ -1,7 +1,7 @@
 -- What an input is read as, whole: its bundles with their observations up to the first line that is refused, and why that is.
 use Rattle.std.specs.Prelude.{◌≡◌, ℕ, ◌+◌, ℤ, List, [], ◌∷◌, length, nat_lt, if◌then◌else◌, Option, None}
 use Rattle.serde_json.specs.Data.{Data}
-use Rattle.flow_lines.specs.Lines.{Lined, ended, refused, line_then, lines_of}
+use Rattle.flow_lines.specs.Lines.{LineStream, ended, refused, line_then, lines_of}
 use Rattle.flow_lines.specs.declared.refusal.LineRefusal.{LineRefusal}
 use Rattle.flow_lines.specs.declared.refusal.LineRefusal.TheVariants.{Fault, LineTooLong, InputTooLong, NoMemory}
 use Rattle.flow_lines.specs.declared.whole_input.TheConstants.{MAX_WHOLE_INPUT}
@@ -31,30 +31,30 @@ IsTooLong (InputTooLong number) line why = (line ≡ number) × (why ≡ rule.In
 IsTooLong NoMemory line why = ⊥
 
 -- the first of these lines is refused
-abbrev pub IsRefusedAt : Option ℤ → ℕ → Lined → ℕ → InputRule → Type 0
+abbrev pub IsRefusedAt : Option ℤ → ℕ → LineStream → ℕ → InputRule → Type 0
 IsRefusedAt last next ended line why = ⊥
 IsRefusedAt last next (refused refusal) line why = IsTooLong refusal line why
 IsRefusedAt last next (line_then number bytes later) line why = (line ≡ number) × IsRefusedFor last next bytes why
 
 -- The lines that come are read as these bundles, and end so.
-pub data Reads : Option ℤ → ℕ → Lined → List BundleOf → InputEnd → Type 0 where
+pub data Reads : Option ℤ → ℕ → LineStream → List BundleOf → InputEnd → Type 0 where
   -- the input ends
   at_end : {last : Option ℤ} {next : ℕ} → Reads last next ended [] Whole
   -- the first line is refused
-  at_refusal : {last : Option ℤ} {next : ℕ} {lines : Lined} {line : ℕ} {why : InputRule}
+  at_refusal : {last : Option ℤ} {next : ℕ} {lines : LineStream} {line : ℕ} {why : InputRule}
       → IsRefusedAt last next lines line why → Reads last next lines [] (Refused line why)
   -- the first line is a bundle, whose observations are numbered from `next` on
-  one_bundle : {last : Option ℤ} {next number : ℕ} {bytes : List ℕ} {later : Lined} {objects : List Data} {observations : List Observation}
+  one_bundle : {last : Option ℤ} {next number : ℕ} {bytes : List ℕ} {later : LineStream} {objects : List Data} {observations : List Observation}
       {bundles : List BundleOf} {end : InputEnd} → IsBundleLine last next bytes objects observations
       → Reads (last_after last observations) (next + length observations) later bundles end
       → Reads last next (line_then number bytes later) (record { line = number; objects = objects; observations = observations } ∷ bundles) end
 
 -- an input that is read whole, as one line
-abbrev pub one_line : List ℕ → Lined
+abbrev pub one_line : List ℕ → LineStream
 one_line bytes = if nat_lt MAX_WHOLE_INPUT (length bytes) then refused (InputTooLong 1) else line_then 1 bytes ended
 
 -- the lines of an input, as it is cut
-abbrev pub lines_in : Mode → List ℕ → Lined
+abbrev pub lines_in : Mode → List ℕ → LineStream
 lines_in Lines bytes = lines_of bytes
 lines_in WholeInput bytes = one_line bytes
 

@@ -5,7 +5,7 @@ ghost use Rattle.stix_json.specs.Reading.{IsJsonOf};
 ghost use Rattle.stix_bundles.specs.declared.outline.TheConstants.{MAX_OBJECTS};
 ghost use Rattle.stix_bundles.specs.Objects.{data_in};
 ghost use Rattle.stix_bundles.specs.Bundle.{IsBundle};
-ghost use Rattle.match_input.specs.Line.{IsTextOf, IsInOrder, IsBehind, last_after, IsBundleLine, IsRefusedFor};
+ghost use Rattle.match_input.specs.Line.{IsTextOf, IsInOrder, Decreases, last_after, IsBundleLine, IsRefusedFor};
 
 use crate::InputRule;
 use flow_values::{Items, NoMemory};
@@ -98,7 +98,7 @@ fn in_order(
         }
         Err(ObservationRefusal::NoMemory) => return Err(NoMemory),
     };
-    match fallen_time(last, observations.as_slice()) {
+    match decreasing_time(last, observations.as_slice()) {
         Some((last, now)) => Ok(Err(InputRule::OutOfOrder { last, now })),
         None => Ok(Ok(BundleLine {
             bundle,
@@ -108,8 +108,8 @@ fn in_order(
 }
 
 /// The last time before and that of the first observation, where this one is earlier.
-fn fallen_time(last: Option<Instant>, observations: &[Observation]) -> Option<(Instant, Instant)>
-    ensures some { IfSome result (λ (before, now). IsBehind last observations.now before now) }
+fn decreasing_time(last: Option<Instant>, observations: &[Observation]) -> Option<(Instant, Instant)>
+    ensures some { IfSome result (λ (before, now). Decreases last observations.now before now) }
     ensures none { IfNone result (IsInOrder last observations.now) }
 {
     let before = last?;

@@ -3,7 +3,7 @@
 
 ghost use Rattle.std.specs.Prelude.{◌≡◌, ℕ, ◌+◌, ℤ, List, ◌∷◌, ◌++◌, length, Option};
 ghost use Rattle.serde_json.specs.Data.{Data};
-ghost use Rattle.flow_lines.specs.Lines.{Lined, line_then, AreWholeLines};
+ghost use Rattle.flow_lines.specs.Lines.{LineStream, line_then, AreWholeLines};
 ghost use Rattle.stix_bundles.specs.declared.observation.Observation.{Observation};
 ghost use Rattle.match_input.specs.declared.mode.Mode.{Mode};
 ghost use Rattle.match_input.specs.declared.mode.Mode.TheVariants.{Lines};
@@ -11,7 +11,7 @@ ghost use Rattle.match_input.specs.declared.rule.InputRule.{InputRule};
 ghost use Rattle.match_input.specs.Line.{IsBundleLine, last_after};
 ghost use Rattle.match_input.specs.Reading.{BundleOf, InputEnd, Whole, Refused, Reads, Reading};
 
-use flow_lines::laws::lines_go_on;
+use flow_lines::laws::lines_continue;
 use stix_bundles::laws::{
     bundle_or_refusal, first_embedding_or_none, one_list_of_observations,
     one_reading as one_bundle, some_observations,
@@ -40,8 +40,8 @@ pub fn one_reading()
 }
 
 /// Where the first line that comes is a bundle, all that comes is read as that bundle and what is behind it.
-pub fn goes_on()
-    ensures { (last : Option ℤ) (next number : ℕ) (bytes : List ℕ) (later : Lined) (objects : List Data) (observations : List Observation)
+pub fn continues()
+    ensures { (last : Option ℤ) (next number : ℕ) (bytes : List ℕ) (later : LineStream) (objects : List Data) (observations : List Observation)
         (all : List BundleOf) (end : InputEnd) → IsBundleLine last next bytes objects observations → Reads last next (line_then number bytes later) all end
         → (rest : List BundleOf) × (all ≡ record { line = number; objects = objects; observations = observations } ∷ rest)
         × Reads (last_after last observations) (next + length observations) later rest end }
@@ -53,12 +53,12 @@ pub fn goes_on()
 
 /// The reading of a beginning that ends at a line feed begins the reading of the whole: its bundles stand first, and the
 /// refusal of one of its lines is the refusal of the whole.
-pub fn readings_go_on()
+pub fn readings_continue()
     ensures whole { (bytes more : List ℕ) (bundles all : List BundleOf) (end : InputEnd) → AreWholeLines bytes → Reading Lines bytes bundles Whole
         → Reading Lines (bytes ++ more) all end → (rest : List BundleOf) × (all ≡ bundles ++ rest) }
     ensures refused { (bytes more : List ℕ) (bundles : List BundleOf) (line : ℕ) (why : InputRule) → AreWholeLines bytes
         → Reading Lines bytes bundles (Refused line why) → Reading Lines (bytes ++ more) bundles (Refused line why) }
 {
-    lines_go_on();
-    goes_on();
+    lines_continue();
+    continues();
 }

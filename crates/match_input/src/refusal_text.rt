@@ -7,7 +7,7 @@ ghost use Rattle.match_input.specs.Texts.{at_path, line_of_text, refused_line_te
 
 use crate::InputRule;
 use crate::reason::Reason;
-use flow_edges::{Sink, write_pieces};
+use flow_edges::{Sink, write_all_vectored};
 use flow_values::Fault;
 use itoa::Buffer;
 use stix_times::Instant;
@@ -50,7 +50,7 @@ fn write_object<'a, S: Sink>(line: &'a str, object: &'a str, sink: &mut S) -> Re
     ensures part { OnErr result (WritesPart (line_of_text line.now (codes "EmbeddedObjects object " ++ object.now)) (S.written sink.old) (S.written sink.new)) }
     ensures causes { Counted (IsErr result) (S.faults sink.old) (S.faults sink.new) }
 {
-    write_pieces(
+    write_all_vectored(
         sink,
         &[
             b"line ",
@@ -100,7 +100,7 @@ fn write_times<'a, S: Sink>(
     ensures part { OnErr result (WritesPart (line_of_text line.now (codes "OutOfOrder last " ++ (last.now ++ (codes " now " ++ now.now)))) (S.written sink.old) (S.written sink.new)) }
     ensures causes { Counted (IsErr result) (S.faults sink.old) (S.faults sink.new) }
 {
-    write_pieces(
+    write_all_vectored(
         sink,
         &[
             b"line ",
@@ -144,7 +144,7 @@ fn write_at<'a, S: Sink>(
     ensures causes { Counted (IsErr result) (S.faults sink.old) (S.faults sink.new) }
 {
     let at = lead_of(path);
-    write_pieces(
+    write_all_vectored(
         sink,
         &[
             b"line ",
@@ -172,7 +172,7 @@ fn write_broken<'a, S: Sink>(
     ensures causes { Counted (IsErr result) (S.faults sink.old) (S.faults sink.new) }
 {
     let at = lead_of(path);
-    write_pieces(
+    write_all_vectored(
         sink,
         &[
             b"line ",

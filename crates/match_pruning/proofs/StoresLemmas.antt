@@ -22,11 +22,11 @@ last_level above part zero n last = ap (levels above part) last
 last_level above part (suc count) n last = let same : n ≡ suc count = omega (arith, last) in ap (levels above part) same
 
 -- the windows of both sides, and then those of the parts in them
-pub two_sides : (above : Bounds) (behind : Bool) (p q : NumberedPattern) (old : List Window)
-    → ((old ++ window_of above false ∷ window_of above behind ∷ []) ++ windows_in (stores_under above p)) ++ windows_in (stores_under above q)
-    ≡ old ++ windows_in (side above false p ∷ side above behind q ∷ (stores_under above p ++ stores_under above q))
-two_sides above behind p q old =
-    let own = window_of above false ∷ window_of above behind ∷ [] in
+pub two_sides : (above : Bounds) (after_left : Bool) (p q : NumberedPattern) (old : List Window)
+    → ((old ++ window_of above false ∷ window_of above after_left ∷ []) ++ windows_in (stores_under above p)) ++ windows_in (stores_under above q)
+    ≡ old ++ windows_in (side above false p ∷ side above after_left q ∷ (stores_under above p ++ stores_under above q))
+two_sides above after_left p q old =
+    let own = window_of above false ∷ window_of above after_left ∷ [] in
     append_assoc (old ++ own) (windows_in (stores_under above p)) (windows_in (stores_under above q))
     ∙ append_assoc old own (windows_in (stores_under above p) ++ windows_in (stores_under above q))
     ∙ ap (λ (ws : List Window). old ++ (own ++ ws)) (sym (map-append (λ (store : Store). store.window) (stores_under above p) (stores_under above q)))

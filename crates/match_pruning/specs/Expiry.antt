@@ -23,4 +23,4 @@ IsStopped (Some stop) now = stop ≤ℤ now
 -- come on the left is later
 abbrev pub HasExpired : Window → ℤ → ℤ → Type 0
 HasExpired window earliest now = ArePast window.seconds earliest now ⊎ IsBeforeStart window.start earliest
-    ⊎ IsStopped window.stop now ⊎ (IsTrue window.behind × (earliest <ℤ now))
+    ⊎ IsStopped window.stop now ⊎ (IsTrue window.after_left × (earliest <ℤ now))

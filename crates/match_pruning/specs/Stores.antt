@@ -15,12 +15,12 @@ pub record Store : Type 0 where
   pub part : Part
   pub window : Window
 
--- the window that the bounds above a store leave it; what is behind is the right side of a FOLLOWEDBY
+-- the window that the bounds above a store leave it; what is after left is the right side of a FOLLOWEDBY
 abbrev pub window_of : Bounds → Bool → Window
-window_of above behind = record { seconds = above.seconds; start = above.start; stop = above.stop; behind = behind }
+window_of above after_left = record { seconds = above.seconds; start = above.start; stop = above.stop; after_left = after_left }
 
 abbrev pub side : Bounds → Bool → NumberedPattern → Store
-side above behind p = record { part = a_side p; window = window_of above behind }
+side above after_left p = record { part = a_side p; window = window_of above after_left }
 
 abbrev pub level : Bounds → NumberedPattern → ℕ → Store
 level above p j = record { part = a_level p j; window = window_of above false }

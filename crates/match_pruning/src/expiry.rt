@@ -14,7 +14,7 @@ pub fn expired(window: &Window, earliest: Instant, now: Instant) -> bool
     are_past(window.seconds, earliest, now)
         || is_before_start(window.start, earliest)
         || is_stopped(window.stop, now)
-        || (window.behind && earliest < now)
+        || (window.after_left && earliest < now)
 }
 
 /// Whether so many seconds are past.

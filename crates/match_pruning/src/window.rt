@@ -18,12 +18,12 @@ pub struct Window {
     pub start: Option<Instant>,
     /// The earliest stop of a `STOP` above.
     pub stop: Option<Instant>,
-    /// Whether what is held here comes behind the other side.
-    pub behind: bool,
+    /// Whether what is held here comes after left the other side.
+    pub after_left: bool,
 }
 
 /// The windows of the stores of a pattern: those of a part before those of the parts in it, the left
-/// side first, the levels of a `REPEATS` rising.
+/// side first, the levels of a `REPEATS` ascending.
 pub fn windows(alloc: Global, pattern: &Pattern) -> Result<Items<Window>, NoMemory>
     ensures { IfOk result (λ windows. windows ≡ windows_in (stores_of (numbered_pattern pattern.now))) }
 {
@@ -65,11 +65,11 @@ fn add_windows(pattern: &Pattern, above: &Bounds, out: &mut Vec<Window>) -> Resu
 }
 
 /// Adds the windows of the sides of an `AND` or a `FOLLOWEDBY`.
-fn add_sides(above: &Bounds, behind: bool, out: &mut Vec<Window>) -> Result<(), NoMemory>
-    ensures { OnOk result (out.new.items ≡ out.old.items ++ window_of above.now false ∷ window_of above.now behind ∷ []) }
+fn add_sides(above: &Bounds, after_left: bool, out: &mut Vec<Window>) -> Result<(), NoMemory>
+    ensures { OnOk result (out.new.items ≡ out.old.items ++ window_of above.now false ∷ window_of above.now after_left ∷ []) }
 {
     add_window(above, false, out)?;
-    add_window(above, behind, out)
+    add_window(above, after_left, out)
 }
 
 /// Adds the windows of the levels of a `REPEATS`.
@@ -84,14 +84,14 @@ fn add_levels(above: &Bounds, count: u32, out: &mut Vec<Window>) -> Result<(), N
 }
 
 /// Adds the window of a store under these bounds.
-fn add_window(above: &Bounds, behind: bool, out: &mut Vec<Window>) -> Result<(), NoMemory>
-    ensures { OnOk result (out.new.items ≡ out.old.items ++ window_of above.now behind ∷ []) }
+fn add_window(above: &Bounds, after_left: bool, out: &mut Vec<Window>) -> Result<(), NoMemory>
+    ensures { OnOk result (out.new.items ≡ out.old.items ++ window_of above.now after_left ∷ []) }
 {
     out.push(Window {
         seconds: above.seconds,
         start: above.start,
         stop: above.stop,
-        behind,
+        after_left,
     })?;
     Ok(())
 }

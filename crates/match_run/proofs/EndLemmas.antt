@@ -12,7 +12,7 @@ use Rattle.match_stream.specs.declared.ending.Ending.TheVariants as ending
 use Rattle.match_stream.specs.declared.ending.MatchRefusal.{MatchRefusal}
 use Rattle.match_stream.specs.declared.ending.MatchRefusal.TheVariants as refusal
 use Rattle.match_stream.specs.MatcherState.{MatcherState, Falls}
-use Rattle.match_stream.specs.Answer.{IsCrowded, IsCrowdedAtRow}
+use Rattle.match_stream.specs.Answer.{IsOverLimit, IsOverLimitAtRow}
 use Rattle.match_run.specs.inner.MatchEnds.{MayEnd, end_of_match}
 use Rattle.match_run.specs.inner.Rows.{row_of, EndsAtRow}
 
@@ -23,7 +23,7 @@ Answers one other = ◌≡◌ {A = Result (List Bind) MatchRefusal} (Err one) (E
 pub may_end : (why : MatchRefusal) (state : MatcherState) (now : ℤ) → state.ended ≡ None → ¬ (Falls state.last now)
     → ((before time : ℤ) → Answers why (refusal.Stopped (ending.OutOfOrder before time)) → (state.ended ≡ None) × (state.last ≡ Some before) × (time ≡ now) × (time <ℤ before))
     → ((e : Ending) → Answers why (refusal.Ended e) → state.ended ≡ Some e) → MayEnd why
-may_end (refusal.Stopped (ending.Crowded number cap)) state now runs order fallen ended = tt
+may_end (refusal.Stopped (ending.OverLimit number retained_limit)) state now runs order fallen ended = tt
 may_end (refusal.Stopped (ending.OutOfOrder before time)) state now runs order fallen ended =
     let is = fallen before time refl in
     order (subst (λ (l : Option ℤ). Falls l now) (sym is.1) (subst (λ (t : ℤ). t <ℤ before) is.2 is.3))
@@ -32,20 +32,20 @@ may_end (refusal.Ended e) state now runs order fallen ended = let some = ended e
 
 pub ends_row : (objects : List Data) (o : Observation) (log : List LogEntry) (state after : MatcherState)
     (truths : List Bool) (why : MatchRefusal) → AreTruths objects o.roots (plain_pattern state.pattern) truths
-    → ((number named : ℕ) → Answers why (refusal.Stopped (ending.Crowded number named)) → IsCrowdedAtRow state (log ++ row_of o truths ∷ []) number named)
+    → ((number named : ℕ) → Answers why (refusal.Stopped (ending.OverLimit number named)) → IsOverLimitAtRow state (log ++ row_of o truths ∷ []) number named)
     → ((e : Ending) → Answers why (refusal.Stopped e) → (state.ended ≡ None) × (after.ended ≡ Some e))
-    → EndsAtRow state.pattern state.cap objects o log after (end_of_match why)
-ends_row objects o log state after truths (refusal.Stopped (ending.Crowded number named)) are crowded stopped =
-    let is = crowded number named refl in
-    let end = stopped (ending.Crowded number named) refl in
+    → EndsAtRow state.pattern state.retained_limit objects o log after (end_of_match why)
+ends_row objects o log state after truths (refusal.Stopped (ending.OverLimit number named)) are over_limit stopped =
+    let is = over_limit number named refl in
+    let end = stopped (ending.OverLimit number named) refl in
     record {
       truths = truths;
       are = are;
       numbered = omega (arith, is.numbered, length-append log (row_of o truths ∷ []));
-      cap_is = is.cap_is;
-      crowded = subst (λ (n : ℕ). IsCrowded (numbered_pattern state.pattern) (log ++ row_of o truths ∷ []) n) is.cap_is is.crowded;
-      ended = subst (λ (n : ℕ). after.ended ≡ Some (ending.Crowded number n)) is.cap_is end.1;
+      retained_limit_is = is.retained_limit_is;
+      over_limit = subst (λ (n : ℕ). IsOverLimit (numbered_pattern state.pattern) (log ++ row_of o truths ∷ []) n) is.retained_limit_is is.over_limit;
+      ended = subst (λ (n : ℕ). after.ended ≡ Some (ending.OverLimit number n)) is.retained_limit_is end.1;
     }
-ends_row objects o log state after truths (refusal.Stopped (ending.OutOfOrder before time)) are crowded stopped = tt
-ends_row objects o log state after truths (refusal.Stopped ending.NoMemory) are crowded stopped = tt
-ends_row objects o log state after truths (refusal.Ended e) are crowded stopped = tt
+ends_row objects o log state after truths (refusal.Stopped (ending.OutOfOrder before time)) are over_limit stopped = tt
+ends_row objects o log state after truths (refusal.Stopped ending.NoMemory) are over_limit stopped = tt
+ends_row objects o log state after truths (refusal.Ended e) are over_limit stopped = tt

@@ -7,6 +7,6 @@ pub mod ReadLemmas
 pub mod RunsLemmas
 pub mod PendingLemmas
 pub mod OneLogLemmas
-pub mod WayLemmas
+pub mod BufferedLemmas
 pub mod ReadingLemmas
 pub mod WatchLemmas

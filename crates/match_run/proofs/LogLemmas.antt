@@ -14,11 +14,11 @@ use Rattle.match_bindings.specs.BindTree.{BindTree, greatest}
 use Rattle.match_bindings.specs.Line.{line_text}
 use Rattle.match_bindings.specs.Once.{count}
 use Rattle.match_bindings.proofs.OnceLemmas.{same_self}
-use Rattle.match_stream.specs.Answer.{IsAnswer, IsRoomy, AnswersAfter, joined_answers}
+use Rattle.match_stream.specs.Answer.{IsAnswer, IsWithinLimit, AnswersAfter, joined_answers}
 use Rattle.match_input.specs.Reading.{BundleOf}
 use Rattle.match_run.specs.Entries.{AreEntriesOf, AreEntries}
 use Rattle.match_run.specs.Listing.{listing_text, last_number}
-use Rattle.match_run.specs.Matching.{IsNeverCrowded}
+use Rattle.match_run.specs.Matching.{IsNeverOverLimit}
 use Rattle.match_run.specs.inner.Rows.{last_counted, row_of}
 
 -- ---- answers and lines
@@ -92,19 +92,19 @@ cuts (l ∷ log) end (x ∷ rows) more row e =
     go head (inl whole) = inl (cc)
     go head (inr before) = inr (before.0, cc (before.1))
 
-pub never_crowded-more : (p : Pattern) (cap : ℕ) (log : List LogEntry) (end : LogEntry) → IsNeverCrowded p cap log
-    → IsRoomy (numbered_pattern p) (log ++ end ∷ []) cap → IsNeverCrowded p cap (log ++ end ∷ [])
-never_crowded-more p cap log end never roomy rows more row e = go (cuts log end rows more row e)
+pub never_over_limit-more : (p : Pattern) (retained_limit : ℕ) (log : List LogEntry) (end : LogEntry) → IsNeverOverLimit p retained_limit log
+    → IsWithinLimit (numbered_pattern p) (log ++ end ∷ []) retained_limit → IsNeverOverLimit p retained_limit (log ++ end ∷ [])
+never_over_limit-more p retained_limit log end never within_limit rows more row e = go (cuts log end rows more row e)
   where
-    go : Cuts log end rows row → IsRoomy (numbered_pattern p) (rows ++ row ∷ []) cap
-    go (inl whole) = subst (λ (l : List LogEntry). IsRoomy (numbered_pattern p) l cap) (sym whole) roomy
+    go : Cuts log end rows row → IsWithinLimit (numbered_pattern p) (rows ++ row ∷ []) retained_limit
+    go (inl whole) = subst (λ (l : List LogEntry). IsWithinLimit (numbered_pattern p) l retained_limit) (sym whole) within_limit
     go (inr before) = never rows before.0 row before.1
 
 -- ---- the last binding
 
 -- an answer ends at the last row
 pub ends_at : (p : NumberedPattern) (log : List LogEntry) (xs : List BindTree) → IsAnswer p log xs → (x : BindTree) → 0 < count x xs → greatest x ≡ length log
-ends_at p log xs is x stands =
+ends_at p log xs is x represents =
     go (eqb (greatest x) (length log)) refl
   where
     go : (is_last : Bool) → eqb (greatest x) (length log) ≡ is_last → greatest x ≡ length log
@@ -115,7 +115,7 @@ ends_at p log xs is x stands =
 
 last_number-all : (y : BindTree) (ys : List BindTree) (n : ℕ) → ((x : BindTree) → 0 < count x (y ∷ ys) → greatest x ≡ n) → last_number (y ∷ ys) ≡ n
 last_number-all y [] n all = let me = same_self y in all y (rw me (omega arith))
-last_number-all y (z ∷ ys) n all = last_number-all z ys n (λ x stands. all x (omega arith))
+last_number-all y (z ∷ ys) n all = last_number-all z ys n (λ x represents. all x (omega arith))
 
 last_number-tail : (xs : List BindTree) (y : BindTree) (ys : List BindTree) → last_number (xs ++ y ∷ ys) ≡ last_number (y ∷ ys)
 last_number-tail [] y ys = refl

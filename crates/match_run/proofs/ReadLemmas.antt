@@ -5,7 +5,7 @@ use Rattle.serde_json.specs.Data.{Data}
 use Rattle.flow_edges.specs.declared.source.TheConstants.{MAX_READ}
 use Rattle.flow_edges.specs.Flow.{TakesAtMost}
 use Rattle.flow_lines.specs.declared.whole_input.TheConstants.{MAX_WHOLE_INPUT}
-use Rattle.flow_lines.specs.Lines.{Lined, ended, line_then, lines_start}
+use Rattle.flow_lines.specs.Lines.{LineStream, ended, line_then, lines_start}
 use Rattle.stix_bundles.specs.Objects.{data_in}
 use Rattle.stix_bundles.specs.declared.observation.Observation.{Observation}
 use Rattle.match_input.specs.declared.batch.Batch.{Batch}
@@ -17,14 +17,14 @@ use Rattle.match_input.specs.declared.stage.Stage.TheVariants as stage
 use Rattle.match_input.specs.Line.{IsBundleLine, last_after}
 use Rattle.match_input.specs.Reading.{BundleOf, InputEnd, Whole, Refused, IsRefusedAt, Reads, at_end, at_refusal, one_bundle}
 use Rattle.match_input.specs.Ahead.{ReaderState, reader_start, next_number, ahead, BreaksOff, GivesBatch}
-use Rattle.match_run.specs.Matching.{ReadsInput, BeginsSo, HasTaken}
+use Rattle.match_run.specs.Matching.{ReadsInput, HasPrefix, HasTaken}
 use Rattle.match_run.specs.inner.Rows.{bundle_of}
 use Rattle.match_run.specs.inner.MatchRuns.{IsStageOf, HasRead}
 use Rattle.match_run.proofs.StageLemmas.{ahead_none, ahead_some, start_accounts, moves_on}
 
 -- where the first line that comes is a bundle, all that comes is read as that bundle and what is behind it
-abbrev pub GoesOn : Type 0
-GoesOn = (last : Option ℤ) (next number : ℕ) (bytes : List ℕ) (later : Lined) (objects : List Data) (observations : List Observation)
+abbrev pub Continues : Type 0
+Continues = (last : Option ℤ) (next number : ℕ) (bytes : List ℕ) (later : LineStream) (objects : List Data) (observations : List Observation)
     (all : List BundleOf) (end : InputEnd) → IsBundleLine last next bytes objects observations → Reads last next (line_then number bytes later) all end
     → (rest : List BundleOf) × (all ≡ record { line = number; objects = objects; observations = observations } ∷ rest)
     × Reads (last_after last observations) (next + length observations) later rest end
@@ -49,24 +49,24 @@ read-start WholeInput (Some bytes) = record {
 
 -- ---- a bundle more
 
-module _ (goes_on : GoesOn) (last last_now : Option ℤ) (next next_now number : ℕ) (bytes : List ℕ) (objects : List Data) (observations : List Observation)
+module _ (continues : Continues) (last last_now : Option ℤ) (next next_now number : ℕ) (bytes : List ℕ) (objects : List Data) (observations : List Observation)
     (line : IsBundleLine last next bytes objects observations) (last_is : last_now ≡ last_after last observations) (next_is : next_now ≡ next + length observations) where
   abbrev pub this : BundleOf
   this = record { line = number; objects = objects; observations = observations }
 
-  line-forward : (later : Option Lined) (more : List BundleOf) (end : InputEnd) → IfSome later (λ lines. Reads last_now next_now lines more end)
+  line-forward : (later : Option LineStream) (more : List BundleOf) (end : InputEnd) → IfSome later (λ lines. Reads last_now next_now lines more end)
       → IfSome (option_map (λ lines. line_then number bytes lines) later) (λ lines. Reads last next lines (this ∷ more) end)
   line-forward None more end h = tt
   line-forward (Some lines) more end h =
       one_bundle line (subst (λ (n : ℕ). Reads (last_after last observations) n lines more end) next_is
       (subst (λ (l : Option ℤ). Reads l next_now lines more end) last_is h))
 
-  line-backward : (later : Option Lined) (bundles all : List BundleOf) (end : InputEnd)
+  line-backward : (later : Option LineStream) (bundles all : List BundleOf) (end : InputEnd)
       → IfSome (option_map (λ lines. line_then number bytes lines) later) (λ lines. (rest : List BundleOf) × (all ≡ bundles ++ rest) × Reads last next lines rest end)
       → IfSome later (λ lines. (rest : List BundleOf) × (all ≡ (bundles ++ this ∷ []) ++ rest) × Reads last_now next_now lines rest end)
   line-backward None bundles all end h = tt
   line-backward (Some lines) bundles all end h =
-      let goes = goes_on last next number bytes lines objects observations h.0 end line h.2 in (
+      let goes = continues last next number bytes lines objects observations h.0 end line h.2 in (
         goes.0,
         h.1 ∙ ap (λ (r : List BundleOf). bundles ++ r) goes.1 ∙ sym (append_assoc bundles (this ∷ []) goes.0),
         subst (λ (l : Option ℤ). Reads l next_now lines goes.0 end) (sym last_is)
@@ -84,21 +84,21 @@ told-more (Some x) left None st after number bytes told is =
     let no : Some some.0 ≡ None = sym one ∙ none in
     absurd (cc)
 
-pub read-more : GoesOn → (mode : Mode) (first left left_after : Option (List ℕ)) (reader after : ReaderState) (batch : Batch) (bundles : List BundleOf)
+pub read-more : Continues → (mode : Mode) (first left left_after : Option (List ℕ)) (reader after : ReaderState) (batch : Batch) (bundles : List BundleOf)
     → HasRead mode first reader left bundles → GivesBatch reader after left left_after batch → HasRead mode first after left_after (bundles ++ bundle_of batch ∷ [])
-read-more goes_on mode first left left_after reader after batch bundles far gives =
+read-more continues mode first left left_after reader after batch bundles far gives =
     let objects = data_in batch.bundle in
     let next : next_number after ≡ next_number reader + length batch.observations = omega (arith, gives.observations) in
     record {
       forward = λ more end h. subst (λ (bs : List BundleOf). ReadsInput mode first bs end) (sym (append_assoc bundles (bundle_of batch ∷ []) more))
           (far.forward (bundle_of batch ∷ more) end
-          (subst (λ (l : Option Lined). IfSome l (λ lines. Reads reader.last (next_number reader) lines (bundle_of batch ∷ more) end)) (sym gives.line)
-          (line-forward goes_on reader.last after.last (next_number reader) (next_number after) batch.line gives.bytes objects batch.observations gives.is gives.last next
+          (subst (λ (l : Option LineStream). IfSome l (λ lines. Reads reader.last (next_number reader) lines (bundle_of batch ∷ more) end)) (sym gives.line)
+          (line-forward continues reader.last after.last (next_number reader) (next_number after) batch.line gives.bytes objects batch.observations gives.is gives.last next
           (ahead after.stage left_after) more end h)));
       backward = λ all end h.
-          line-backward goes_on reader.last after.last (next_number reader) (next_number after) batch.line gives.bytes objects batch.observations gives.is gives.last next
+          line-backward continues reader.last after.last (next_number reader) (next_number after) batch.line gives.bytes objects batch.observations gives.is gives.last next
           (ahead after.stage left_after) bundles all end
-          (subst (λ (l : Option Lined). IfSome l (λ lines. (rest : List BundleOf) × (all ≡ bundles ++ rest) × Reads reader.last (next_number reader) lines rest end)) gives.line
+          (subst (λ (l : Option LineStream). IfSome l (λ lines. (rest : List BundleOf) × (all ≡ bundles ++ rest) × Reads reader.last (next_number reader) lines rest end)) gives.line
           (far.backward all end h));
       told = told-more first left left_after reader.stage after.stage batch.line gives.bytes far.told gives.line;
       stage = (moves_on bundles (bundles ++ bundle_of batch ∷ []) batch.line first left left_after mode reader.stage after.stage far.stage gives.moves).stage_is;
@@ -106,25 +106,25 @@ read-more goes_on mode first left left_after reader after batch bundles far give
 
 -- ---- what is read at last
 
-rest_begins : (st : Stage) (first left : Option (List ℕ)) (bundles all : List BundleOf) (Behind : Lined → List BundleOf → Type 0) → IfSome first (λ _. (there : List ℕ) × (left ≡ Some there))
+rest_begins : (st : Stage) (first left : Option (List ℕ)) (bundles all : List BundleOf) (Behind : LineStream → List BundleOf → Type 0) → IfSome first (λ _. (there : List ℕ) × (left ≡ Some there))
     → IfSome (ahead st left) (λ lines. (later : List BundleOf) × (all ≡ bundles ++ later) × Behind lines later)
     → IfSome first (λ bytes. (later : List BundleOf) × (all ≡ bundles ++ later))
 rest_begins st None left bundles all Behind told h = tt
 rest_begins st (Some x) left bundles all Behind told h =
     let some = ahead_some st told.0 in
     let is : ahead st left ≡ Some some.0 = ap (ahead st) told.1 ∙ some.1 in
-    let here = subst (λ (l : Option Lined). IfSome l (λ lines. (later : List BundleOf) × (all ≡ bundles ++ later) × Behind lines later)) is h in
+    let here = subst (λ (l : Option LineStream). IfSome l (λ lines. (later : List BundleOf) × (all ≡ bundles ++ later) × Behind lines later)) is h in
     (here.0, here.1)
 
-pub begins_so : (mode : Mode) (first left : Option (List ℕ)) (reader : ReaderState) (bundles : List BundleOf) → HasRead mode first reader left bundles → BeginsSo mode first bundles
+pub begins_so : (mode : Mode) (first left : Option (List ℕ)) (reader : ReaderState) (bundles : List BundleOf) → HasRead mode first reader left bundles → HasPrefix mode first bundles
 begins_so mode first left reader bundles far all end reads =
     rest_begins reader.stage first left bundles all (λ lines later. Reads reader.last (next_number reader) lines later end) far.told (far.backward all end reads)
 
-whole_ahead : (lines : Option Lined) (last : Option ℤ) (next : ℕ) → IfSome lines (λ l. l ≡ ended) → IfSome lines (λ l. Reads last next l [] Whole)
+whole_ahead : (lines : Option LineStream) (last : Option ℤ) (next : ℕ) → IfSome lines (λ l. l ≡ ended) → IfSome lines (λ l. Reads last next l [] Whole)
 whole_ahead None last next h = tt
-whole_ahead (Some lines) last next h = subst (λ (l : Lined). Reads last next l [] Whole) (sym h) at_end
+whole_ahead (Some lines) last next h = subst (λ (l : LineStream). Reads last next l [] Whole) (sym h) at_end
 
-refused_ahead : (lines : Option Lined) (last : Option ℤ) (next line : ℕ) (why : InputRule) → IfSome lines (λ l. IsRefusedAt last next l line why)
+refused_ahead : (lines : Option LineStream) (last : Option ℤ) (next line : ℕ) (why : InputRule) → IfSome lines (λ l. IsRefusedAt last next l line why)
     → IfSome lines (λ l. Reads last next l [] (Refused line why))
 refused_ahead None last next line why h = tt
 refused_ahead (Some lines) last next line why h = at_refusal h
@@ -158,7 +158,7 @@ has_taken Lines first left left_after (stage.Lines lines) last next bundles forw
   accounts = broken.accounts lines_start first s.1;
   last = last;
   next = next;
-  behind = λ later end h. forward later end (subst (λ (l : Option Lined). IfSome l (λ lines. Reads last next lines later end)) broken.keeps.lines h);
+  behind = λ later end h. forward later end (subst (λ (l : Option LineStream). IfSome l (λ lines. Reads last next lines later end)) broken.keeps.lines h);
 }
 has_taken Lines first left left_after stage.Whole last next bundles forward s broken = absurd s
 has_taken Lines first left left_after stage.AtEnd last next bundles forward s broken = absurd s

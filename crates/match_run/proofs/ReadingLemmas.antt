@@ -16,12 +16,12 @@ use Rattle.match_input.specs.declared.stage.Stage.TheVariants as stage
 use Rattle.match_input.specs.Line.{last_after}
 use Rattle.match_input.specs.Reading.{BundleOf}
 use Rattle.match_input.specs.Ahead.{ReaderState, reader_start, next_number, IsOpen, HoldsLines, LacksLineIn, Moves, AnswersNext, GivesBatch}
-use Rattle.match_run.specs.Matching.{BeginsSo, IsToCome}
+use Rattle.match_run.specs.Matching.{HasPrefix, IsToCome}
 use Rattle.match_run.specs.inner.Rows.{MayFollow as FollowsSo}
 use Rattle.match_run.specs.inner.MatchRuns.{HasRead as ReadSo, IsStageOf, IsInTime}
 use Rattle.match_run.proofs.FollowLemmas.{Spans, may_follow}
 use Rattle.match_run.proofs.StageLemmas.{start_accounts, takes_little, gives_in_time}
-use Rattle.match_run.proofs.ReadLemmas.{GoesOn, read-start, read-more, begins_so, reads-whole, reads-refused, has_taken}
+use Rattle.match_run.proofs.ReadLemmas.{Continues, read-start, read-more, begins_so, reads-whole, reads-refused, has_taken}
 use Rattle.match_run.specs.Reading.{bundle_of, observations_of, MayFollow, HasRead, room_in, GivesNext, NextAnswers}
 
 -- ---- the last time of observations
@@ -62,7 +62,7 @@ reading-start first began =
       told = so.told;
       lines = lines_start;
       stage = refl;
-      stands = record { unrefused = refl; accounts = start_accounts lines_start first; within = omega arith; in_time = inl refl };
+      represents = record { unrefused = refl; accounts = start_accounts lines_start first; within = omega arith; in_time = inl refl };
       number = refl;
       last = refl;
     }
@@ -71,18 +71,18 @@ reading-start first began =
 
 module _ (first left began : Option (List ℕ)) (reader : ReaderState) (earlier : List BundleOf) (far : HasRead first reader left began earlier) where
   stage_is : IsStageOf Lines reader.stage earlier first left
-  stage_is = subst (λ (s : Stage). IsStageOf Lines s earlier first left) (sym far.stage) (far.stands.unrefused, far.stands.accounts, far.stands.within)
+  stage_is = subst (λ (s : Stage). IsStageOf Lines s earlier first left) (sym far.stage) (far.represents.unrefused, far.represents.accounts, far.represents.within)
 
   in_time_so : IsInTime Lines reader.stage first began
-  in_time_so = subst (λ (s : Stage). IsInTime Lines s first began) (sym far.stage) far.stands.in_time
+  in_time_so = subst (λ (s : Stage). IsInTime Lines s first began) (sym far.stage) far.represents.in_time
 
   pub read_so : ReadSo Lines first reader left earlier
   read_so = record { forward = far.forward; backward = far.backward; told = far.told; stage = stage_is }
 
   pub is_open : IsOpen reader.stage
-  is_open = subst IsOpen (sym far.stage) far.stands.unrefused
+  is_open = subst IsOpen (sym far.stage) far.represents.unrefused
 
-  pub comes-first : BeginsSo Lines first earlier
+  pub comes-first : HasPrefix Lines first earlier
   comes-first = begins_so Lines first left reader earlier read_so
 
 -- ---- a bundle more
@@ -108,18 +108,18 @@ moved line lines stage.Whole left left_after m = absurd m
 moved line lines stage.AtEnd left left_after m = absurd m
 moved line lines stage.Ended left left_after m = absurd m
 
-module _ (goes_on : GoesOn) (spans : Spans) (first left began left_after began_after : Option (List ℕ)) (reader after : ReaderState)
+module _ (continues : Continues) (spans : Spans) (first left began left_after began_after : Option (List ℕ)) (reader after : ReaderState)
     (earlier : List BundleOf) (far : HasRead first reader left began earlier) where
   next-given : (batch : Batch) → GivesBatch reader after left left_after batch → (HoldsLines reader.stage → began_after ≡ began)
       → (¬ (HoldsLines reader.stage) → IfSome began_after (LacksLineIn reader.stage batch.line left))
       → GivesNext first earlier reader after left_after began_after batch
   next-given batch gives unread lacks =
       let so = read_so first left began reader earlier far in
-      let on = read-more goes_on Lines first left left_after reader after batch earlier so gives in
+      let on = read-more continues Lines first left left_after reader after batch earlier so gives in
       let move = moved batch.line far.lines after.stage left left_after
       (subst (λ (s : Stage). Moves batch.line s after.stage left left_after) far.stage gives.moves) in
       let moves = move.2 in
-      let accounts = moves.5 lines_start first far.stands.accounts in
+      let accounts = moves.5 lines_start first far.represents.accounts in
       let in_time : IfSome began_after (IsToCome batch.line first) =
       gives_in_time earlier batch.line first left left_after began began_after Lines reader.stage after.stage
       (stage_is first left began reader earlier far) gives.moves (in_time_so first left began reader earlier far) unread lacks in
@@ -131,7 +131,7 @@ module _ (goes_on : GoesOn) (spans : Spans) (first left began left_after began_a
           told = on.told;
           lines = move.0;
           stage = move.1;
-          stands = record {
+          represents = record {
             unrefused = moves.0;
             accounts = accounts;
             within = moves.3;

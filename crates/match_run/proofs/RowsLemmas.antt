@@ -13,41 +13,41 @@ use Rattle.match_bindings.specs.declared.log_entry.LogEntry.{LogEntry}
 use Rattle.match_bindings.specs.NumberedPattern.{numbered_pattern}
 use Rattle.match_bindings.specs.BindTree.{BindTree}
 use Rattle.match_bindings.specs.Log.{IsInOrder}
-use Rattle.match_stream.specs.MatcherState.{MatcherState, StandsFor}
-use Rattle.match_stream.specs.Answer.{IsAnswer, IsRoomy, joined_answers}
+use Rattle.match_stream.specs.MatcherState.{MatcherState, Represents}
+use Rattle.match_stream.specs.Answer.{IsAnswer, IsWithinLimit, joined_answers}
 use Rattle.match_input.specs.Reading.{BundleOf}
 use Rattle.match_run.specs.Listing.{listing_text, last_number}
-use Rattle.match_run.specs.inner.Rows.{counted, last_counted, IsBehind, Progress, so_far, IsAt, IsAtSome, MayFollow, row_of, AddsRow, EndsAtRow, AddsRows, IsOnItsWay, ListsFirst, BreaksOff, IsCrowdedAt, StopsAmong, EndsAmong, TakesRow, StopsAtRow, TakesRows, GoesThrough, StopsAtOne, WritesBundle, StopsInBundle}
+use Rattle.match_run.specs.inner.Rows.{counted, last_counted, IsAfter, Progress, so_far, IsAt, IsAtSome, MayFollow, row_of, AddsRow, EndsAtRow, AddsRows, IsBuffered, ListsFirst, BreaksOff, IsOverLimitAt, StopsAmong, EndsAmong, TakesRow, StopsAtRow, TakesRows, GoesThrough, StopsAtOne, WritesBundle, StopsInBundle}
 use Rattle.match_run.specs.inner.MatchEnds.{CutsLines, HasCutLines}
 use Rattle.flow_edges.specs.Flow.{written_with, WritesPrefix}
 use Rattle.match_run.specs.declared.match_end.MatchEnd.{MatchEnd}
-use Rattle.match_run.specs.declared.match_end.MatchEnd.TheVariants.{Done, Input, ReadFault, WriteFault, Crowded, NoMemory}
+use Rattle.match_run.specs.declared.match_end.MatchEnd.TheVariants.{Done, Input, ReadFault, WriteFault, OverLimit, NoMemory}
 use Rattle.match_run.specs.declared.tally.Tally.{Tally}
 use Rattle.match_stream.proofs.LogLemmas.{last_of_more}
 use Rattle.match_run.proofs.PendingLemmas.{way-start, way-written, way-cut, way-stopped}
-use Rattle.match_run.proofs.LogLemmas.{joined_answers-one, listing_text-append, answers-more, entries_of-more, never_crowded-more, ends_at, last_number-more}
+use Rattle.match_run.proofs.LogLemmas.{joined_answers-one, listing_text-append, answers-more, entries_of-more, never_over_limit-more, ends_at, last_number-more}
 
 -- the matcher took a row, and its answer was counted
-pub behind-more : (p : Pattern) (cap : ℕ) (state after : MatcherState) (tally : Tally) (log : List LogEntry) (answers : List (List BindTree))
-    (o : Observation) (truths : List Bool) (answer : List BindTree) → IsBehind p cap state tally log answers
+pub behind-more : (p : Pattern) (retained_limit : ℕ) (state after : MatcherState) (tally : Tally) (log : List LogEntry) (answers : List (List BindTree))
+    (o : Observation) (truths : List Bool) (answer : List BindTree) → IsAfter p retained_limit state tally log answers
     → o.number ≡ state.rows + 1 → length answer ≤ 2 ^ 64
-    → StandsFor after (log ++ row_of o truths ∷ []) → IsInOrder (log ++ row_of o truths ∷ []) → IsAnswer (numbered_pattern p) (log ++ row_of o truths ∷ []) answer
-    → IsRoomy (numbered_pattern p) (log ++ row_of o truths ∷ []) cap
-    → IsBehind p cap after (counted tally o.number (length answer)) (log ++ row_of o truths ∷ []) (answers ++ answer ∷ [])
-behind-more p cap state after tally log answers o truths answer b number few stands order is roomy =
+    → Represents after (log ++ row_of o truths ∷ []) → IsInOrder (log ++ row_of o truths ∷ []) → IsAnswer (numbered_pattern p) (log ++ row_of o truths ∷ []) answer
+    → IsWithinLimit (numbered_pattern p) (log ++ row_of o truths ∷ []) retained_limit
+    → IsAfter p retained_limit after (counted tally o.number (length answer)) (log ++ row_of o truths ∷ []) (answers ++ answer ∷ [])
+behind-more p retained_limit state after tally log answers o truths answer b number few represents order is within_limit =
     let row = row_of o truths in
     let rows : length (log ++ row ∷ []) ≡ length log + 1 = length-append log (row ∷ []) in
     let joined = joined_answers-one answers answer in
     let at : (x : BindTree) → _ = ends_at (numbered_pattern p) (log ++ row ∷ []) answer is in
-    let same : length (log ++ row ∷ []) ≡ o.number = omega (arith, rows, number, b.stands.rows) in
+    let same : length (log ++ row ∷ []) ≡ o.number = omega (arith, rows, number, b.represents.rows) in
     let last = last_number-more (joined_answers answers) answer o.number (λ x there. at x there ∙ same) in
     record {
       rows = record {
         order = order;
-        roomy = never_crowded-more p cap log row b.rows.roomy roomy;
+        within_limit = never_over_limit-more p retained_limit log row b.rows.within_limit within_limit;
         answers_are = answers-more (numbered_pattern p) [] log row answers answer b.rows.answers_are is;
       };
-      stands = stands;
+      represents = represents;
       observations_are = omega (arith, rows, b.observations_are);
       bindings_are = omega (arith, b.bindings_are, ap length joined, length-append (joined_answers answers) answer);
       few = omega (arith, b.few, few, rows);
@@ -55,50 +55,50 @@ behind-more p cap state after tally log answers o truths answer b number few sta
     }
 
 -- how many rows the matcher has behind it then, and their last time
-pub rows-more : (p : Pattern) (cap : ℕ) (state after : MatcherState) (tally later : Tally) (log : List LogEntry) (answers more : List (List BindTree))
-    (row : LogEntry) → IsBehind p cap state tally log answers → IsBehind p cap after later (log ++ row ∷ []) more → after.rows ≡ state.rows + 1
-rows-more p cap state after tally later log answers more row b c = omega (arith, b.stands.rows, c.stands.rows, length-append log (row ∷ []))
+pub rows-more : (p : Pattern) (retained_limit : ℕ) (state after : MatcherState) (tally later : Tally) (log : List LogEntry) (answers more : List (List BindTree))
+    (row : LogEntry) → IsAfter p retained_limit state tally log answers → IsAfter p retained_limit after later (log ++ row ∷ []) more → after.rows ≡ state.rows + 1
+rows-more p retained_limit state after tally later log answers more row b c = omega (arith, b.represents.rows, c.represents.rows, length-append log (row ∷ []))
 
-pub last-more : (p : Pattern) (cap : ℕ) (after : MatcherState) (later : Tally) (log : List LogEntry) (more : List (List BindTree))
-    (row : LogEntry) → IsBehind p cap after later (log ++ row ∷ []) more → after.last ≡ Some row.last
-last-more p cap after later log more row c = c.stands.last ∙ last_of_more log row
+pub last-more : (p : Pattern) (retained_limit : ℕ) (after : MatcherState) (later : Tally) (log : List LogEntry) (more : List (List BindTree))
+    (row : LogEntry) → IsAfter p retained_limit after later (log ++ row ∷ []) more → after.last ≡ Some row.last
+last-more p retained_limit after later log more row c = c.represents.last ∙ last_of_more log row
 
 -- what may follow behind the row
-pub follow-more : (p : Pattern) (cap : ℕ) (objects : List Data) (o : Observation) (state after : MatcherState) (tally later : Tally) (log : List LogEntry)
-    (answers : List (List BindTree)) (answer : List BindTree) (observations : List Observation) → IsBehind p cap state tally log answers
-    → AddsRow p cap objects o log answers after later answer → MayFollow (Some o.last) ((state.rows + 1) + 1) observations
+pub follow-more : (p : Pattern) (retained_limit : ℕ) (objects : List Data) (o : Observation) (state after : MatcherState) (tally later : Tally) (log : List LogEntry)
+    (answers : List (List BindTree)) (answer : List BindTree) (observations : List Observation) → IsAfter p retained_limit state tally log answers
+    → AddsRow p retained_limit objects o log answers after later answer → MayFollow (Some o.last) ((state.rows + 1) + 1) observations
     → MayFollow after.last (after.rows + 1) observations
-follow-more p cap objects o state after tally later log answers answer observations b adds follow =
+follow-more p retained_limit objects o state after tally later log answers answer observations b adds follow =
     let row = row_of o adds.truths in
-    let last = last-more p cap after later log (answers ++ answer ∷ []) row adds.behind in
-    let rows = rows-more p cap state after tally later log answers (answers ++ answer ∷ []) row b adds.behind in
+    let last = last-more p retained_limit after later log (answers ++ answer ∷ []) row adds.behind in
+    let rows = rows-more p retained_limit state after tally later log answers (answers ++ answer ∷ []) row b adds.behind in
     subst (λ (l : Option ℤ). MayFollow l (after.rows + 1) observations) (sym last)
     (subst (λ (n : ℕ). MayFollow (Some o.last) (n + 1) observations) (sym rows) follow)
 
 -- one more observation
-pub adds-more : (p : Pattern) (cap : ℕ) (objects : List Data) (observations : List Observation) (o : Observation) (log : List LogEntry)
+pub adds-more : (p : Pattern) (retained_limit : ℕ) (objects : List Data) (observations : List Observation) (o : Observation) (log : List LogEntry)
     (answers : List (List BindTree)) (state after : MatcherState) (tally later : Tally) (text : List ℕ) (answer : List BindTree)
-    → (adds : AddsRows p cap objects observations log answers state tally text)
-    → AddsRow p cap objects o (log ++ adds.own) (answers ++ adds.own_answers) after later answer
-    → AddsRows p cap objects (observations ++ o ∷ []) log answers after later (text ++ listing_text answer)
-adds-more p cap objects observations o log answers state after tally later text answer adds one =
+    → (adds : AddsRows p retained_limit objects observations log answers state tally text)
+    → AddsRow p retained_limit objects o (log ++ adds.own) (answers ++ adds.own_answers) after later answer
+    → AddsRows p retained_limit objects (observations ++ o ∷ []) log answers after later (text ++ listing_text answer)
+adds-more p retained_limit objects observations o log answers state after tally later text answer adds one =
     let row = row_of o one.truths in
     record {
       own = adds.own ++ row ∷ [];
       own_answers = adds.own_answers ++ answer ∷ [];
       entries = entries_of-more (plain_pattern p) objects observations adds.own o one.truths adds.entries one.are;
-      behind = subst (λ (l : List LogEntry). IsBehind p cap after later l (answers ++ (adds.own_answers ++ answer ∷ []))) (append_assoc log adds.own (row ∷ []))
-          (subst (λ (a : List (List BindTree)). IsBehind p cap after later ((log ++ adds.own) ++ row ∷ []) a) (append_assoc answers adds.own_answers (answer ∷ [])) one.behind);
+      behind = subst (λ (l : List LogEntry). IsAfter p retained_limit after later l (answers ++ (adds.own_answers ++ answer ∷ []))) (append_assoc log adds.own (row ∷ []))
+          (subst (λ (a : List (List BindTree)). IsAfter p retained_limit after later ((log ++ adds.own) ++ row ∷ []) a) (append_assoc answers adds.own_answers (answer ∷ [])) one.behind);
       text_is = ap (λ (t : List ℕ). t ++ listing_text answer) adds.text_is
           ∙ sym (listing_text-append (joined_answers adds.own_answers) answer)
           ∙ sym (ap listing_text (joined_answers-one adds.own_answers answer));
     }
 
 -- all of some observations are the first of them
-pub first-all : (p : Pattern) (cap : ℕ) (objects : List Data) (seen later : List Observation) (log : List LogEntry)
+pub first-all : (p : Pattern) (retained_limit : ℕ) (objects : List Data) (seen later : List Observation) (log : List LogEntry)
     (answers : List (List BindTree)) (state : MatcherState) (tally : Tally) (text : List ℕ)
-    → AddsRows p cap objects seen log answers state tally text → ListsFirst p cap objects (seen ++ later) log answers text
-first-all p cap objects seen later log answers state tally text adds = record {
+    → AddsRows p retained_limit objects seen log answers state tally text → ListsFirst p retained_limit objects (seen ++ later) log answers text
+first-all p retained_limit objects seen later log answers state tally text adds = record {
   seen = seen;
   later = later;
   observations_are = refl;
@@ -110,18 +110,18 @@ first-all p cap objects seen later log answers state tally text adds = record {
 }
 
 -- too much is live at the next one
-pub stops-next : (p : Pattern) (cap : ℕ) (objects : List Data) (seen rest : List Observation) (o : Observation) (log : List LogEntry)
+pub stops-next : (p : Pattern) (retained_limit : ℕ) (objects : List Data) (seen rest : List Observation) (o : Observation) (log : List LogEntry)
     (answers : List (List BindTree)) (state after : MatcherState) (tally : Tally) (text : List ℕ) (number named : ℕ)
-    → (adds : AddsRows p cap objects seen log answers state tally text)
-    → IsCrowdedAt p cap objects o (log ++ adds.own) after number named
-    → StopsAmong p cap objects (seen ++ o ∷ rest) log answers after text number named
+    → (adds : AddsRows p retained_limit objects seen log answers state tally text)
+    → IsOverLimitAt p retained_limit objects o (log ++ adds.own) after number named
+    → StopsAmong p retained_limit objects (seen ++ o ∷ rest) log answers after text number named
 unfolding first-all
-stops-next p cap objects seen rest o log answers state after tally text number named adds crowded = record {
-  first = first-all p cap objects seen (o ∷ rest) log answers state tally text adds;
+stops-next p retained_limit objects seen rest o log answers state after tally text number named adds over_limit = record {
+  first = first-all p retained_limit objects seen (o ∷ rest) log answers state tally text adds;
   o = o;
   rest = rest;
   later_are = refl;
-  crowded = crowded;
+  over_limit = over_limit;
 }
 
 -- an item, and what stands before and behind it
@@ -140,75 +140,75 @@ all_here xs i x within is = sym (take-append-drop i xs) ∙ ap (λ (r : List Obs
 pub cut-rows : (objects : List Data) (seen rest : List Observation) (first now : Progress) (text : List ℕ) (begun written : Option (List ℕ))
     → TakesRows objects seen first now text → WritesPrefix text begun written
     → (log : List LogEntry) (answers : List (List BindTree)) → IsAt first log answers
-    → BreaksOff first.matcher.pattern first.matcher.cap objects (seen ++ rest) log answers begun written
+    → BreaksOff first.matcher.pattern first.matcher.retained_limit objects (seen ++ rest) log answers begun written
 cut-rows objects seen rest first now text begun written rows prefix log answers b =
-    (text, first-all first.matcher.pattern first.matcher.cap objects seen rest log answers now.matcher now.tally text (rows log answers b), prefix)
+    (text, first-all first.matcher.pattern first.matcher.retained_limit objects seen rest log answers now.matcher now.tally text (rows log answers b), prefix)
 
--- ---- one turn of the loop over the observations, at a pattern and a cap that stay the same
+-- ---- one turn of the loop over the observations, at a pattern and a retained limit that stay the same
 
 module _ (objects : List Data) (seen : List Observation) (o : Observation) (first : Progress)
-    (state after : MatcherState) (tally later : Tally) (text : List ℕ) (same_p : state.pattern ≡ first.matcher.pattern) (same_cap : state.cap ≡ first.matcher.cap)
+    (state after : MatcherState) (tally later : Tally) (text : List ℕ) (same_p : state.pattern ≡ first.matcher.pattern) (same_retained_limit : state.retained_limit ≡ first.matcher.retained_limit)
     (rows : TakesRows objects seen first (so_far state tally) text) where
   pub turn-rows : (answer : List BindTree) → TakesRow objects o (so_far state tally) (so_far after later) answer
       → TakesRows objects (seen ++ o ∷ []) first (so_far after later) (text ++ listing_text answer)
   turn-rows answer row log answers b =
       let adds = rows log answers b in
-      let at_p = subst (λ (q : Pattern). (log : List LogEntry) (answers : List (List BindTree)) → IsBehind q state.cap state tally log answers
-      → AddsRow q state.cap objects o log answers after later answer) same_p row in
-      let at_cap = subst (λ (c : ℕ). (log : List LogEntry) (answers : List (List BindTree)) → IsBehind first.matcher.pattern c state tally log answers
-      → AddsRow first.matcher.pattern c objects o log answers after later answer) same_cap at_p in
-      adds-more first.matcher.pattern first.matcher.cap objects seen o log answers state after tally later text answer adds
-      (at_cap (log ++ adds.own) (answers ++ adds.own_answers) adds.behind)
+      let at_p = subst (λ (q : Pattern). (log : List LogEntry) (answers : List (List BindTree)) → IsAfter q state.retained_limit state tally log answers
+      → AddsRow q state.retained_limit objects o log answers after later answer) same_p row in
+      let at_retained_limit = subst (λ (c : ℕ). (log : List LogEntry) (answers : List (List BindTree)) → IsAfter first.matcher.pattern c state tally log answers
+      → AddsRow first.matcher.pattern c objects o log answers after later answer) same_retained_limit at_p in
+      adds-more first.matcher.pattern first.matcher.retained_limit objects seen o log answers state after tally later text answer adds
+      (at_retained_limit (log ++ adds.own) (answers ++ adds.own_answers) adds.behind)
 
-  module _ (rest : List Observation) (pending : List ℕ) (begun written : Option (List ℕ)) (way : IsOnItsWay text pending begun written) where
+  module _ (rest : List Observation) (pending : List ℕ) (begun written : Option (List ℕ)) (way : IsBuffered text pending begun written) where
     ends-turn : (end : MatchEnd) (log : List LogEntry) (answers : List (List BindTree)) → IsAt first log answers
-        → (adds : AddsRows first.matcher.pattern first.matcher.cap objects seen log answers state tally text)
-        → EndsAtRow first.matcher.pattern first.matcher.cap objects o (log ++ adds.own) after end
-        → EndsAmong first.matcher.pattern first.matcher.cap objects (seen ++ o ∷ rest) log answers after pending begun written end
+        → (adds : AddsRows first.matcher.pattern first.matcher.retained_limit objects seen log answers state tally text)
+        → EndsAtRow first.matcher.pattern first.matcher.retained_limit objects o (log ++ adds.own) after end
+        → EndsAmong first.matcher.pattern first.matcher.retained_limit objects (seen ++ o ∷ rest) log answers after pending begun written end
     ends-turn (Done observations bindings last) log answers b adds ends = absurd ends
     ends-turn (Input line why) log answers b adds ends = absurd ends
     ends-turn ReadFault log answers b adds ends = absurd ends
     ends-turn WriteFault log answers b adds ends = absurd ends
-    ends-turn (Crowded number named) log answers b adds ends =
-        (text, stops-next first.matcher.pattern first.matcher.cap objects seen rest o log answers state after tally text number named adds ends, way)
+    ends-turn (OverLimit number named) log answers b adds ends =
+        (text, stops-next first.matcher.pattern first.matcher.retained_limit objects seen rest o log answers state after tally text number named adds ends, way)
     ends-turn NoMemory log answers b adds ends = cut-rows objects seen (o ∷ rest) first (so_far state tally) text begun written rows (way-stopped text pending begun written way) log answers b
 
     pub turn-end : (end : MatchEnd) → StopsAtRow objects o (so_far state tally) after end → StopsAtOne objects (seen ++ o ∷ rest) first after pending begun written end
     turn-end end ends log answers b =
         let adds = rows log answers b in
-        let at_p = subst (λ (q : Pattern). (log : List LogEntry) (answers : List (List BindTree)) → IsBehind q state.cap state tally log answers
-        → EndsAtRow q state.cap objects o log after end) same_p ends in
-        let at_cap = subst (λ (c : ℕ). (log : List LogEntry) (answers : List (List BindTree)) → IsBehind first.matcher.pattern c state tally log answers
-        → EndsAtRow first.matcher.pattern c objects o log after end) same_cap at_p in
-        ends-turn end log answers b adds (at_cap (log ++ adds.own) (answers ++ adds.own_answers) adds.behind)
+        let at_p = subst (λ (q : Pattern). (log : List LogEntry) (answers : List (List BindTree)) → IsAfter q state.retained_limit state tally log answers
+        → EndsAtRow q state.retained_limit objects o log after end) same_p ends in
+        let at_retained_limit = subst (λ (c : ℕ). (log : List LogEntry) (answers : List (List BindTree)) → IsAfter first.matcher.pattern c state tally log answers
+        → EndsAtRow first.matcher.pattern c objects o log after end) same_retained_limit at_p in
+        ends-turn end log answers b adds (at_retained_limit (log ++ adds.own) (answers ++ adds.own_answers) adds.behind)
 
 -- an end in the middle of lines
-pub ends-cut : (p : Pattern) (cap : ℕ) (objects : List Data) (observations : List Observation) (log : List LogEntry) (answers : List (List BindTree))
+pub ends-cut : (p : Pattern) (retained_limit : ℕ) (objects : List Data) (observations : List Observation) (log : List LogEntry) (answers : List (List BindTree))
     (state : MatcherState) (pending : List ℕ) (first written : Option (List ℕ)) (end : MatchEnd) → CutsLines end
-    → BreaksOff p cap objects observations log answers first written → EndsAmong p cap objects observations log answers state pending first written end
-ends-cut p cap objects observations log answers state pending first written end (inl memory) cut =
-    subst (EndsAmong p cap objects observations log answers state pending first written) (sym memory) cut
-ends-cut p cap objects observations log answers state pending first written end (inr fault) cut =
-    subst (EndsAmong p cap objects observations log answers state pending first written) (sym fault) cut
+    → BreaksOff p retained_limit objects observations log answers first written → EndsAmong p retained_limit objects observations log answers state pending first written end
+ends-cut p retained_limit objects observations log answers state pending first written end (inl memory) cut =
+    subst (EndsAmong p retained_limit objects observations log answers state pending first written) (sym memory) cut
+ends-cut p retained_limit objects observations log answers state pending first written end (inr fault) cut =
+    subst (EndsAmong p retained_limit objects observations log answers state pending first written) (sym fault) cut
 
 pub turn-behind : (objects : List Data) (o : Observation) (state after : MatcherState) (tally later : Tally) (answer : List BindTree)
-    → after.pattern ≡ state.pattern → after.cap ≡ state.cap → IsAtSome (so_far state tally)
+    → after.pattern ≡ state.pattern → after.retained_limit ≡ state.retained_limit → IsAtSome (so_far state tally)
     → TakesRow objects o (so_far state tally) (so_far after later) answer → IsAtSome (so_far after later)
-turn-behind objects o state after tally later answer same_p same_cap some row =
+turn-behind objects o state after tally later answer same_p same_retained_limit some row =
     let adds = row some.0 some.1 some.2 in
     let log = some.0 ++ row_of o adds.truths ∷ [] in
     let answers = some.1 ++ answer ∷ [] in (
       log,
       answers,
-      subst (λ (p : Pattern). IsBehind p after.cap after later log answers) (sym same_p)
-          (subst (λ (c : ℕ). IsBehind state.pattern c after later log answers) (sym same_cap) adds.behind),
+      subst (λ (p : Pattern). IsAfter p after.retained_limit after later log answers) (sym same_p)
+          (subst (λ (c : ℕ). IsAfter state.pattern c after later log answers) (sym same_retained_limit) adds.behind),
     )
 
 pub turn-follow : (objects : List Data) (o : Observation) (state after : MatcherState) (tally later : Tally) (answer : List BindTree)
     (rest : List Observation) → IsAtSome (so_far state tally) → TakesRow objects o (so_far state tally) (so_far after later) answer
     → MayFollow state.last (state.rows + 1) (o ∷ rest) → MayFollow after.last (after.rows + 1) rest
 turn-follow objects o state after tally later answer rest some row follow =
-    follow-more state.pattern state.cap objects o state after tally later some.0 some.1 answer rest some.2 (row some.0 some.1 some.2) follow.3
+    follow-more state.pattern state.retained_limit objects o state after tally later some.0 some.1 answer rest some.2 (row some.0 some.1 some.2) follow.3
 
 -- ---- a bundle
 
@@ -218,8 +218,8 @@ none-seen objects run log answers b = record {
   own = [];
   own_answers = [];
   entries = refl;
-  behind = subst (λ (l : List LogEntry). IsBehind run.matcher.pattern run.matcher.cap run.matcher run.tally l (answers ++ [])) (sym (append-nil log))
-      (subst (λ (a : List (List BindTree)). IsBehind run.matcher.pattern run.matcher.cap run.matcher run.tally log a) (sym (append-nil answers)) b);
+  behind = subst (λ (l : List LogEntry). IsAfter run.matcher.pattern run.matcher.retained_limit run.matcher run.tally l (answers ++ [])) (sym (append-nil log))
+      (subst (λ (a : List (List BindTree)). IsAfter run.matcher.pattern run.matcher.retained_limit run.matcher run.tally log a) (sym (append-nil answers)) b);
   text_is = refl;
 }
 
@@ -228,7 +228,7 @@ pub ends-none : (objects : List Data) (run : Progress) (observations : List Obse
     (answer : Result (Unit {0}) MatchEnd) → IsErrAnd answer (λ end. end ≡ NoMemory) → IfErr answer (StopsAtOne objects observations run state pending w w)
 ends-none objects run observations state pending w (Ok done) is = absurd is
 ends-none objects run observations state pending w (Err end) is = λ log answers b.
-    ends-cut run.matcher.pattern run.matcher.cap objects observations log answers state pending w w end (inl is)
+    ends-cut run.matcher.pattern run.matcher.retained_limit objects observations log answers state pending w w end (inl is)
     (cut-rows objects [] observations run run [] w w (none-seen objects run) (way-stopped [] [] w w (way-start w)) log answers b)
 
 module _ (bundle : BundleOf) (run after : Progress) (pending : List ℕ) (first written : Option (List ℕ)) where
@@ -244,18 +244,18 @@ module _ (bundle : BundleOf) (run after : Progress) (pending : List ℕ) (first 
       → IfErr answer (StopsAtOne bundle.objects bundle.observations run after.matcher pending first written) → ¬ HasCutLines answer
       → WritesPrefix pending written written_after
       → (log : List LogEntry) (answers : List (List BindTree)) → IsAt run log answers
-      → BreaksOff run.matcher.pattern run.matcher.cap bundle.objects bundle.observations log answers first written_after
+      → BreaksOff run.matcher.pattern run.matcher.retained_limit bundle.objects bundle.observations log answers first written_after
   batch-cut (Ok done) written_after goes ends uncut prefix log answers b = (
     goes.0,
-    subst (λ (os : List Observation). ListsFirst run.matcher.pattern run.matcher.cap bundle.objects os log answers goes.0) (append-nil bundle.observations)
-        (first-all run.matcher.pattern run.matcher.cap bundle.objects bundle.observations [] log answers after.matcher after.tally goes.0 (goes.1 log answers b)),
+    subst (λ (os : List Observation). ListsFirst run.matcher.pattern run.matcher.retained_limit bundle.objects os log answers goes.0) (append-nil bundle.observations)
+        (first-all run.matcher.pattern run.matcher.retained_limit bundle.objects bundle.observations [] log answers after.matcher after.tally goes.0 (goes.1 log answers b)),
     way-cut goes.0 pending first written written_after goes.2 prefix,
   )
   batch-cut (Err (Done seen bindings last)) written_after goes ends uncut prefix log answers b = absurd (ends log answers b)
   batch-cut (Err (Input line why)) written_after goes ends uncut prefix log answers b = absurd (ends log answers b)
   batch-cut (Err ReadFault) written_after goes ends uncut prefix log answers b = absurd (ends log answers b)
   batch-cut (Err WriteFault) written_after goes ends uncut prefix log answers b = absurd (uncut (inr refl))
-  batch-cut (Err (Crowded number named)) written_after goes ends uncut prefix log answers b =
+  batch-cut (Err (OverLimit number named)) written_after goes ends uncut prefix log answers b =
       let end = ends log answers b in (end.0, end.1.first, way-cut end.0 pending first written written_after end.2 prefix)
   batch-cut (Err NoMemory) written_after goes ends uncut prefix log answers b = absurd (uncut (inl refl))
 
@@ -267,7 +267,7 @@ module _ (bundle : BundleOf) (run after : Progress) (pending : List ℕ) (first 
   batch-end (Input line why) written_after ends uncut is log answers b = absurd (ends log answers b)
   batch-end ReadFault written_after ends uncut is log answers b = absurd (ends log answers b)
   batch-end WriteFault written_after ends uncut is log answers b = absurd (uncut (inr refl))
-  batch-end (Crowded number named) written_after ends uncut is log answers b =
+  batch-end (OverLimit number named) written_after ends uncut is log answers b =
       let end = ends log answers b in (end.0, end.1, way-written end.0 pending first written written_after end.2 is)
   batch-end NoMemory written_after ends uncut is log answers b = absurd (uncut (inl refl))
 
@@ -282,7 +282,7 @@ module _ (bundle : BundleOf) (run after : Progress) (pending : List ℕ) (first 
 pub batch-fault : (bundle : BundleOf) (run : Progress) (state : MatcherState) (first written_after : Option (List ℕ)) (answer : Result (Unit {0}) MatchEnd) (end : MatchEnd)
     → IsErrAnd answer (λ e. e ≡ end) → end ≡ WriteFault
     → ((log : List LogEntry) (answers : List (List BindTree)) → IsAt run log answers
-    → BreaksOff run.matcher.pattern run.matcher.cap bundle.objects bundle.observations log answers first written_after)
+    → BreaksOff run.matcher.pattern run.matcher.retained_limit bundle.objects bundle.observations log answers first written_after)
     → IfErr answer (StopsInBundle bundle run state first written_after)
 batch-fault bundle run state first written_after (Ok done) end is fault cut = absurd is
 batch-fault bundle run state first written_after (Err e) end is fault cut =

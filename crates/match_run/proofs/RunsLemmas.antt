@@ -14,7 +14,7 @@ use Rattle.match_bindings.specs.NumberedPattern.{NumberedPattern, numbered_patte
 use Rattle.match_bindings.specs.BindTree.{BindTree}
 use Rattle.match_bindings.specs.Log.{observed_in}
 use Rattle.match_bindings.specs.Listing.{IsListing}
-use Rattle.match_stream.specs.MatcherState.{MatcherState, StandsFor, last_of}
+use Rattle.match_stream.specs.MatcherState.{MatcherState, Represents, last_of}
 use Rattle.match_stream.specs.Answer.{AreAnswers, joined_answers}
 use Rattle.match_input.specs.declared.batch.Batch.{Batch}
 use Rattle.match_input.specs.declared.rule.InputRule.{InputRule}
@@ -30,18 +30,18 @@ use Rattle.match_input.specs.Ahead.{ReaderState, reader_start, first_stage, next
 use Rattle.flow_edges.specs.Streams.{Streams, streams}
 use Rattle.match_run.specs.Entries.{AreEntriesOf}
 use Rattle.match_run.specs.Listing.{listing_text}
-use Rattle.match_run.specs.Matching.{IsNeverCrowded, ListsLog, ListsWhole, ListsBefore, ListsTaken, BeganInTime, ReadsNoFurther, StopsCrowded, StopsWithin, StopsBetween, AnswersMatch}
-use Rattle.match_run.specs.inner.Rows.{no_tally, IsBehind, MayFollow, ListsFirst, StopsAmong, WritesRows, EndsInBundle, row_of, bundle_of}
+use Rattle.match_run.specs.Matching.{IsNeverOverLimit, ListsLog, ListsWhole, ListsBefore, ListsTaken, BeganInTime, ReadsNoFurther, StopsOverLimit, StopsWithin, StopsBetween, AnswersMatch}
+use Rattle.match_run.specs.inner.Rows.{no_tally, IsAfter, MayFollow, ListsFirst, StopsAmong, WritesRows, EndsInBundle, row_of, bundle_of}
 use Rattle.match_run.specs.inner.MatchEnds.{end_of_read}
 use Rattle.match_run.specs.inner.MatchRuns.{IsStageOf, IsInTime, RunsSo, HasRead}
 use Rattle.match_run.specs.declared.tally.Tally.{Tally}
 use Rattle.match_run.specs.declared.match_end.MatchEnd.{MatchEnd}
-use Rattle.match_run.specs.declared.match_end.MatchEnd.TheVariants.{Done, Input, ReadFault, WriteFault, Crowded, NoMemory}
+use Rattle.match_run.specs.declared.match_end.MatchEnd.TheVariants.{Done, Input, ReadFault, WriteFault, OverLimit, NoMemory}
 use Rattle.match_run.proofs.PendingLemmas.{written_with-nil, written_with-both}
 use Rattle.match_run.proofs.LogLemmas.{joined_answers-append, listing_text-append, entries_of-more, entries-more, entries_of-length}
 use Rattle.match_run.proofs.FollowLemmas.{Spans, may_follow}
 use Rattle.match_run.proofs.StageLemmas.{open_or_end, moves_on, takes_little, to_end, at_end, gives_in_time, stays_in_time}
-use Rattle.match_run.proofs.ReadLemmas.{GoesOn, read-start, read-more, begins_so, reads-whole, reads-refused, none_left, has_taken}
+use Rattle.match_run.proofs.ReadLemmas.{Continues, read-start, read-more, begins_so, reads-whole, reads-refused, none_left, has_taken}
 
 -- the answers to the rows of a log are its listing
 abbrev pub AnswersList : Type 0
@@ -112,14 +112,14 @@ starts_in_time : (mode : Mode) (first began : Option (List ℕ)) → IsInTime mo
 starts_in_time mode.Lines first began = inl refl
 starts_in_time mode.Whole first began = tt
 
-never_crowded-none : (p : Pattern) (most : ℕ) → IsNeverCrowded p most []
-never_crowded-none p most [] more row e = absurd (cc)
-never_crowded-none p most (first ∷ rows) more row e = absurd (cc)
+never_over_limit-none : (p : Pattern) (most : ℕ) → IsNeverOverLimit p most []
+never_over_limit-none p most [] more row e = absurd (cc)
+never_over_limit-none p most (first ∷ rows) more row e = absurd (cc)
 
-behind-none : (p : Pattern) (most : ℕ) (state : MatcherState) → StandsFor state [] → IsBehind p most state no_tally [] []
-behind-none p most state stands = record {
-  rows = record { order = tt; roomy = never_crowded-none p most; answers_are = tt };
-  stands = stands;
+behind-none : (p : Pattern) (most : ℕ) (state : MatcherState) → Represents state [] → IsAfter p most state no_tally [] []
+behind-none p most state represents = record {
+  rows = record { order = tt; within_limit = never_over_limit-none p most; answers_are = tt };
+  represents = represents;
   observations_are = refl;
   bindings_are = refl;
   few = omega arith;
@@ -127,8 +127,8 @@ behind-none p most state stands = record {
 }
 
 pub run-start : (mode : Mode) (p : Pattern) (most : ℕ) (start : Streams) (reader : ReaderState) (state : MatcherState) (tally : Tally)
-    → StandsFor state [] → reader ≡ reader_start mode → tally ≡ no_tally → RunsSo mode p most start start reader state tally
-run-start mode p most start reader state tally stands reader_is tally_is =
+    → Represents state [] → reader ≡ reader_start mode → tally ≡ no_tally → RunsSo mode p most start start reader state tally
+run-start mode p most start reader state tally represents reader_is tally_is =
     subst (λ (r : ReaderState). RunsSo mode p most start start r state tally) (sym reader_is)
     (subst (λ (t : Tally). RunsSo mode p most start start (reader_start mode) state t) (sym tally_is)
     (record {
@@ -137,36 +137,36 @@ run-start mode p most start reader state tally stands reader_is tally_is =
       log = [];
       answers = [];
       entries = refl;
-      behind = behind-none p most state stands;
+      behind = behind-none p most state represents;
       text = written_with-nil start.written;
-      number = sym stands.rows;
-      time = sym stands.last;
+      number = sym represents.rows;
+      time = sym represents.last;
       in_time = starts_in_time mode start.left start.began;
     }))
 
 -- ---- a bundle more
 
-pub run-more : GoesOn → (mode : Mode) (p : Pattern) (most : ℕ) (before now : Streams) (reader after : ReaderState) (state later : MatcherState) (tally tally_after : Tally)
+pub run-more : Continues → (mode : Mode) (p : Pattern) (most : ℕ) (before now : Streams) (reader after : ReaderState) (state later : MatcherState) (tally tally_after : Tally)
     (left_after began_after written_after : Option (List ℕ)) (batch : Batch) → (far : RunsSo mode p most before now reader state tally)
     → GivesBatch reader after now.left left_after batch → BeganInTime mode batch.line before.left began_after
     → WritesRows p most (data_in batch.bundle) batch.observations far.log far.answers later tally_after now.written written_after
     → RunsSo mode p most before (streams left_after began_after written_after) after later tally_after
-run-more goes_on mode p most before now reader after state later tally tally_after left_after began_after written_after batch far gives began writes =
+run-more continues mode p most before now reader after state later tally tally_after left_after began_after written_after batch far gives began writes =
     let adds = writes.1 in
     let count = entries_of-length (plain_pattern p) (data_in batch.bundle) batch.observations adds.own adds.entries in
     let rows = length-append far.log adds.own in
     record {
       bundles = far.bundles ++ bundle_of batch ∷ [];
-      read = read-more goes_on mode before.left now.left left_after reader after batch far.bundles far.read gives;
+      read = read-more continues mode before.left now.left left_after reader after batch far.bundles far.read gives;
       log = far.log ++ adds.own;
       answers = far.answers ++ adds.own_answers;
       entries = entries-more (plain_pattern p) far.bundles far.log (bundle_of batch) adds.own far.entries adds.entries;
       behind = adds.behind;
       text = written-more far.answers adds.own_answers writes.0 before.written now.written written_after far.text adds.text_is writes.2;
-      number = omega (arith, gives.observations, far.number, far.behind.stands.rows, adds.behind.stands.rows, count, rows);
-      time = gives.last ∙ ap (λ (l : Option ℤ). last_after l batch.observations) (far.time ∙ far.behind.stands.last)
+      number = omega (arith, gives.observations, far.number, far.behind.represents.rows, adds.behind.represents.rows, count, rows);
+      time = gives.last ∙ ap (λ (l : Option ℤ). last_after l batch.observations) (far.time ∙ far.behind.represents.last)
           ∙ sym (last_after-entries (plain_pattern p) (data_in batch.bundle) batch.observations far.log adds.own adds.entries)
-          ∙ sym adds.behind.stands.last;
+          ∙ sym adds.behind.represents.last;
       in_time = stays_in_time far.bundles batch.line before.left now.left left_after now.began began_after mode reader.stage after.stage far.read.stage gives.moves began;
     }
 
@@ -177,7 +177,7 @@ module _ (list : AnswersList) (mode : Mode) (p : Pattern) (most : ℕ) (before n
   lists-log : ListsLog p most far.bundles far.log (joined_answers far.answers) before.written now.written
   lists-log = record {
     entries = far.entries;
-    roomy = far.behind.rows.roomy;
+    within_limit = far.behind.rows.within_limit;
     bindings = list (numbered_pattern p) far.log far.answers far.behind.rows.answers_are;
     text = far.text;
   }
@@ -190,7 +190,7 @@ module _ (list : AnswersList) (mode : Mode) (p : Pattern) (most : ℕ) (before n
     log = far.log;
     trees = joined_answers far.answers;
     lists = lists-log;
-    stands = far.behind.stands;
+    represents = far.behind.represents;
     drained = drained;
     observations_are = far.behind.observations_are;
     bindings_are = far.behind.bindings_are;
@@ -206,7 +206,7 @@ module _ (list : AnswersList) (mode : Mode) (p : Pattern) (most : ℕ) (before n
     log = far.log;
     trees = joined_answers far.answers;
     lists = lists-log;
-    stands = far.behind.stands;
+    represents = far.behind.represents;
     little = takes_little far.bundles before.left now.left left_after mode reader.stage line far.read.stage little;
   }
 
@@ -218,7 +218,7 @@ module _ (list : AnswersList) (mode : Mode) (p : Pattern) (most : ℕ) (before n
     log = far.log;
     trees = joined_answers far.answers;
     lists = lists-log;
-    stands = far.behind.stands;
+    represents = far.behind.represents;
     taken = has_taken mode before.left now.left left_after reader.stage reader.last (next_number reader) far.bundles far.read.forward far.read.stage broken;
   }
 
@@ -229,10 +229,10 @@ module _ (list : AnswersList) (mode : Mode) (p : Pattern) (most : ℕ) (before n
     begins = begins_so mode before.left now.left reader far.bundles far.read;
     log = far.log;
     trees = joined_answers far.answers;
-    lists = record { entries = lists-log.entries; roomy = lists-log.roomy; bindings = lists-log.bindings; text = same ∙ lists-log.text };
+    lists = record { entries = lists-log.entries; within_limit = lists-log.within_limit; bindings = lists-log.bindings; text = same ∙ lists-log.text };
   }
 
-  module _ (goes_on : GoesOn) (after : ReaderState) (later : MatcherState) (left_after began_after written_after : Option (List ℕ)) (batch : Batch)
+  module _ (continues : Continues) (after : ReaderState) (later : MatcherState) (left_after began_after written_after : Option (List ℕ)) (batch : Batch)
       (gives : GivesBatch reader after now.left left_after batch) (began : BeganInTime mode batch.line before.left began_after) where
     no-further : ReadsNoFurther mode batch.line before (streams left_after began_after written_after)
     no-further = record {
@@ -241,14 +241,14 @@ module _ (list : AnswersList) (mode : Mode) (p : Pattern) (most : ℕ) (before n
     }
 
     next-read : HasRead mode before.left after left_after (far.bundles ++ bundle_of batch ∷ [])
-    next-read = read-more goes_on mode before.left now.left left_after reader after batch far.bundles far.read gives
+    next-read = read-more continues mode before.left now.left left_after reader after batch far.bundles far.read gives
 
-    pub run-crowded : (text : List ℕ) (number named : ℕ)
+    pub run-over_limit : (text : List ℕ) (number named : ℕ)
         → StopsAmong p most (data_in batch.bundle) batch.observations far.log far.answers later text number named
-        → written_after ≡ written_with text now.written → StopsCrowded mode p most before (streams left_after began_after written_after) later number named
-    run-crowded text number named stops more =
+        → written_after ≡ written_with text now.written → StopsOverLimit mode p most before (streams left_after began_after written_after) later number named
+    run-over_limit text number named stops more =
         let own = stops.first in
-        let row = row_of stops.o stops.crowded.truths in
+        let row = row_of stops.o stops.over_limit.truths in
         record {
           bundles = far.bundles ++ bundle_of batch ∷ [];
           begins = begins_so mode before.left left_after after (far.bundles ++ bundle_of batch ∷ []) next-read;
@@ -266,17 +266,17 @@ module _ (list : AnswersList) (mode : Mode) (p : Pattern) (most : ℕ) (before n
             own = own.own ++ row ∷ [];
             log_is = append_assoc far.log own.own (row ∷ []);
             entries = far.entries;
-            own_entries = entries_of-more (plain_pattern p) (data_in batch.bundle) own.seen own.own stops.o stops.crowded.truths own.entries stops.crowded.are;
+            own_entries = entries_of-more (plain_pattern p) (data_in batch.bundle) own.seen own.own stops.o stops.over_limit.truths own.entries stops.over_limit.are;
           };
           reads = no-further;
-          numbered = stops.crowded.numbered;
-          cap_is = stops.crowded.cap_is;
-          crowded = stops.crowded.crowded;
-          roomy = own.rows.roomy;
+          numbered = stops.over_limit.numbered;
+          retained_limit_is = stops.over_limit.retained_limit_is;
+          over_limit = stops.over_limit.over_limit;
+          within_limit = own.rows.within_limit;
           trees = joined_answers (far.answers ++ own.own_answers);
           bindings = list (numbered_pattern p) (far.log ++ own.own) (far.answers ++ own.own_answers) own.rows.answers_are;
           text = written-more far.answers own.own_answers text before.written now.written written_after far.text own.text_is more;
-          ended = stops.crowded.ended;
+          ended = stops.over_limit.ended;
         }
 
     pub run-within : (text : List ℕ) → ListsFirst p most (data_in batch.bundle) batch.observations far.log far.answers text
@@ -292,7 +292,7 @@ module _ (list : AnswersList) (mode : Mode) (p : Pattern) (most : ℕ) (before n
       own = own.own;
       entries = far.entries;
       own_entries = own.entries;
-      roomy = own.rows.roomy;
+      within_limit = own.rows.within_limit;
       trees = joined_answers far.answers;
       more = joined_answers own.own_answers;
       bindings = list (numbered_pattern p) far.log far.answers far.behind.rows.answers_are;
@@ -310,7 +310,7 @@ module _ (list : AnswersList) (mode : Mode) (p : Pattern) (most : ℕ) (before n
     run-end (Input line why) ends = absurd ends
     run-end ReadFault ends = absurd ends
     run-end WriteFault ends = run-within ends.0 ends.1 ends.2
-    run-end (Crowded number named) ends = run-crowded ends.0 number named ends.1 ends.2
+    run-end (OverLimit number named) ends = run-over_limit ends.0 number named ends.1 ends.2
     run-end NoMemory ends = inr (run-within ends.0 ends.1 ends.2)
 
 pub must_be_open : (st : Stage) → IsOpen st ⊎ (st ≡ stage.AtEnd) → ¬ (st ≡ stage.AtEnd) → IsOpen st
@@ -378,25 +378,25 @@ given_follow spans reader after left left_after batch state gives number time =
     (subst (λ (n : ℕ). MayFollow reader.last (n + 1) batch.observations) number
     (may_follow spans reader.last (next_number reader) gives.bytes (data_in batch.bundle) batch.observations gives.is))
 
--- the pattern and the cap stay the same
-module _ (p q : Pattern) (most limit : ℕ) (same_p : q ≡ p) (same_cap : limit ≡ most) (objects : List Data) (observations : List Observation)
+-- the pattern and the retained limit stay the same
+module _ (p q : Pattern) (most limit : ℕ) (same_p : q ≡ p) (same_retained_limit : limit ≡ most) (objects : List Data) (observations : List Observation)
     (state later : MatcherState) (tally tally_after : Tally) (written written_after : Option (List ℕ)) where
-  pub rows-here : ((log : List LogEntry) (answers : List (List BindTree)) → IsBehind q limit state tally log answers
+  pub rows-here : ((log : List LogEntry) (answers : List (List BindTree)) → IsAfter q limit state tally log answers
       → WritesRows q limit objects observations log answers later tally_after written written_after)
-      → (log : List LogEntry) (answers : List (List BindTree)) → IsBehind p most state tally log answers
+      → (log : List LogEntry) (answers : List (List BindTree)) → IsAfter p most state tally log answers
       → WritesRows p most objects observations log answers later tally_after written written_after
   rows-here rows =
-      subst (λ (c : ℕ). (log : List LogEntry) (answers : List (List BindTree)) → IsBehind p c state tally log answers
-      → WritesRows p c objects observations log answers later tally_after written written_after) same_cap
-      (subst (λ (x : Pattern). (log : List LogEntry) (answers : List (List BindTree)) → IsBehind x limit state tally log answers
+      subst (λ (c : ℕ). (log : List LogEntry) (answers : List (List BindTree)) → IsAfter p c state tally log answers
+      → WritesRows p c objects observations log answers later tally_after written written_after) same_retained_limit
+      (subst (λ (x : Pattern). (log : List LogEntry) (answers : List (List BindTree)) → IsAfter x limit state tally log answers
       → WritesRows x limit objects observations log answers later tally_after written written_after) same_p rows)
 
-  pub end-here : (end : MatchEnd) → ((log : List LogEntry) (answers : List (List BindTree)) → IsBehind q limit state tally log answers
+  pub end-here : (end : MatchEnd) → ((log : List LogEntry) (answers : List (List BindTree)) → IsAfter q limit state tally log answers
       → EndsInBundle q limit objects observations log answers later written written_after end)
-      → (log : List LogEntry) (answers : List (List BindTree)) → IsBehind p most state tally log answers
+      → (log : List LogEntry) (answers : List (List BindTree)) → IsAfter p most state tally log answers
       → EndsInBundle p most objects observations log answers later written written_after end
   end-here end ends =
-      subst (λ (c : ℕ). (log : List LogEntry) (answers : List (List BindTree)) → IsBehind p c state tally log answers
-      → EndsInBundle p c objects observations log answers later written written_after end) same_cap
-      (subst (λ (x : Pattern). (log : List LogEntry) (answers : List (List BindTree)) → IsBehind x limit state tally log answers
+      subst (λ (c : ℕ). (log : List LogEntry) (answers : List (List BindTree)) → IsAfter p c state tally log answers
+      → EndsInBundle p c objects observations log answers later written written_after end) same_retained_limit
+      (subst (λ (x : Pattern). (log : List LogEntry) (answers : List (List BindTree)) → IsAfter x limit state tally log answers
       → EndsInBundle x limit objects observations log answers later written written_after end) same_p ends)

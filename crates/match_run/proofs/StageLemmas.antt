@@ -4,7 +4,7 @@ use Rattle.std.proofs.lemmas.List.Elements.{All-nil}
 use Rattle.flow_edges.specs.declared.source.TheConstants.{MAX_READ}
 use Rattle.flow_edges.specs.Flow.{IsAtEnd, TakesAtMost}
 use Rattle.std.specs.List.{list_any}
-use Rattle.flow_lines.specs.Lines.{Lined, LinesState, RawLine, NoLineFeed, lines_start, raw_lines, is_whole, HoldsLine, AccountsFor, LacksLine}
+use Rattle.flow_lines.specs.Lines.{LineStream, LinesState, RawLine, NoLineFeed, lines_start, raw_lines, is_whole, HoldsLine, AccountsFor, LacksLine}
 use Rattle.flow_lines.specs.declared.whole_input.TheConstants.{MAX_WHOLE_INPUT}
 use Rattle.match_input.specs.declared.mode.Mode.{Mode}
 use Rattle.match_input.specs.declared.mode.Mode.TheVariants.{Lines, Whole as WholeInput}
@@ -21,7 +21,7 @@ ahead_none stage.Whole = refl
 ahead_none stage.AtEnd = refl
 ahead_none stage.Ended = refl
 
-pub ahead_some : (st : Stage) (bytes : List ℕ) → (lines : Lined) × (ahead st (Some bytes) ≡ Some lines)
+pub ahead_some : (st : Stage) (bytes : List ℕ) → (lines : LineStream) × (ahead st (Some bytes) ≡ Some lines)
 ahead_some (stage.Lines lines) bytes = (_, refl)
 ahead_some stage.Whole bytes = (_, refl)
 ahead_some stage.AtEnd bytes = (_, refl)
@@ -34,7 +34,7 @@ start_accounts state left = record {
   given = omega arith;
   count = omega arith;
   plain = All-nil (λ (line : RawLine). NoLineFeed line.bytes);
-  closed = inl (All-nil (λ (line : RawLine). line.closed ≡ true));
+  terminated = inl (All-nil (λ (line : RawLine). line.terminated ≡ true));
 }
 
 module _ (bundles : List BundleOf) (first left : Option (List ℕ)) where

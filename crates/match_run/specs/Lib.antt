@@ -5,4 +5,4 @@ pub mod Output
 pub mod inner
 pub mod Reading
 pub mod Watching
-pub mod OnItsWay
+pub mod Buffered

@@ -2,7 +2,7 @@
 use Rattle.std.specs.Prelude.{◌≡◌, ◌⊎◌, ℕ, ℤ, ◌+◌, ◌≤◌, ◌<◌, false, List, [], ◌∷◌, ◌++◌, length, Option, None, Some, IfSome}
 use Rattle.flow_edges.specs.declared.source.TheConstants.{MAX_READ}
 use Rattle.flow_edges.specs.Flow.{IsAtEnd, TakesAtMost, WritesPrefix, written_with}
-use Rattle.flow_lines.specs.Lines.{LinesState, lines_start, lines_ahead, AccountsFor, NoLineFeed, length_refusal}
+use Rattle.flow_lines.specs.Lines.{LinesState, lines_start, lines_remaining, AccountsFor, NoLineFeed, length_refusal}
 use Rattle.flow_lines.specs.declared.refusal.TheConstants.{MAX_LINE}
 use Rattle.flow_lines.specs.declared.whole_input.TheConstants.{MAX_WHOLE_INPUT}
 use Rattle.pattern_types.specs.declared.pattern.Pattern.{Pattern}
@@ -12,8 +12,8 @@ use Rattle.match_bindings.specs.declared.log_entry.LogEntry.{LogEntry}
 use Rattle.match_bindings.specs.NumberedPattern.{numbered_pattern}
 use Rattle.match_bindings.specs.BindTree.{BindTree}
 use Rattle.match_stream.specs.declared.ending.Ending.TheVariants as ending
-use Rattle.match_stream.specs.MatcherState.{MatcherState, StandsFor}
-use Rattle.match_stream.specs.Answer.{IsCrowded, IsRoomy}
+use Rattle.match_stream.specs.MatcherState.{MatcherState, Represents}
+use Rattle.match_stream.specs.Answer.{IsOverLimit, IsWithinLimit}
 use Rattle.match_input.specs.declared.mode.Mode.{Mode}
 use Rattle.match_input.specs.declared.mode.Mode.TheVariants.{Lines, Whole as WholeInput}
 use Rattle.match_input.specs.declared.rule.InputRule.{InputRule}
@@ -22,37 +22,37 @@ use Rattle.flow_edges.specs.Streams.{Streams}
 use Rattle.match_run.specs.Entries.{AreEntriesOf, AreEntries}
 use Rattle.match_run.specs.Listing.{AreBindings, listing_text, last_number}
 use Rattle.match_run.specs.declared.match_end.MatchEnd.{MatchEnd}
-use Rattle.match_run.specs.declared.match_end.MatchEnd.TheVariants.{Done, Input, ReadFault, WriteFault, Crowded, NoMemory}
+use Rattle.match_run.specs.declared.match_end.MatchEnd.TheVariants.{Done, Input, ReadFault, WriteFault, OverLimit, NoMemory}
 
 -- the bytes of the input are read so, where the source tells them
 abbrev pub ReadsInput : Mode → Option (List ℕ) → List BundleOf → InputEnd → Type 0
 ReadsInput mode left bundles end = IfSome left (λ bytes. Reading mode bytes bundles end)
 
 -- whatever the input is read as begins with these bundles
-abbrev pub BeginsSo : Mode → Option (List ℕ) → List BundleOf → Type 0
-BeginsSo mode left bundles = (all : List BundleOf) (end : InputEnd) → ReadsInput mode left all end
+abbrev pub HasPrefix : Mode → Option (List ℕ) → List BundleOf → Type 0
+HasPrefix mode left bundles = (all : List BundleOf) (end : InputEnd) → ReadsInput mode left all end
     → IfSome left (λ bytes. (later : List BundleOf) × (all ≡ bundles ++ later))
 
--- the live count passes the cap at no row of a log
-abbrev pub IsNeverCrowded : Pattern → ℕ → List LogEntry → Type 0
-IsNeverCrowded p cap log = (rows more : List LogEntry) (row : LogEntry) → log ≡ rows ++ row ∷ more
-    → IsRoomy (numbered_pattern p) (rows ++ row ∷ []) cap
+-- the live count passes the retained limit at no row of a log
+abbrev pub IsNeverOverLimit : Pattern → ℕ → List LogEntry → Type 0
+IsNeverOverLimit p retained_limit log = (rows more : List LogEntry) (row : LogEntry) → log ≡ rows ++ row ∷ more
+    → IsWithinLimit (numbered_pattern p) (rows ++ row ∷ []) retained_limit
 
 -- the bindings of a log are written
-pub record ListsLog (p : Pattern) (cap : ℕ) (bundles : List BundleOf) (log : List LogEntry) (trees : List BindTree) (written written_after : Option (List ℕ)) : Type 0 where
+pub record ListsLog (p : Pattern) (retained_limit : ℕ) (bundles : List BundleOf) (log : List LogEntry) (trees : List BindTree) (written written_after : Option (List ℕ)) : Type 0 where
   pub entries : AreEntries (plain_pattern p) bundles log
-  pub roomy : IsNeverCrowded p cap log
+  pub within_limit : IsNeverOverLimit p retained_limit log
   pub bindings : AreBindings p log trees
   pub text : written_after ≡ written_with (listing_text trees) written
 
 -- the whole input was read, its bindings were written, and the matcher stands for its log
-pub record ListsWhole (mode : Mode) (p : Pattern) (cap : ℕ) (before after : Streams) (state : MatcherState) (observations bindings last : ℕ) : Type 0 where
+pub record ListsWhole (mode : Mode) (p : Pattern) (retained_limit : ℕ) (before after : Streams) (state : MatcherState) (observations bindings last : ℕ) : Type 0 where
   pub bundles : List BundleOf
   pub reading : ReadsInput mode before.left bundles Whole
   pub log : List LogEntry
   pub trees : List BindTree
-  pub lists : ListsLog p cap bundles log trees before.written after.written
-  pub stands : StandsFor state log
+  pub lists : ListsLog p retained_limit bundles log trees before.written after.written
+  pub represents : Represents state log
   pub drained : IsAtEnd after.left
   pub observations_are : observations ≡ length log
   pub bindings_are : bindings ≡ length trees
@@ -72,13 +72,13 @@ TakesLittle WholeInput line left left_after = TakesAtMost (MAX_WHOLE_INPUT + MAX
 
 -- the input was read up to the first line that is refused, the bindings of what stands before it were written, and the
 -- matcher stands for its log
-pub record ListsBefore (mode : Mode) (p : Pattern) (cap : ℕ) (before after : Streams) (state : MatcherState) (line : ℕ) (why : InputRule) : Type 0 where
+pub record ListsBefore (mode : Mode) (p : Pattern) (retained_limit : ℕ) (before after : Streams) (state : MatcherState) (line : ℕ) (why : InputRule) : Type 0 where
   pub bundles : List BundleOf
   pub reading : ReadsInput mode before.left bundles (Refused line why)
   pub log : List LogEntry
   pub trees : List BindTree
-  pub lists : ListsLog p cap bundles log trees before.written after.written
-  pub stands : StandsFor state log
+  pub lists : ListsLog p retained_limit bundles log trees before.written after.written
+  pub represents : Represents state log
   pub little : TakesLittle mode line before.left after.left
 
 -- these bundles are what the whole lines in the bytes taken are read as: what comes yet is read behind them, and the bytes held
@@ -90,7 +90,7 @@ pub record ReadsTaken (bundles : List BundleOf) (left left_after : Option (List 
   pub accounts : AccountsFor lines_start at left left_after
   pub last : Option ℤ
   pub next : ℕ
-  pub behind : (later : List BundleOf) (end : InputEnd) → IfSome (lines_ahead at left_after) (λ lines. Reads last next lines later end)
+  pub behind : (later : List BundleOf) (end : InputEnd) → IfSome (lines_remaining at left_after) (λ lines. Reads last next lines later end)
       → ReadsInput Lines left (bundles ++ later) end
 
 abbrev pub HasTaken : Mode → List BundleOf → Option (List ℕ) → Option (List ℕ) → Type 0
@@ -99,13 +99,13 @@ HasTaken WholeInput bundles left left_after = (bundles ≡ []) × TakesAtMost (M
 
 -- a read failed: the bindings of the whole lines in the bytes taken were written, and the matcher stands for their log; where
 -- the input is read whole there are none
-pub record ListsTaken (mode : Mode) (p : Pattern) (cap : ℕ) (before after : Streams) (state : MatcherState) : Type 0 where
+pub record ListsTaken (mode : Mode) (p : Pattern) (retained_limit : ℕ) (before after : Streams) (state : MatcherState) : Type 0 where
   pub bundles : List BundleOf
-  pub begins : BeginsSo mode before.left bundles
+  pub begins : HasPrefix mode before.left bundles
   pub log : List LogEntry
   pub trees : List BindTree
-  pub lists : ListsLog p cap bundles log trees before.written after.written
-  pub stands : StandsFor state log
+  pub lists : ListsLog p retained_limit bundles log trees before.written after.written
+  pub represents : Represents state log
   pub taken : HasTaken mode bundles before.left after.left
 
 -- the rows are those of the earlier bundles, and of the first observations of the next one
@@ -150,30 +150,30 @@ pub record ReadsNoFurther (mode : Mode) (line : ℕ) (before after : Streams) : 
   pub few : TakesFew mode line before.left after.left
   pub in_time : BeganInTime mode line before.left after.began
 
--- more was live at the row of that number than the cap allows, and at no row before it: the bindings of these were written,
+-- more was live at the row of that number than the retained limit allows, and at no row before it: the bindings of these were written,
 -- no more was read, and the matcher ended so
-pub record StopsCrowded (mode : Mode) (p : Pattern) (cap : ℕ) (before after : Streams) (state : MatcherState) (number named : ℕ) : Type 0 where
+pub record StopsOverLimit (mode : Mode) (p : Pattern) (retained_limit : ℕ) (before after : Streams) (state : MatcherState) (number named : ℕ) : Type 0 where
   pub bundles : List BundleOf
-  pub begins : BeginsSo mode before.left bundles
+  pub begins : HasPrefix mode before.left bundles
   pub log : List LogEntry
   pub row : LogEntry
   pub entries : AreFirstEntries (plain_pattern p) bundles (log ++ row ∷ [])
   pub reads : ReadsNoFurther mode entries.bundle.line before after
   pub numbered : number ≡ length log + 1
-  pub cap_is : named ≡ cap
-  pub crowded : IsCrowded (numbered_pattern p) (log ++ row ∷ []) cap
-  pub roomy : IsNeverCrowded p cap log
+  pub retained_limit_is : named ≡ retained_limit
+  pub over_limit : IsOverLimit (numbered_pattern p) (log ++ row ∷ []) retained_limit
+  pub within_limit : IsNeverOverLimit p retained_limit log
   pub trees : List BindTree
   pub bindings : AreBindings p log trees
   pub text : after.written ≡ written_with (listing_text trees) before.written
-  pub ended : state.ended ≡ Some (ending.Crowded number cap)
+  pub ended : state.ended ≡ Some (ending.OverLimit number retained_limit)
 
 -- the run stopped within a bundle: the bindings of the bundles before it were written, and of those that end at its first
 -- observations a prefix; too much is live at none of these, and no more was read
-pub record StopsWithin (mode : Mode) (p : Pattern) (cap : ℕ) (before after : Streams) : Type 0 where
+pub record StopsWithin (mode : Mode) (p : Pattern) (retained_limit : ℕ) (before after : Streams) : Type 0 where
   pub earlier : List BundleOf
   pub bundle : BundleOf
-  pub begins : BeginsSo mode before.left (earlier ++ bundle ∷ [])
+  pub begins : HasPrefix mode before.left (earlier ++ bundle ∷ [])
   pub seen : List Observation
   pub later : List Observation
   pub observations_are : bundle.observations ≡ seen ++ later
@@ -181,7 +181,7 @@ pub record StopsWithin (mode : Mode) (p : Pattern) (cap : ℕ) (before after : S
   pub own : List LogEntry
   pub entries : AreEntries (plain_pattern p) earlier log
   pub own_entries : AreEntriesOf (plain_pattern p) bundle.objects seen own
-  pub roomy : IsNeverCrowded p cap (log ++ own)
+  pub within_limit : IsNeverOverLimit p retained_limit (log ++ own)
   pub trees : List BindTree
   pub more : List BindTree
   pub bindings : AreBindings p log trees
@@ -190,18 +190,18 @@ pub record StopsWithin (mode : Mode) (p : Pattern) (cap : ℕ) (before after : S
   pub reads : ReadsNoFurther mode bundle.line before after
 
 -- the run stopped between two bundles: the bindings of those before were written
-pub record StopsBetween (mode : Mode) (p : Pattern) (cap : ℕ) (before after : Streams) : Type 0 where
+pub record StopsBetween (mode : Mode) (p : Pattern) (retained_limit : ℕ) (before after : Streams) : Type 0 where
   pub bundles : List BundleOf
-  pub begins : BeginsSo mode before.left bundles
+  pub begins : HasPrefix mode before.left bundles
   pub log : List LogEntry
   pub trees : List BindTree
-  pub lists : ListsLog p cap bundles log trees before.written after.written
+  pub lists : ListsLog p retained_limit bundles log trees before.written after.written
 
 -- what an end says
 abbrev pub AnswersMatch : Mode → Pattern → ℕ → Streams → Streams → MatcherState → MatchEnd → Type 0
-AnswersMatch mode p cap before after state (Done observations bindings last) = ListsWhole mode p cap before after state observations bindings last
-AnswersMatch mode p cap before after state (Input line why) = ListsBefore mode p cap before after state line why
-AnswersMatch mode p cap before after state ReadFault = ListsTaken mode p cap before after state
-AnswersMatch mode p cap before after state WriteFault = StopsWithin mode p cap before after
-AnswersMatch mode p cap before after state (Crowded number named) = StopsCrowded mode p cap before after state number named
-AnswersMatch mode p cap before after state NoMemory = StopsBetween mode p cap before after ⊎ StopsWithin mode p cap before after
+AnswersMatch mode p retained_limit before after state (Done observations bindings last) = ListsWhole mode p retained_limit before after state observations bindings last
+AnswersMatch mode p retained_limit before after state (Input line why) = ListsBefore mode p retained_limit before after state line why
+AnswersMatch mode p retained_limit before after state ReadFault = ListsTaken mode p retained_limit before after state
+AnswersMatch mode p retained_limit before after state WriteFault = StopsWithin mode p retained_limit before after
+AnswersMatch mode p retained_limit before after state (OverLimit number named) = StopsOverLimit mode p retained_limit before after state number named
+AnswersMatch mode p retained_limit before after state NoMemory = StopsBetween mode p retained_limit before after ⊎ StopsWithin mode p retained_limit before after

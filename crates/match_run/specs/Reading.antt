@@ -17,7 +17,7 @@ use Rattle.match_input.specs.declared.stage.Stage.TheVariants as stage
 use Rattle.match_input.specs.Line.{last_after}
 use Rattle.match_input.specs.Reading.{BundleOf, InputEnd, Whole, Refused, Reads}
 use Rattle.match_input.specs.Ahead.{ReaderState, next_number, ahead}
-use Rattle.match_run.specs.Matching.{ReadsInput, BeginsSo, StopsIn, ReadsTaken, HoldsFew, IsToCome}
+use Rattle.match_run.specs.Matching.{ReadsInput, HasPrefix, StopsIn, ReadsTaken, HoldsFew, IsToCome}
 
 -- ---- bundles and their observations
 
@@ -48,7 +48,7 @@ ReadsRest reader left bundles all end = IfSome (ahead reader.stage left) (λ lin
 
 -- the reader of lines stands behind those that went by: none was refused, no byte is lost, and the last read began before the
 -- last of them had come whole, unless nothing was read
-pub record StandsBehind (first left began : Option (List ℕ)) (lines : LinesState) : Type 0 where
+pub record HasConsumed (first left began : Option (List ℕ)) (lines : LinesState) : Type 0 where
   pub unrefused : lines.refusal ≡ None
   pub accounts : AccountsFor lines_start lines first left
   pub within : lines.given ≤ MAX_INPUT
@@ -61,7 +61,7 @@ pub record HasRead (first : Option (List ℕ)) (reader : ReaderState) (left bega
   pub told : IfSome first (λ _. (bytes : List ℕ) × (left ≡ Some bytes))
   pub lines : LinesState
   pub stage : reader.stage ≡ stage.Lines lines
-  pub stands : StandsBehind first left began lines
+  pub represents : HasConsumed first left began lines
   pub number : reader.observations ≡ length (observations_of bundles)
   pub last : reader.last ≡ last_after None (observations_of bundles)
 
@@ -95,6 +95,6 @@ abbrev pub NextAnswers : Option (List ℕ) → List BundleOf → ReaderState →
 NextAnswers first earlier before after left_after began_after (Ok (Some batch)) = GivesNext first earlier before after left_after began_after batch
 NextAnswers first earlier before after left_after began_after (Ok None) = ReadsInput Lines first earlier Whole × IsAtEnd left_after × (after.stage ≡ stage.AtEnd)
 NextAnswers first earlier before after left_after began_after (Err (Input line why)) = ReadsInput Lines first earlier (Refused line why) × StopsIn line first left_after
-NextAnswers first earlier before after left_after began_after (Err ReadFault) = BeginsSo Lines first earlier × ReadsTaken earlier first left_after
+NextAnswers first earlier before after left_after began_after (Err ReadFault) = HasPrefix Lines first earlier × ReadsTaken earlier first left_after
 NextAnswers first earlier before after left_after began_after (Err Ended) = ⊥
-NextAnswers first earlier before after left_after began_after (Err NoMemory) = BeginsSo Lines first earlier
+NextAnswers first earlier before after left_after began_after (Err NoMemory) = HasPrefix Lines first earlier

@@ -7,7 +7,7 @@ use Rattle.flow_edges.specs.Streams.{Streams}
 use Rattle.match_input.specs.declared.mode.Mode.TheVariants.{Lines}
 use Rattle.match_input.specs.declared.rule.InputRule.{InputRule}
 use Rattle.match_input.specs.Reading.{BundleOf, Whole, Refused}
-use Rattle.match_run.specs.Matching.{ReadsInput, BeginsSo, StopsIn, ReadsTaken}
+use Rattle.match_run.specs.Matching.{ReadsInput, HasPrefix, StopsIn, ReadsTaken}
 use Rattle.match_run.specs.declared.see_end.SeeEnd.{SeeEnd}
 use Rattle.match_run.specs.declared.see_end.SeeEnd.TheVariants as see
 use Rattle.match_run.specs.declared.watch_end.WatchEnd.{WatchEnd}
@@ -57,14 +57,14 @@ module _ {W : Type 0} (sees : W → BundleOf → W → List ℕ → Type 0) (fir
   -- a read failed: of the whole lines in the bytes taken was written what the watcher says
   pub record WatchesTaken : Type 0 where
     pub bundles : List BundleOf
-    pub begins : BeginsSo Lines first (earlier ++ bundles)
+    pub begins : HasPrefix Lines first (earlier ++ bundles)
     pub says : Says (SeesAll sees watcher bundles behind) written after.written
     pub taken : ReadsTaken (earlier ++ bundles) first after.left
 
   -- it stopped between two bundles: of those before was written what the watcher says
   pub record StopsBetween : Type 0 where
     pub bundles : List BundleOf
-    pub begins : BeginsSo Lines first (earlier ++ bundles)
+    pub begins : HasPrefix Lines first (earlier ++ bundles)
     pub says : Says (SeesAll sees watcher bundles behind) written after.written
 
 -- it stopped within a bundle, before more was read: of the bundles before it was written what the watcher says, and behind that,
@@ -73,7 +73,7 @@ pub record StopsWithin {W : Type 0} (sees : W → BundleOf → W → List ℕ �
     (first : Option (List ℕ)) (earlier : List BundleOf) (watcher : W) (written : Option (List ℕ)) (after : Streams) : Type 0 where
   pub bundles : List BundleOf
   pub bundle : BundleOf
-  pub begins : BeginsSo Lines first ((earlier ++ bundles) ++ bundle ∷ [])
+  pub begins : HasPrefix Lines first ((earlier ++ bundles) ++ bundle ∷ [])
   pub only : ReadsOnlyTo bundle.line first after.left after.began
   pub at : W
   pub before : Option (List ℕ)

@@ -31,7 +31,7 @@ pub(crate) fn answer(
     ensures end { (objects : List Data) → AreTruths objects observation.now.roots (plain_pattern matcher.old.pattern) truths.now
         → IfErr result (StopsAtRow objects observation.now (so_far matcher.old tally.old) matcher.new) }
     ensures unwritten { result ≢ Err MatchEnd.WriteFault }
-    ensures kept { (matcher.new.pattern ≡ matcher.old.pattern) × (matcher.new.cap ≡ matcher.old.cap) }
+    ensures kept { (matcher.new.pattern ≡ matcher.old.pattern) × (matcher.new.retained_limit ≡ matcher.old.retained_limit) }
 {
     let number = observation.number;
     match matcher.take(observation.first, observation.last, truths) {
@@ -50,7 +50,7 @@ fn end_of(refusal: MatchRefusal) -> MatchEnd
     ensures unwritten { result ≢ MatchEnd.WriteFault }
 {
     match refusal {
-        MatchRefusal::Stopped(Ending::Crowded { number, cap }) => MatchEnd::Crowded { number, cap },
+        MatchRefusal::Stopped(Ending::OverLimit { number, retained_limit }) => MatchEnd::OverLimit { number, retained_limit },
         MatchRefusal::Stopped(Ending::NoMemory) => MatchEnd::NoMemory,
         MatchRefusal::Stopped(Ending::OutOfOrder { .. }) | MatchRefusal::Ended(_) => unreachable!(),
     }

@@ -33,7 +33,7 @@ pub(crate) fn match_batch<O: Sink>(
         (O.written output.old) (O.written output.new)) }
     ensures end { IfErr result (StopsInBundle (bundle_of batch.now) (so_far matcher.old tally.old) matcher.new
         (O.written output.old) (O.written output.new)) }
-    ensures kept { (matcher.new.pattern ≡ matcher.old.pattern) × (matcher.new.cap ≡ matcher.old.cap) }
+    ensures kept { (matcher.new.pattern ≡ matcher.old.pattern) × (matcher.new.retained_limit ≡ matcher.old.retained_limit) }
     ensures causes { Counted (result ≡ Err MatchEnd.WriteFault) (O.faults output.old) (O.faults output.new) }
 {
     let mut pending = Vec::new(alloc);
@@ -69,7 +69,7 @@ fn answer_all<O: Sink>(
         (so_far matcher.new tally.new) pending.new.items (O.written output.old) (O.written output.new)) }
     ensures end { IfErr result (StopsAtOne (data_in batch.now.bundle) batch.now.observations (so_far matcher.old tally.old)
         matcher.new pending.new.items (O.written output.old) (O.written output.new)) }
-    ensures kept { (matcher.new.pattern ≡ matcher.old.pattern) × (matcher.new.cap ≡ matcher.old.cap) }
+    ensures kept { (matcher.new.pattern ≡ matcher.old.pattern) × (matcher.new.retained_limit ≡ matcher.old.retained_limit) }
     ensures causes { Counted (result ≡ Err MatchEnd.WriteFault) (O.faults output.old) (O.faults output.new) }
 {
     let observations = batch.observations.as_slice();

@@ -7,7 +7,7 @@ ghost use Rattle.match_bindings.specs.BindTree.{tree_of};
 ghost use Rattle.match_bindings.specs.Line.{line_text};
 ghost use Rattle.match_run.specs.Listing.{listing_text};
 ghost use Rattle.match_run.specs.inner.MatchEnds.{CutsLines};
-ghost use Rattle.match_run.specs.inner.Rows.{IsOnItsWay};
+ghost use Rattle.match_run.specs.inner.Rows.{IsBuffered};
 
 use crate::MatchEnd;
 use flow_edges::{Sink, write_whole};
@@ -25,9 +25,9 @@ pub(crate) fn add_lines<O: Sink>(
     pending: &mut Vec<u8>,
     output: &mut O,
 ) -> Result<(), MatchEnd>
-    ensures ok { (text : List ℕ) (first : Option (List ℕ)) → IsOnItsWay text pending.old.items first (O.written output.old)
-        → OnOk result (IsOnItsWay (text ++ listing_text (map tree_of binds.now)) pending.new.items first (O.written output.new)) }
-    ensures err { (text : List ℕ) (first : Option (List ℕ)) → IsOnItsWay text pending.old.items first (O.written output.old)
+    ensures ok { (text : List ℕ) (first : Option (List ℕ)) → IsBuffered text pending.old.items first (O.written output.old)
+        → OnOk result (IsBuffered (text ++ listing_text (map tree_of binds.now)) pending.new.items first (O.written output.new)) }
+    ensures err { (text : List ℕ) (first : Option (List ℕ)) → IsBuffered text pending.old.items first (O.written output.old)
         → OnErr result (WritesPrefix (text ++ listing_text (map tree_of binds.now)) first (O.written output.new)) }
     ensures end { IfErr result CutsLines }
     ensures causes { Counted (result ≡ Err MatchEnd.WriteFault) (O.faults output.old) (O.faults output.new) }
@@ -45,9 +45,9 @@ fn add_line<O: Sink>(
     pending: &mut Vec<u8>,
     output: &mut O,
 ) -> Result<(), MatchEnd>
-    ensures ok { (text : List ℕ) (first : Option (List ℕ)) → IsOnItsWay text pending.old.items first (O.written output.old)
-        → OnOk result (IsOnItsWay (text ++ line_text (tree_of bind.now)) pending.new.items first (O.written output.new)) }
-    ensures err { (text : List ℕ) (first : Option (List ℕ)) → IsOnItsWay text pending.old.items first (O.written output.old)
+    ensures ok { (text : List ℕ) (first : Option (List ℕ)) → IsBuffered text pending.old.items first (O.written output.old)
+        → OnOk result (IsBuffered (text ++ line_text (tree_of bind.now)) pending.new.items first (O.written output.new)) }
+    ensures err { (text : List ℕ) (first : Option (List ℕ)) → IsBuffered text pending.old.items first (O.written output.old)
         → OnErr result (WritesPrefix (text ++ line_text (tree_of bind.now)) first (O.written output.new)) }
     ensures end { IfErr result CutsLines }
     ensures causes { Counted (result ≡ Err MatchEnd.WriteFault) (O.faults output.old) (O.faults output.new) }

@@ -24,10 +24,10 @@ pub enum MatchEnd {
     ReadFault,
     /// The output failed, and counted it.
     WriteFault,
-    /// More is live after the observation of that number than the cap allows.
-    Crowded {
+    /// More is live after the observation of that number than the retained limit allows.
+    OverLimit {
         number: u64,
-        cap: u64,
+        retained_limit: u64,
     },
     /// Memory ran out.
     NoMemory,

@@ -5,7 +5,7 @@ ghost use Rattle.match_input.specs.Ahead.{IsOpen};
 ghost use Rattle.match_run.specs.Reading.{HasRead, NextAnswers};
 
 use flow_edges::Source;
-use match_input::laws::goes_on;
+use match_input::laws::continues;
 use match_input::{Batch, ReadEnd, Reader, Stage};
 use stix_bundles::laws::observations_are_spans;
 
@@ -20,7 +20,7 @@ pub fn next_bundle<I: Source>(reader: &mut Reader, input: &mut I) -> Result<Opti
     ensures ends { IfErr result (λ _. reader.new.stage ≡ Stage.Ended) }
     ensures causes { Counted (IsOpen reader.old.stage × (result ≡ Err ReadEnd.ReadFault)) (I.faults input.old) (I.faults input.new) }
 {
-    goes_on();
+    continues();
     observations_are_spans();
     reader.next(input)
 }

@@ -3,7 +3,7 @@ ghost use Rattle.flow_edges.specs.Faults.{Counted};
 ghost use Rattle.flow_edges.specs.Streams.{streams};
 ghost use Rattle.pattern_types.specs.PlainPattern.{plain_pattern};
 ghost use Rattle.pattern_types.specs.Soundness.{IsSoundPattern};
-ghost use Rattle.match_stream.specs.MatcherState.{StandsFor};
+ghost use Rattle.match_stream.specs.MatcherState.{Represents};
 ghost use Rattle.match_run.specs.Matching.{AnswersMatch};
 
 use crate::batch::match_batch;
@@ -12,7 +12,7 @@ use crate::{MatchEnd, Mode};
 use flow_edges::{Sink, Source};
 use flow_values::NoMemory;
 use match_input::Reader;
-use match_input::laws::goes_on;
+use match_input::laws::continues;
 use match_stream::Matcher;
 use match_stream::laws::answers_are_the_listing;
 use std::alloc::Global;
@@ -20,7 +20,7 @@ use stix_bundles::laws::observations_are_spans;
 
 /// Matches a pattern against an input, and writes the bindings in order of their last observation, those of
 /// a bundle before more is read than its line. The first line that is refused ends it, or the first observation
-/// at which more is live than the matcher's cap allows, whichever comes first.
+/// at which more is live than the matcher's retained limit allows, whichever comes first.
 pub fn match_stream<I: Source, O: Sink>(
     alloc: Global,
     matcher: &mut Matcher<'_>,
@@ -28,15 +28,15 @@ pub fn match_stream<I: Source, O: Sink>(
     output: &mut O,
     mode: Mode,
 ) -> MatchEnd
-    requires start { StandsFor matcher.old [] }
+    requires start { Represents matcher.old [] }
     requires sound { IsSoundPattern (plain_pattern matcher.old.pattern) }
-    ensures end { AnswersMatch mode matcher.old.pattern matcher.old.cap (streams (I.left input.old) (I.began input.old) (O.written output.old))
+    ensures end { AnswersMatch mode matcher.old.pattern matcher.old.retained_limit (streams (I.left input.old) (I.began input.old) (O.written output.old))
         (streams (I.left input.new) (I.began input.new) (O.written output.new)) matcher.new result }
-    ensures kept { (matcher.new.pattern ≡ matcher.old.pattern) × (matcher.new.cap ≡ matcher.old.cap) }
+    ensures kept { (matcher.new.pattern ≡ matcher.old.pattern) × (matcher.new.retained_limit ≡ matcher.old.retained_limit) }
     ensures input { Counted (result ≡ MatchEnd.ReadFault) (I.faults input.old) (I.faults input.new) }
     ensures output { Counted (result ≡ MatchEnd.WriteFault) (O.faults output.old) (O.faults output.new) }
 {
-    goes_on();
+    continues();
     observations_are_spans();
     answers_are_the_listing();
     let mut reader = match Reader::new(alloc, mode) {

@@ -6,8 +6,8 @@ ghost use Rattle.stix_bundles.specs.declared.observation.Observation.{Observatio
 ghost use Rattle.match_input.specs.declared.mode.Mode.TheVariants.{Lines};
 ghost use Rattle.match_input.specs.Reading.{BundleOf};
 ghost use Rattle.match_input.specs.Ahead.{ReaderState, reader_start};
-ghost use Rattle.match_run.specs.Matching.{BeginsSo};
-ghost use Rattle.match_run.specs.OnItsWay.{IsOnItsWay};
+ghost use Rattle.match_run.specs.Matching.{HasPrefix};
+ghost use Rattle.match_run.specs.Buffered.{IsBuffered};
 ghost use Rattle.match_run.specs.Reading.{HasRead, MayFollow};
 
 /// Of any input a new reader has read no bundles.
@@ -18,7 +18,7 @@ pub fn begins_with_none()
 /// The bundles that were read of an input come first, whatever it is read as.
 pub fn read_bundles_come_first()
     ensures { (first left began : Option (List ℕ)) (reader : ReaderState) (bundles : List BundleOf) → HasRead first reader left began bundles
-        → BeginsSo Lines first bundles }
+        → HasPrefix Lines first bundles }
 {}
 
 /// Observations that may follow have the numbers that come next.
@@ -28,8 +28,8 @@ pub fn numbers_follow()
 {}
 
 /// Of a text that is on its way a prefix is written; and where nothing is pending, nothing is on its way.
-pub fn parts_on_their_way()
-    ensures none { (written : Option (List ℕ)) → IsOnItsWay [] [] written written }
-    ensures prefix { (text pending more : List ℕ) (before now : Option (List ℕ)) → IsOnItsWay text pending before now
+pub fn parts_are_buffered()
+    ensures none { (written : Option (List ℕ)) → IsBuffered [] [] written written }
+    ensures prefix { (text pending more : List ℕ) (before now : Option (List ℕ)) → IsBuffered text pending before now
         → WritesPrefix (text ++ more) before now }
 {}

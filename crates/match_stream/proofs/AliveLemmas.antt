@@ -11,7 +11,7 @@ use Rattle.match_bindings.proofs.IsBindingLemmas.{lt_true, true_lt, le_true, tru
 use Rattle.match_bindings.proofs.BoundsLemmas.{both_ways}
 use Rattle.match_pruning.specs.declared.window.Window.{Window}
 use Rattle.match_pruning.specs.Stores.{window_of}
-use Rattle.match_stream.specs.inner.Lives.{in_seconds, from_start, before_stop, alive, is_ahead, lives}
+use Rattle.match_stream.specs.inner.Retains.{in_seconds, from_start, before_stop, alive, is_ahead, retains}
 
 -- ---- two things together
 
@@ -88,21 +88,21 @@ ahead_before : (b : Bool) (e s t : ℤ) → s ≤ℤ t → is_ahead b e t ≡ tr
 ahead_before false e s t h k = refl
 ahead_before true e s t h k = true_le s e (le_before s t e h (le_true t e k))
 
-pub lives_before : (w : Window) (e s t : ℤ) → s ≤ℤ t → lives w e t ≡ true → lives w e s ≡ true
-lives_before w e s t h k =
-    let front = and_parts (is_ahead w.behind e t) (in_seconds w.seconds e t && (from_start w.start e && before_stop w.stop t)) k in
+pub retains_before : (w : Window) (e s t : ℤ) → s ≤ℤ t → retains w e t ≡ true → retains w e s ≡ true
+retains_before w e s t h k =
+    let front = and_parts (is_ahead w.after_left e t) (in_seconds w.seconds e t && (from_start w.start e && before_stop w.stop t)) k in
     let parts = and_parts (in_seconds w.seconds e t) (from_start w.start e && before_stop w.stop t) front.1 in
     let more = and_parts (from_start w.start e) (before_stop w.stop t) parts.1 in
-    and_from _ _ (ahead_before w.behind e s t h front.0)
+    and_from _ _ (ahead_before w.after_left e s t h front.0)
     (and_from _ _ (seconds_before w.seconds e s t h parts.0) (and_from _ _ more.0 (stop_before w.stop s t h more.1)))
 
--- what lives behind is alive
-pub behind_alive : (w : Bounds) (e t : ℤ) → lives (window_of w true) e t ≡ true → alive w e t ≡ true
-behind_alive w e t h = (and_parts (is_ahead true e t) (alive w e t) h).1
+-- what retains after left is alive
+pub after_left_alive : (w : Bounds) (e t : ℤ) → retains (window_of w true) e t ≡ true → alive w e t ≡ true
+after_left_alive w e t h = (and_parts (is_ahead true e t) (alive w e t) h).1
 
--- what isn't earlier lives behind where it is alive
-pub behind_ahead : (w : Bounds) (e t : ℤ) → t ≤ℤ e → lives (window_of w true) e t ≡ alive w e t
-behind_ahead w e t h = let yes_it_is = true_le t e h in rw yes_it_is refl
+-- what isn't earlier retains after left where it is alive
+pub after_left_ahead : (w : Bounds) (e t : ℤ) → t ≤ℤ e → retains (window_of w true) e t ≡ alive w e t
+after_left_ahead w e t h = let yes_it_is = true_le t e h in rw yes_it_is refl
 
 -- ---- narrower bounds
 

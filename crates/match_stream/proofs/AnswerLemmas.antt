@@ -1,4 +1,4 @@
--- What ends at a row, sorted, is the answer; and how much is live.
+-- What ends at a row, sorted, is the answer; and how much is retained.
 use Rattle.std.proofs.Common.{◌≡◌, ℕ, suc, ◌+◌, ◌≤◌, ◌<◌, List, [], ◌∷◌, ◌++◌, length, refl, sym, ◌∙◌, ap, arith}
 use Rattle.std.specs.Prelude.{Bool, true, false, ◌&&◌, nat_eq, cond}
 use Rattle.std.specs.List.Sorted.{IsSortedBy}
@@ -11,8 +11,8 @@ use Rattle.match_bindings.specs.BindTree.{BindTree, has, greatest}
 use Rattle.match_bindings.specs.Log.{Observed, observed_in}
 use Rattle.match_bindings.specs.Test.{is_binding}
 use Rattle.match_bindings.specs.Once.{bit, same, count}
-use Rattle.match_bindings.specs.Flat.{comes_before, Rises}
-use Rattle.match_stream.specs.PieceTree.{PieceTree, trees_in}
+use Rattle.match_bindings.specs.Flat.{comes_before, Ascends}
+use Rattle.match_stream.specs.PartialMatchTree.{PartialMatchTree, trees_in}
 use Rattle.match_stream.specs.Answer.{EndsAtLast, IsAnswer}
 use Rattle.match_bindings.proofs.OnceLemmas.{same_is, same_self}
 use Rattle.match_stream.proofs.NumberLemmas.{has_greatest, greatest_binding, old_binding}
@@ -21,9 +21,9 @@ use Rattle.match_stream.proofs.StepLemmas.{ends}
 use Rattle.match_stream.proofs.LogLemmas.{holds_inside, length_more}
 use Rattle.match_stream.proofs.ShapeLemmas.{Rule, trees_held}
 
--- bindings of one pattern, none of them twice, rise where they are sorted
-abbrev pub Rise : Type 0
-Rise = (o : Observed) (p : NumberedPattern) (xs : List BindTree) → ((x : BindTree) → count x xs ≤ bit (is_binding o p x)) → IsSortedBy comes_before xs → Rises xs
+-- bindings of one pattern, none of them twice, ascend where they are sorted
+abbrev pub Ascend : Type 0
+Ascend = (o : Observed) (p : NumberedPattern) (xs : List BindTree) → ((x : BindTree) → count x xs ≤ bit (is_binding o p x)) → IsSortedBy comes_before xs → Ascends xs
 
 -- a binding has the last row's number exactly where that is its greatest
 pub ends_at : (o : Observed) (n : ℕ) → ((k i : ℕ) → o.holds k i ≡ true → i ≤ n) → (p : NumberedPattern) (x : BindTree) →
@@ -51,17 +51,17 @@ bit_and_most true false = omega arith
 bit_and_most false c = omega arith
 
 -- the trees of what is held stand there as often as the test says
-pub held_counts : (o : Observed) (f : BindTree → Bool) (held : List PieceTree) → AreHeld o f held → (x : BindTree) → count x (trees_in held) ≡ bit (f x)
+pub held_counts : (o : Observed) (f : BindTree → Bool) (held : List PartialMatchTree) → AreHeld o f held → (x : BindTree) → count x (trees_in held) ≡ bit (f x)
 held_counts o f held (xs, is, each) x = ap (count x) (ap trees_in is ∙ trees_held o xs) ∙ each x
 
 -- what ends at the last row of a log
-pub answer_law : Rule → Rise → (p : NumberedPattern) (log : List LogEntry) (r : LogEntry) (new : List PieceTree) (xs : List BindTree) →
+pub answer_law : Rule → Ascend → (p : NumberedPattern) (log : List LogEntry) (r : LogEntry) (new : List PartialMatchTree) (xs : List BindTree) →
     AreHeld (observed_in (log ++ r ∷ [])) (ends (observed_in (log ++ r ∷ [])) (suc (length log)) r.last no_bounds p) new →
     ((x : BindTree) → count x xs ≡ count x (trees_in new)) → IsSortedBy comes_before xs → IsAnswer p (log ++ r ∷ []) xs
-answer_law rule rise p log r new xs held same sorted = record {
+answer_law rule sift_up p log r new xs held same sorted = record {
   each_once = λ x h. each x ∙ ap bit (yes_it_is x h);
   no_other = λ x h. each x ∙ ap bit (no_it_isnt x h (is_binding o p x) (nat_eq (greatest x) n) refl refl);
-  rises = rise o p xs (λ x. let e = each x in let most = bit_and_most (is_binding o p x) (nat_eq (greatest x) n) in omega arith) sorted;
+  ascends = sift_up o p xs (λ x. let e = each x in let most = bit_and_most (is_binding o p x) (nat_eq (greatest x) n) in omega arith) sorted;
 } where
   o : Observed
   o = observed_in (log ++ r ∷ [])
@@ -139,5 +139,5 @@ same_length (x ∷ xs) ys h =
     omega arith) in
     ap suc rest ∙ sym (dropped_length x ys some)
 
-pub trees_length : (held : List PieceTree) → length (trees_in held) ≡ length held
+pub trees_length : (held : List PartialMatchTree) → length (trees_in held) ≡ length held
 trees_length held = length-map held (λ h. h.tree)

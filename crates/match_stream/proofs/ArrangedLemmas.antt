@@ -19,15 +19,15 @@ use Rattle.match_pruning.specs.declared.window.Window.{Window}
 use Rattle.match_pruning.specs.Stores.{window_of}
 use Rattle.match_stream.specs.declared.join.Join.{Join}
 use Rattle.match_stream.specs.declared.join.Join.TheVariants as join
-use Rattle.match_stream.specs.PieceTree.{PieceTree, hold, trees_in}
+use Rattle.match_stream.specs.PartialMatchTree.{PartialMatchTree, hold, trees_in}
 use Rattle.match_stream.specs.declared.store.Store.{Store}
 use Rattle.match_stream.specs.inner.Nodes.{store_list, store_lists}
-use Rattle.match_stream.specs.inner.Arranged.{AreSame, AreSameSides, AreSameLevels, IsArranged}
-use Rattle.match_stream.specs.inner.Lives.{alive, lives}
+use Rattle.match_stream.specs.inner.UpToOrder.{AreSameMultiset, AreSameSides, AreSameLevels, IsSameUpToOrder}
+use Rattle.match_stream.specs.inner.Retains.{alive, retains}
 use Rattle.match_stream.specs.inner.Shape.{fits, same_window, have_windows}
 use Rattle.match_stream.specs.inner.Steps.{kept, SideStores, State, a_leaf, a_join, a_choice, a_limit, a_chain, sides_kept, no_levels, levels_above, all_levels, expired}
-use Rattle.match_stream.proofs.AliveLemmas.{lives_before}
-use Rattle.match_stream.proofs.LivesLemmas.{le_both, le_self}
+use Rattle.match_stream.proofs.AliveLemmas.{retains_before}
+use Rattle.match_stream.proofs.RetainsLemmas.{le_both, le_self}
 use Rattle.match_stream.proofs.StoreLemmas.{AreHeld}
 use Rattle.match_stream.proofs.StepLemmas.{Counted, SidesStand, LevelsStand, AllLevelsStand, Stands}
 use Rattle.match_stream.proofs.AnswerLemmas.{held_counts}
@@ -36,7 +36,7 @@ use Rattle.match_stream.proofs.PassLemmas.{none_kept, fits_expired}
 -- ---- one store
 
 -- whether a thing has the times of its tree
-abbrev is_timed : Observed → PieceTree → Bool
+abbrev is_timed : Observed → PartialMatchTree → Bool
 is_timed o h = (int_le h.earliest (earliest o.first h.tree) && int_le (earliest o.first h.tree) h.earliest) && (int_le h.latest (latest o.last h.tree) && int_le (latest o.last h.tree) h.latest)
 
 le_yes : (a : ℤ) → int_le a a ≡ true
@@ -45,7 +45,7 @@ le_yes a = true_le a a (le_self a)
 hold_timed : (o : Observed) (x : BindTree) → is_timed o (hold o x) ≡ true
 hold_timed o x = rw (le_yes (earliest o.first x), le_yes (latest o.last x)) refl
 
-timed_hold : (o : Observed) (h : PieceTree) → is_timed o h ≡ true → h ≡ hold o h.tree
+timed_hold : (o : Observed) (h : PartialMatchTree) → is_timed o h ≡ true → h ≡ hold o h.tree
 timed_hold o h k =
     let parts = and_parts (int_le h.earliest (earliest o.first h.tree) && int_le (earliest o.first h.tree) h.earliest) (int_le h.latest (latest o.last h.tree) && int_le (latest o.last h.tree) h.latest) k in
     let one = and_parts (int_le h.earliest (earliest o.first h.tree)) (int_le (earliest o.first h.tree) h.earliest) parts.0 in
@@ -54,7 +54,7 @@ timed_hold o h k =
     let l : h.latest ≡ latest o.last h.tree = le_both h.latest (latest o.last h.tree) (le_true h.latest (latest o.last h.tree) two.0) (le_true (latest o.last h.tree) h.latest two.1) in
     λ i. record { tree = h.tree; earliest = e i; latest = l i }
 
-abbrev untimed : Observed → PieceTree → ℕ
+abbrev untimed : Observed → PartialMatchTree → ℕ
 untimed o h = bit (not (is_timed o h))
 
 none_untimed : (o : Observed) (xs : List BindTree) → sum_by (untimed o) (map (hold o) xs) ≡ 0
@@ -65,7 +65,7 @@ timed_from : (b : Bool) → bit (not b) ≡ 0 → b ≡ true
 timed_from true h = refl
 timed_from false h = absurd (omega (arith, h))
 
-all_timed : (o : Observed) (held : List PieceTree) → sum_by (untimed o) held ≡ 0 → held ≡ map (hold o) (trees_in held)
+all_timed : (o : Observed) (held : List PartialMatchTree) → sum_by (untimed o) held ≡ 0 → held ≡ map (hold o) (trees_in held)
 all_timed o [] h = refl
 all_timed o (x ∷ held) h =
     let sum : untimed o x + sum_by (untimed o) held ≡ 0 = sym (sum_by-cons (untimed o) x held) ∙ h in
@@ -74,11 +74,11 @@ all_timed o (x ∷ held) h =
     ap (λ z. z ∷ held) (timed_hold o x (timed_from (is_timed o x) here)) ∙ ap (λ z. hold o x.tree ∷ z) (all_timed o held rest)
 
 -- so often a tree stands among those of the things
-stands_among : (x : BindTree) (held : List PieceTree) → count x (trees_in held) ≡ sum_by (λ h. bit (same x h.tree)) held
+stands_among : (x : BindTree) (held : List PartialMatchTree) → count x (trees_in held) ≡ sum_by (λ h. bit (same x h.tree)) held
 stands_among x [] = refl
 stands_among x (h ∷ held) = ap (λ n. bit (same x h.tree) + n) (stands_among x held) ∙ sym (sum_by-cons (λ h. bit (same x h.tree)) h held)
 
-pub same_held : (o : Observed) (f : BindTree → Bool) (held other : List PieceTree) → AreSame held other → AreHeld o f held → AreHeld o f other
+pub same_held : (o : Observed) (f : BindTree → Bool) (held other : List PartialMatchTree) → AreSameMultiset held other → AreHeld o f held → AreHeld o f other
 same_held o f held other e (xs, is, each) = (
   trees_in other,
   all_timed o other (e (untimed o) ∙ ap (sum_by (untimed o)) is ∙ none_untimed o xs),
@@ -92,14 +92,14 @@ later_bits false s false k = omega arith
 later_bits true s false k = omega arith
 later_bits true s true k = rw (k refl) refl
 
-pub kept_held : (o : Observed) (v : Window) (s t : ℤ) (f : BindTree → Bool) (held : List PieceTree) → s ≤ℤ t →
-    AreHeld o (λ x. f x && lives v (earliest o.first x) s) held → AreHeld o (λ x. f x && lives v (earliest o.first x) t) (kept v t held)
+pub kept_held : (o : Observed) (v : Window) (s t : ℤ) (f : BindTree → Bool) (held : List PartialMatchTree) → s ≤ℤ t →
+    AreHeld o (λ x. f x && retains v (earliest o.first x) s) held → AreHeld o (λ x. f x && retains v (earliest o.first x) t) (kept v t held)
 kept_held o v s t f held h (xs, is, each) = (
-  filter (λ x. lives v (earliest o.first x) t) xs,
-  ap (kept v t) is ∙ filter_map (hold o) (λ k. lives v k.earliest t) xs,
-  λ x. count_filter x (λ x. lives v (earliest o.first x) t) xs
-      ∙ ap (λ z. bit (lives v (earliest o.first x) t) * z) (each x)
-      ∙ later_bits (f x) (lives v (earliest o.first x) s) (lives v (earliest o.first x) t) (lives_before v (earliest o.first x) s t h),
+  filter (λ x. retains v (earliest o.first x) t) xs,
+  ap (kept v t) is ∙ filter_map (hold o) (λ k. retains v k.earliest t) xs,
+  λ x. count_filter x (λ x. retains v (earliest o.first x) t) xs
+      ∙ ap (λ z. bit (retains v (earliest o.first x) t) * z) (each x)
+      ∙ later_bits (f x) (retains v (earliest o.first x) s) (retains v (earliest o.first x) t) (retains_before v (earliest o.first x) s t h),
 )
 
 -- ---- all stores: what has expired is taken out
@@ -111,16 +111,16 @@ expired_sides o s t w v f g sides h st = record {
   right_window = st.right_window;
   left = subst (λ (u : Window). AreHeld o (λ x. f x && alive w (earliest o.first x) t) (kept u t sides.left)) (sym st.left_window)
       (kept_held o (window_of w false) s t f sides.left h st.left);
-  right = subst (λ (u : Window). AreHeld o (λ x. g x && lives v (earliest o.first x) t) (kept u t sides.right)) (sym st.right_window)
+  right = subst (λ (u : Window). AreHeld o (λ x. g x && retains v (earliest o.first x) t) (kept u t sides.right)) (sym st.right_window)
       (kept_held o v s t g sides.right h st.right);
 }
 
-expired_levels : (o : Observed) (s t : ℤ) (w : Bounds) (f : ℕ → BindTree → Bool) (n j : ℕ) (levels : List (List PieceTree)) → s ≤ℤ t →
+expired_levels : (o : Observed) (s t : ℤ) (w : Bounds) (f : ℕ → BindTree → Bool) (n j : ℕ) (levels : List (List PartialMatchTree)) → s ≤ℤ t →
     LevelsStand o f s w n j levels → LevelsStand o f t w n j (map (kept (window_of w false) t) levels)
 expired_levels o s t w f n j [] h st = st
 expired_levels o s t w f n j (x ∷ levels) h st = (kept_held o (window_of w false) s t (f j) x h st.0, expired_levels o s t w f n (suc j) levels h st.1)
 
-expired_all_levels : (o : Observed) (s t : ℤ) (w : Bounds) (f : ℕ → BindTree → Bool) (n : ℕ) (levels : List (List PieceTree)) → s ≤ℤ t →
+expired_all_levels : (o : Observed) (s t : ℤ) (w : Bounds) (f : ℕ → BindTree → Bool) (n : ℕ) (levels : List (List PartialMatchTree)) → s ≤ℤ t →
     AllLevelsStand o f s w n levels → AllLevelsStand o f t w n (map (kept (window_of w false) t) levels)
 expired_all_levels o s t w f zero levels h st = ap (map (kept (window_of w false) t)) st
 expired_all_levels o s t w f (suc n) levels h st = expired_levels o s t w f (suc n) 1 levels h st
@@ -156,10 +156,10 @@ arranged_sides o t w v f g sides other st same = record {
   left_window = same.left_window ∙ st.left_window;
   right_window = same.right_window ∙ st.right_window;
   left = same_held o (λ x. f x && alive w (earliest o.first x) t) sides.left other.left same.left st.left;
-  right = same_held o (λ x. g x && lives v (earliest o.first x) t) sides.right other.right same.right st.right;
+  right = same_held o (λ x. g x && retains v (earliest o.first x) t) sides.right other.right same.right st.right;
 }
 
-arranged_levels : (o : Observed) (t : ℤ) (w : Bounds) (f : ℕ → BindTree → Bool) (n j : ℕ) (levels other : List (List PieceTree)) →
+arranged_levels : (o : Observed) (t : ℤ) (w : Bounds) (f : ℕ → BindTree → Bool) (n j : ℕ) (levels other : List (List PartialMatchTree)) →
     LevelsStand o f t w n j levels → AreSameLevels levels other → LevelsStand o f t w n j other
 arranged_levels o t w f n j [] [] st same = st
 arranged_levels o t w f n j (x ∷ levels) (y ∷ other) st same = (
@@ -169,17 +169,17 @@ arranged_levels o t w f n j (x ∷ levels) (y ∷ other) st same = (
 arranged_levels o t w f n j [] (y ∷ other) st same = absurd same
 arranged_levels o t w f n j (x ∷ levels) [] st same = absurd same
 
-same_none : (levels other : List (List PieceTree)) → levels ≡ [] → AreSameLevels levels other → other ≡ []
+same_none : (levels other : List (List PartialMatchTree)) → levels ≡ [] → AreSameLevels levels other → other ≡ []
 same_none [] [] e same = refl
 same_none [] (y ∷ other) e same = absurd same
 same_none (x ∷ levels) other e same = absurd (cc)
 
-arranged_all_levels : (o : Observed) (t : ℤ) (w : Bounds) (f : ℕ → BindTree → Bool) (n : ℕ) (levels other : List (List PieceTree)) →
+arranged_all_levels : (o : Observed) (t : ℤ) (w : Bounds) (f : ℕ → BindTree → Bool) (n : ℕ) (levels other : List (List PartialMatchTree)) →
     AllLevelsStand o f t w n levels → AreSameLevels levels other → AllLevelsStand o f t w n other
 arranged_all_levels o t w f zero levels other st same = same_none levels other st same
 arranged_all_levels o t w f (suc n) levels other st same = arranged_levels o t w f (suc n) 1 levels other st same
 
-pub arranged_stands : (o : Observed) (b : Counted) (t : ℤ) (w : Bounds) (p : NumberedPattern) (z z' : State) → Stands o b t w p z → IsArranged z z' → Stands o b t w p z'
+pub arranged_stands : (o : Observed) (b : Counted) (t : ℤ) (w : Bounds) (p : NumberedPattern) (z z' : State) → Stands o b t w p z → IsSameUpToOrder z z' → Stands o b t w p z'
 arranged_stands o b t w (Leaf k) (a_leaf leaf window) z' st e = subst (λ (y : State). Stands o b t w (Leaf k) y) (sym e) st
 arranged_stands o b t w (Both p q) (a_join join.Both l r sides) (a_join j l' r' sides') st e =
     subst (λ (i : Join). Stands o b t w (Both p q) (a_join i l' r' sides')) (sym e.0) (
@@ -206,14 +206,14 @@ arranged_stands o b t w (Repeats p n) (a_chain part k window levels) (a_chain pa
 arranged_stands o b t w (Repeats p n) (a_chain part k window levels) z' st e = absurd e
 arranged_stands o b t w p z z' st e = absurd st
 
--- once what has expired is taken out, what counts and lives then is held
+-- once what has expired is taken out, what counts and retains then is held
 pub cleared_stands : (o : Observed) (b : Counted) (s t : ℤ) → s ≤ℤ t → (w : Bounds) (p : NumberedPattern) (z z' : State) →
-    Stands o b s w p z → IsArranged (expired t z) z' → Stands o b t w p z'
+    Stands o b s w p z → IsSameUpToOrder (expired t z) z' → Stands o b t w p z'
 cleared_stands o b s t h w p z z' st e = arranged_stands o b t w p (expired t z) z' (expired_stands o b s t h w p z st) e
 
 -- ---- and the shape stays
 
-same_many : (levels other : List (List PieceTree)) → AreSameLevels levels other → length other ≡ length levels
+same_many : (levels other : List (List PartialMatchTree)) → AreSameLevels levels other → length other ≡ length levels
 same_many [] [] e = refl
 same_many (x ∷ levels) (y ∷ other) e = ap suc (same_many levels other e.1)
 same_many [] (y ∷ other) e = absurd e
@@ -227,7 +227,7 @@ arranged_windows sides other v u e =
     same_two (same_window other.left_window v) (same_window other.right_window u) (same_window sides.left_window v) (same_window sides.right_window u)
     (ap (λ y. same_window y v) e.left_window) (ap (λ y. same_window y u) e.right_window)
 
-pub fits_arranged : (p : NumberedPattern) (w : Bounds) (z z' : State) → IsArranged z z' → fits w p z ≡ true → fits w p z' ≡ true
+pub fits_arranged : (p : NumberedPattern) (w : Bounds) (z z' : State) → IsSameUpToOrder z z' → fits w p z ≡ true → fits w p z' ≡ true
 fits_arranged (Leaf k) w (a_leaf leaf window) z' e h = ap (fits w (Leaf k)) e ∙ h
 fits_arranged (Both p q) w (a_join join.Both l r sides) (a_join j l' r' sides') e h =
     let parts = and_parts (fits w p l && fits w q r) (have_windows sides (window_of w false) (window_of w false)) h in
@@ -259,34 +259,34 @@ fits_arranged (Repeats p n) w (a_chain part k window levels) (a_chain part' k' w
 fits_arranged (Repeats p n) w (a_chain part k window levels) z' e h = absurd e
 fits_arranged p w z z' e h = absurd (cc)
 
-pub cleared_fits : (p : NumberedPattern) (t : ℤ) (z z' : State) → IsArranged (expired t z) z' → fits no_bounds p z ≡ true → fits no_bounds p z' ≡ true
+pub cleared_fits : (p : NumberedPattern) (t : ℤ) (z z' : State) → IsSameUpToOrder (expired t z) z' → fits no_bounds p z ≡ true → fits no_bounds p z' ≡ true
 cleared_fits p t z z' e h = fits_arranged p no_bounds (expired t z) z' e (fits_expired t p no_bounds z ∙ h)
 
 -- ---- stores gone through in place
 
-same_levels_both : (us vs xs ys : List (List PieceTree)) → AreSameLevels us vs → AreSameLevels xs ys → AreSameLevels (us ++ xs) (vs ++ ys)
+same_levels_both : (us vs xs ys : List (List PartialMatchTree)) → AreSameLevels us vs → AreSameLevels xs ys → AreSameLevels (us ++ xs) (vs ++ ys)
 same_levels_both [] [] xs ys h k = k
 same_levels_both (u ∷ us) (v ∷ vs) xs ys h k = (h.0, same_levels_both us vs xs ys h.1 k)
 same_levels_both [] (v ∷ vs) xs ys h k = absurd h
 same_levels_both (u ∷ us) [] xs ys h k = absurd h
 
-same_levels_self : (xs : List (List PieceTree)) → AreSameLevels xs xs
+same_levels_self : (xs : List (List PartialMatchTree)) → AreSameLevels xs xs
 same_levels_self [] = tt
 same_levels_self (x ∷ xs) = (λ weight. refl, same_levels_self xs)
 
-pub levels_cleared : (w : Window) (t : ℤ) (count : ℕ) (xs made : List (List PieceTree)) → AreSameLevels (map (kept w t) xs) made →
+pub levels_cleared : (w : Window) (t : ℤ) (count : ℕ) (xs made : List (List PartialMatchTree)) → AreSameLevels (map (kept w t) xs) made →
     AreSameLevels (map (kept w t) (all_levels count xs)) (all_levels count made)
 levels_cleared w t count xs made h =
     let many : length made ≡ length xs = same_many (map (kept w t) xs) made h ∙ length-map xs (kept w t) in
     let above : levels_above count xs ≡ levels_above count made = ap (λ k. count - 1 - k) (sym many) in
-    subst (λ (y : List (List PieceTree)). AreSameLevels y (all_levels count made)) (sym (map_append (kept w t) xs (no_levels (levels_above count xs))))
-    (subst (λ (y : List (List PieceTree)). AreSameLevels (map (kept w t) xs ++ y) (all_levels count made))
+    subst (λ (y : List (List PartialMatchTree)). AreSameLevels y (all_levels count made)) (sym (map_append (kept w t) xs (no_levels (levels_above count xs))))
+    (subst (λ (y : List (List PartialMatchTree)). AreSameLevels (map (kept w t) xs ++ y) (all_levels count made))
     (ap no_levels (sym above) ∙ sym (none_kept w t (levels_above count xs)))
     (same_levels_both (map (kept w t) xs) made (no_levels (levels_above count made)) (no_levels (levels_above count made)) h (same_levels_self (no_levels (levels_above count made)))))
 
 -- the next store of those that are gone through
-pub stores_more : (f : List PieceTree → List PieceTree) (xs ys : List Store) (i : ℕ) (x x' : Store) → i < length xs → length ys ≡ length xs →
-    AreSameLevels (map f (store_lists (take i xs))) (store_lists (take i ys)) → drop i ys ≡ drop i xs → x ≡ get_or ys i x → AreSame (f (store_list x)) (store_list x') →
+pub stores_more : (f : List PartialMatchTree → List PartialMatchTree) (xs ys : List Store) (i : ℕ) (x x' : Store) → i < length xs → length ys ≡ length xs →
+    AreSameLevels (map f (store_lists (take i xs))) (store_lists (take i ys)) → drop i ys ≡ drop i xs → x ≡ get_or ys i x → AreSameMultiset (f (store_list x)) (store_list x') →
     AreSameLevels (map f (store_lists (take (i + 1) xs))) (store_lists (take (i + 1) (slice_set ys i x')))
 stores_more f xs ys i x x' h many done rest is same =
     let inside : i < length ys = omega (arith, h, many) in
@@ -296,8 +296,8 @@ stores_more f xs ys i x x' h many done rest is same =
     ∙ ap (map f) (map_append store_list (take i xs) (x ∷ [])) ∙ map_append f (store_lists (take i xs)) (store_list x ∷ []) in
     let right : store_lists (take (i + 1) (slice_set ys i x')) ≡ store_lists (take i ys) ++ store_list x' ∷ [] =
     ap store_lists (take_more_set ys i x' inside) ∙ map_append store_list (take i ys) (x' ∷ []) in
-    subst (λ (y : List (List PieceTree)). AreSameLevels y (store_lists (take (i + 1) (slice_set ys i x')))) (sym left)
-    (subst (λ (y : List (List PieceTree)). AreSameLevels (map f (store_lists (take i xs)) ++ f (store_list x) ∷ []) y) (sym right)
+    subst (λ (y : List (List PartialMatchTree)). AreSameLevels y (store_lists (take (i + 1) (slice_set ys i x')))) (sym left)
+    (subst (λ (y : List (List PartialMatchTree)). AreSameLevels (map f (store_lists (take i xs)) ++ f (store_list x) ∷ []) y) (sym right)
     (same_levels_both (map f (store_lists (take i xs))) (store_lists (take i ys)) (f (store_list x) ∷ []) (store_list x' ∷ []) done (same, tt))) where
       old_is : (xs ys : List Store) (i : ℕ) (x : Store) → drop i ys ≡ drop i xs → x ≡ get_or ys i x → get_or xs i x ≡ x
       old_is xs ys i x rest is =

@@ -1,4 +1,4 @@
--- There is one live count: what is live is listed by tests, and lists with the same counts are as long as each other.
+-- There is one retained count: what is retained is listed by tests, and lists with the same counts are as long as each other.
 use Rattle.std.proofs.Common.{◌≡◌, ℕ, ℤ, List, [], ◌∷◌, length, refl, sym, ◌∙◌, arith}
 use Rattle.std.specs.Prelude.{Bool, true, false, ◌&&◌, nat_eq, ◌↔◌}
 use Rattle.std.proofs.lemmas.Bool.{eqb-true, eq-eqb}
@@ -10,10 +10,10 @@ use Rattle.match_bindings.specs.Span.{earliest}
 use Rattle.match_bindings.specs.Test.{are_repeats, is_binding}
 use Rattle.match_bindings.specs.Once.{bit, count}
 use Rattle.match_pruning.specs.Stores.{Part, a_side, a_level, Store, stores_of}
-use Rattle.match_stream.specs.PieceTree.{PieceTree, trees_in}
-use Rattle.match_stream.specs.LivePart.{MayHold, HoldsLive, AreLive, time_of, held_count}
-use Rattle.match_stream.specs.Answer.{EndsAtLast, IsAnswer, IsLiveCount}
-use Rattle.match_stream.specs.inner.Lives.{lives}
+use Rattle.match_stream.specs.PartialMatchTree.{PartialMatchTree, trees_in}
+use Rattle.match_stream.specs.RetainedPart.{MayHold, HoldsRetained, AreRetained, time_of, held_count}
+use Rattle.match_stream.specs.Answer.{EndsAtLast, IsAnswer, IsRetainedCount}
+use Rattle.match_stream.specs.inner.Retains.{retains}
 use Rattle.match_stream.proofs.ShapeLemmas.{Rule, to_held}
 use Rattle.match_stream.proofs.AnswerLemmas.{held_counts, same_length, trees_length}
 
@@ -26,15 +26,15 @@ pub may_rule : Rule → (o : Observed) (part : Part) (x : BindTree) → (may_hol
 may_rule rule o (a_side p) x = rule o p x
 may_rule rule o (a_level p j) x = rule o (Repeats p j) x
 
-same_store : Rule → (o : Observed) (now : ℤ) (store : Store) (us vs : List PieceTree) → HoldsLive o now store us → HoldsLive o now store vs → length us ≡ length vs
+same_store : Rule → (o : Observed) (now : ℤ) (store : Store) (us vs : List PartialMatchTree) → HoldsRetained o now store us → HoldsRetained o now store vs → length us ≡ length vs
 same_store rule o now store us vs hu hv =
-    let f = λ (x : BindTree). may_hold o store.part x && lives store.window (earliest o.first x) now in
+    let f = λ (x : BindTree). may_hold o store.part x && retains store.window (earliest o.first x) now in
     let one = to_held o now store (may_hold o store.part) (may_rule rule o store.part) us hu in
     let two = to_held o now store (may_hold o store.part) (may_rule rule o store.part) vs hv in
     let same : length (trees_in us) ≡ length (trees_in vs) = same_length (trees_in us) (trees_in vs) (λ x. held_counts o f us one x ∙ sym (held_counts o f vs two x)) in
     sym (trees_length us) ∙ same ∙ trees_length vs
 
-same_held : Rule → (o : Observed) (now : ℤ) (stores : List Store) (us vs : List (List PieceTree)) → AreLive o now stores us → AreLive o now stores vs → held_count us ≡ held_count vs
+same_held : Rule → (o : Observed) (now : ℤ) (stores : List Store) (us vs : List (List PartialMatchTree)) → AreRetained o now stores us → AreRetained o now stores vs → held_count us ≡ held_count vs
 same_held rule o now [] [] [] hu hv = refl
 same_held rule o now (store ∷ stores) (u ∷ us) (v ∷ vs) hu hv =
     omega (arith, same_store rule o now store u v hu.0 hv.0, same_held rule o now stores us vs hu.1 hv.1)
@@ -59,9 +59,9 @@ answer_counts rule p log xs h x = by (is_binding (observed_in log) p x) (nat_eq 
   by true false eb ec = rw (eb, ec) (h.no_other x (not_last ec))
   by false c eb ec = rw eb (h.no_other x (no_binding eb))
 
-pub one_count : Rule → (p : NumberedPattern) (log : List LogEntry) (m n : ℕ) → IsLiveCount p log m → IsLiveCount p log n → m ≡ n
+pub one_count : Rule → (p : NumberedPattern) (log : List LogEntry) (m n : ℕ) → IsRetainedCount p log m → IsRetainedCount p log n → m ≡ n
 one_count rule p log m n a b =
-    let held = same_held rule (observed_in log) (time_of log) (stores_of p) a.contents b.contents a.live b.live in
+    let held = same_held rule (observed_in log) (time_of log) (stores_of p) a.contents b.contents a.retained b.retained in
     let ending : length a.answer ≡ length b.answer = same_length a.answer b.answer (λ x. answer_counts rule p log a.answer a.ending x ∙ sym (answer_counts rule p log b.answer b.ending x)) in
     let one = a.sum in let two = b.sum in
     omega (arith, held, ending, one, two)

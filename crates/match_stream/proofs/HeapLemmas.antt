@@ -1,4 +1,4 @@
--- How a thing rises and sinks in a heap, by what its times are before and after each exchange.
+-- How a thing ascends and sinks in a heap, by what its times are before and after each exchange.
 use Rattle.std.proofs.Common.{◌≡◌, ℕ, zero, suc, ◌+◌, ◌-◌, ◌*◌, ◌/◌, ◌≤◌, ◌<◌, ℤ, ◌≤ℤ◌, ◌<ℤ◌, List, [], ◌∷◌, length, get_or, refl, sym, ◌∙◌, ap, subst, arith, inl, inr}
 use Rattle.std.specs.Prelude.{Bool, true, false, cond, Option, Some, slice_get, ◌⊎◌}
 use Rattle.std.proofs.lemmas.Bool.{cases_order}
@@ -9,15 +9,15 @@ use Rattle.std.proofs.lemmas.List.{get_or_default}
 use Rattle.std.proofs.lemmas.List.Sums.{sum_by-cons, sum_by-swap_remove}
 use Rattle.std.proofs.lemmas.List.Edits.{Swapped, swapped_from_swap}
 use Rattle.std.proofs.lemmas.List.Sorted.{IsPermutation-map, sum_by-IsPermutation}
-use Rattle.match_stream.specs.declared.piece.Piece.{Piece}
-use Rattle.match_stream.specs.PieceTree.{PieceTree}
-use Rattle.match_stream.specs.inner.Pieces.{piece_tree, piece_trees}
+use Rattle.match_stream.specs.declared.partial_match.PartialMatch.{PartialMatch}
+use Rattle.match_stream.specs.PartialMatchTree.{PartialMatchTree}
+use Rattle.match_stream.specs.inner.PartialMatches.{partial_match_tree, partial_match_trees}
 use Rattle.match_pruning.specs.declared.window.Window.{Window}
-use Rattle.match_stream.specs.inner.Lives.{lives}
+use Rattle.match_stream.specs.inner.Retains.{retains}
 use Rattle.match_stream.specs.inner.Steps.{kept}
-use Rattle.match_stream.specs.inner.Arranged.{AreSame}
+use Rattle.match_stream.specs.inner.UpToOrder.{AreSameMultiset}
 use Rattle.match_stream.specs.inner.Heaps.{IsChild, AreHeaped, AreHeapedBelow, time_at}
-use Rattle.match_stream.proofs.LivesLemmas.{le_trans, le_self}
+use Rattle.match_stream.proofs.RetainsLemmas.{le_trans, le_self}
 
 is_or : (a b : ℕ) → (a ≡ b) ⊎ (a ≡ b → ⊥)
 is_or a b = elim (cases_order a b) [
@@ -34,24 +34,24 @@ lt_le a b h = omega (arith, ints)
 pub parent_of : (at : ℕ) → 0 < at → IsChild ((at - 1) / 4) at
 parent_of at some = (omega arith, omega arith)
 
--- ---- rising
+-- ---- ascending
 
 -- a heap but for the thing at a place, which may be earlier than its parent
-abbrev pub Rises : (ℕ → ℤ) → ℕ → ℕ → Type 0
-Rises f n at =
+abbrev pub Ascends : (ℕ → ℤ) → ℕ → ℕ → Type 0
+Ascends f n at =
     ((p i : ℕ) → IsChild p i → i < n → (i ≡ at → ⊥) → f p ≤ℤ f i)
     × ((p i : ℕ) → IsChild p at → IsChild at i → i < n → f p ≤ℤ f i)
 
-pub rise_begins : (f : ℕ → ℤ) (at : ℕ) → AreHeaped f at → Rises f (at + 1) at
-rise_begins f at h = (
+pub ascend_begins : (f : ℕ → ℤ) (at : ℕ) → AreHeaped f at → Ascends f (at + 1) at
+ascend_begins f at h = (
   λ p i c k other. h p i c (let differs : i ≡ at → ⊥ = other in by i differs k),
   λ p i c d k. absurd (let low = d.0 in omega (arith, low, k)),
 ) where
   by : (i : ℕ) → (i ≡ at → ⊥) → i < at + 1 → i < at
   by i other k = elim (cases_order i at) [ inl e ↦ absurd (other e) | inr l ↦ elim l [ inl m ↦ m | inr m ↦ absurd (omega (arith, m, k)) ] ]
 
-pub rise_on : (f g : ℕ → ℤ) (n at p : ℕ) → IsChild p at → at < n → Swapped f g p at → f at <ℤ f p → Rises f n at → Rises g n p
-rise_on f g n at p child inside sw lt r = (one, two) where
+pub ascend_on : (f g : ℕ → ℤ) (n at p : ℕ) → IsChild p at → at < n → Swapped f g p at → f at <ℤ f p → Ascends f n at → Ascends g n p
+ascend_on f g n at p child inside sw lt r = (one, two) where
   same_parent : (q i : ℕ) → IsChild q i → i ≡ at → q ≡ p
   same_parent q i c e = let low = c.0 in let high = c.1 in let low' = child.0 in let high' = child.1 in omega (arith, low, high, low', high', e)
 
@@ -82,11 +82,11 @@ rise_on f g n at p child inside sw lt r = (one, two) where
             (le_trans (f q) (f p) (f i) (r.0 q p above p_inside p_not_at) (r.0 p i below k ne))
       ]
 
-pub rise_tops : (f : ℕ → ℤ) (n at : ℕ) → at ≡ 0 → Rises f n at → AreHeaped f n
-rise_tops f n at top r = λ p i c k. r.0 p i c k (λ e. let low = c.0 in omega (arith, low, e, top))
+pub ascend_tops : (f : ℕ → ℤ) (n at : ℕ) → at ≡ 0 → Ascends f n at → AreHeaped f n
+ascend_tops f n at top r = λ p i c k. r.0 p i c k (λ e. let low = c.0 in omega (arith, low, e, top))
 
-pub rise_rests : (f : ℕ → ℤ) (n at p : ℕ) → IsChild p at → f p ≤ℤ f at → Rises f n at → AreHeaped f n
-rise_rests f n at p child h r = λ q i c k. elim (is_or i at) [
+pub ascend_rests : (f : ℕ → ℤ) (n at p : ℕ) → IsChild p at → f p ≤ℤ f at → Ascends f n at → AreHeaped f n
+ascend_rests f n at p child h r = λ q i c k. elim (is_or i at) [
   | inl e ↦ (
       let low = c.0 in let high = c.1 in let low' = child.0 in let high' = child.1 in
       let same : q ≡ p = omega (arith, low, high, low', high', e) in
@@ -177,55 +177,55 @@ first_is_earliest f n i h inside = first_up_to f n h i i (omega arith) inside
 
 -- ---- lists of things
 
-pub times_swapped : (xs ys : List Piece) (a b : ℕ) (d : Piece) → a < length xs → b < length xs → ys ≡ swap xs a b → Swapped (time_at xs d) (time_at ys d) a b
+pub times_swapped : (xs ys : List PartialMatch) (a b : ℕ) (d : PartialMatch) → a < length xs → b < length xs → ys ≡ swap xs a b → Swapped (time_at xs d) (time_at ys d) a b
 times_swapped xs ys a b d ha hb e =
     let s = swapped_from_swap xs ys a b d ha hb e in
-    (ap (λ (x : Piece). x.earliest) s.0, ap (λ (x : Piece). x.earliest) s.1, λ m na nb. ap (λ (x : Piece). x.earliest) (s.2 m na nb))
+    (ap (λ (x : PartialMatch). x.earliest) s.0, ap (λ (x : PartialMatch). x.earliest) s.1, λ m na nb. ap (λ (x : PartialMatch). x.earliest) (s.2 m na nb))
 
 -- a list in another order has the same things
-pub same_swapped : (xs ys : List Piece) → IsPermutation xs ys → AreSame (piece_trees xs) (piece_trees ys)
-same_swapped xs ys p weight = sum_by-IsPermutation weight (piece_trees xs) (piece_trees ys) (IsPermutation-map piece_tree xs ys p)
+pub same_swapped : (xs ys : List PartialMatch) → IsPermutation xs ys → AreSameMultiset (partial_match_trees xs) (partial_match_trees ys)
+same_swapped xs ys p weight = sum_by-IsPermutation weight (partial_match_trees xs) (partial_match_trees ys) (IsPermutation-map partial_match_tree xs ys p)
 
 -- a thing less
-sum_of : (weight : PieceTree → ℕ) (xs : List Piece) → sum_by weight (piece_trees xs) ≡ sum_by (λ x. weight (piece_tree x)) xs
+sum_of : (weight : PartialMatchTree → ℕ) (xs : List PartialMatch) → sum_by weight (partial_match_trees xs) ≡ sum_by (λ x. weight (partial_match_tree x)) xs
 sum_of weight [] = refl
 sum_of weight (x ∷ xs) =
-    sum_by-cons weight (piece_tree x) (piece_trees xs) ∙ ap (λ n. weight (piece_tree x) + n) (sum_of weight xs) ∙ sym (sum_by-cons (λ x. weight (piece_tree x)) x xs)
+    sum_by-cons weight (partial_match_tree x) (partial_match_trees xs) ∙ ap (λ n. weight (partial_match_tree x) + n) (sum_of weight xs) ∙ sym (sum_by-cons (λ x. weight (partial_match_tree x)) x xs)
 
-pub same_removed : (weight : PieceTree → ℕ) (old removed : List Piece) (x d : Piece) → 0 < length old → removed ≡ swap_remove old 0 x →
-    weight (piece_tree (get_or old 0 d)) + sum_by weight (piece_trees removed) ≡ sum_by weight (piece_trees old)
+pub same_removed : (weight : PartialMatchTree → ℕ) (old removed : List PartialMatch) (x d : PartialMatch) → 0 < length old → removed ≡ swap_remove old 0 x →
+    weight (partial_match_tree (get_or old 0 d)) + sum_by weight (partial_match_trees removed) ≡ sum_by weight (partial_match_trees old)
 same_removed weight old removed x d some e =
-    let f = λ (x : Piece). weight (piece_tree x) in
-    let first : weight (piece_tree (get_or old 0 d)) ≡ f (get_or old 0 x) = ap f (get_or_default old 0 d x some) in
-    let less : sum_by weight (piece_trees removed) ≡ sum_by f (swap_remove old 0 x) = ap (λ y. sum_by weight (piece_trees y)) e ∙ sum_of weight (swap_remove old 0 x) in
+    let f = λ (x : PartialMatch). weight (partial_match_tree x) in
+    let first : weight (partial_match_tree (get_or old 0 d)) ≡ f (get_or old 0 x) = ap f (get_or_default old 0 d x some) in
+    let less : sum_by weight (partial_match_trees removed) ≡ sum_by f (swap_remove old 0 x) = ap (λ y. sum_by weight (partial_match_trees y)) e ∙ sum_of weight (swap_remove old 0 x) in
     let all : sum_by f (swap_remove old 0 x) + f (get_or old 0 x) ≡ sum_by f old = sum_by-swap_remove f old 0 x some in
-    let whole : sum_by weight (piece_trees old) ≡ sum_by f old = sum_of weight old in
+    let whole : sum_by weight (partial_match_trees old) ≡ sum_by f old = sum_of weight old in
     omega (arith, first, less, all, whole)
 
--- ---- what lives of the same things is the same
+-- ---- what retains of the same things is the same
 
 zero_more : (n : ℕ) → n ≡ 0 + n
 zero_more n = omega arith
 
-sum_kept : (weight : PieceTree → ℕ) (w : Window) (t : ℤ) (held : List PieceTree) → sum_by weight (kept w t held) ≡ sum_by (λ h. cond (lives w h.earliest t) (weight h) 0) held
+sum_kept : (weight : PartialMatchTree → ℕ) (w : Window) (t : ℤ) (held : List PartialMatchTree) → sum_by weight (kept w t held) ≡ sum_by (λ h. cond (retains w h.earliest t) (weight h) 0) held
 sum_kept weight w t [] = refl
-sum_kept weight w t (h ∷ held) = by (lives w h.earliest t) refl (sum_kept weight w t held) ∙ sym (sum_by-cons (λ h. cond (lives w h.earliest t) (weight h) 0) h held) where
-  by : (b : Bool) → lives w h.earliest t ≡ b → sum_by weight (kept w t held) ≡ sum_by (λ h. cond (lives w h.earliest t) (weight h) 0) held →
-      sum_by weight (kept w t (h ∷ held)) ≡ cond (lives w h.earliest t) (weight h) 0 + sum_by (λ h. cond (lives w h.earliest t) (weight h) 0) held
+sum_kept weight w t (h ∷ held) = by (retains w h.earliest t) refl (sum_kept weight w t held) ∙ sym (sum_by-cons (λ h. cond (retains w h.earliest t) (weight h) 0) h held) where
+  by : (b : Bool) → retains w h.earliest t ≡ b → sum_by weight (kept w t held) ≡ sum_by (λ h. cond (retains w h.earliest t) (weight h) 0) held →
+      sum_by weight (kept w t (h ∷ held)) ≡ cond (retains w h.earliest t) (weight h) 0 + sum_by (λ h. cond (retains w h.earliest t) (weight h) 0) held
   by true e ih = rw e (sum_by-cons weight h (kept w t held) ∙ ap (λ n. weight h + n) ih)
-  by false e ih = rw e (ih ∙ zero_more (sum_by (λ h. cond (lives w h.earliest t) (weight h) 0) held))
+  by false e ih = rw e (ih ∙ zero_more (sum_by (λ h. cond (retains w h.earliest t) (weight h) 0) held))
 
-pub same_kept : (w : Window) (t : ℤ) (held other : List PieceTree) → AreSame held other → AreSame (kept w t held) (kept w t other)
-same_kept w t held other e weight = sum_kept weight w t other ∙ e (λ h. cond (lives w h.earliest t) (weight h) 0) ∙ sym (sum_kept weight w t held)
+pub same_kept : (w : Window) (t : ℤ) (held other : List PartialMatchTree) → AreSameMultiset held other → AreSameMultiset (kept w t held) (kept w t other)
+same_kept w t held other e weight = sum_kept weight w t other ∙ e (λ h. cond (retains w h.earliest t) (weight h) 0) ∙ sym (sum_kept weight w t held)
 
--- a thing that doesn't live is no part of it
-pub same_without : (w : Window) (t : ℤ) (h : PieceTree) (held other : List PieceTree) → lives w h.earliest t ≡ false → AreSame held (h ∷ other) → AreSame (kept w t held) (kept w t other)
+-- a thing that doesn't retained is no part of it
+pub same_without : (w : Window) (t : ℤ) (h : PartialMatchTree) (held other : List PartialMatchTree) → retains w h.earliest t ≡ false → AreSameMultiset held (h ∷ other) → AreSameMultiset (kept w t held) (kept w t other)
 same_without w t h held other gone e weight =
     ap (sum_by weight) (only gone) ∙ same_kept w t held (h ∷ other) e weight where
-      only : lives w h.earliest t ≡ false → kept w t other ≡ kept w t (h ∷ other)
+      only : retains w h.earliest t ≡ false → kept w t other ≡ kept w t (h ∷ other)
       only k = rw k refl
 
 -- the first thing, where there is one
-pub first_of : (held : List Piece) (x d : Piece) → ◌≡◌ {A = Option Piece} (Some x) (slice_get held 0) → x ≡ get_or held 0 d
+pub first_of : (held : List PartialMatch) (x d : PartialMatch) → ◌≡◌ {A = Option PartialMatch} (Some x) (slice_get held 0) → x ≡ get_or held 0 d
 first_of [] x d e = absurd (cc)
 first_of (y ∷ held) x d e = cc

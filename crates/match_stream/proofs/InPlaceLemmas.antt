@@ -7,9 +7,9 @@ use Rattle.std.proofs.lemmas.List.Edits.{map_over_more}
 use Rattle.match_bindings.specs.declared.bind.Bind.{Bind}
 use Rattle.match_bindings.specs.declared.bind.Bind.TheVariants.{One as Only}
 use Rattle.match_bindings.specs.BindTree.{BindTree, tree_of}
-use Rattle.match_stream.specs.declared.piece.Piece.{Piece}
-use Rattle.match_stream.specs.PieceTree.{PieceTree}
-use Rattle.match_stream.specs.inner.Pieces.{piece_tree}
+use Rattle.match_stream.specs.declared.partial_match.PartialMatch.{PartialMatch}
+use Rattle.match_stream.specs.PartialMatchTree.{PartialMatchTree}
+use Rattle.match_stream.specs.inner.PartialMatches.{partial_match_tree}
 use Rattle.match_stream.specs.inner.Steps.{held_with}
 use Rattle.match_stream.specs.inner.Numbers.{numbers}
 use Rattle.match_stream.proofs.PicksLemmas.{once_one}
@@ -35,8 +35,8 @@ pub once_only : (bind : Bind) → bind ≡ Only 0 → IsDistinct nat_eq (numbers
 once_only bind is = subst (λ (b : Bind). IsDistinct nat_eq (numbers (tree_of b))) (sym is) (once_one 0)
 
 -- a thing, wrapped
-pub wrapped_there : (wrap : BindTree → BindTree) (tree : BindTree) (x there : Piece) → tree ≡ wrap (tree_of x.bind) → x ≡ there →
-    record { tree = tree; earliest = there.earliest; latest = there.latest } ≡ held_with wrap (piece_tree x)
+pub wrapped_there : (wrap : BindTree → BindTree) (tree : BindTree) (x there : PartialMatch) → tree ≡ wrap (tree_of x.bind) → x ≡ there →
+    record { tree = tree; earliest = there.earliest; latest = there.latest } ≡ held_with wrap (partial_match_tree x)
 wrapped_there wrap tree x there same is =
-    let seen : BindTree → Piece → PieceTree = λ t p. record { tree = t; earliest = p.earliest; latest = p.latest } in
-    ap (λ t. seen t there) same ∙ ap (seen (wrap (tree_of x.bind))) (sym is)
+    let observable_state : BindTree → PartialMatch → PartialMatchTree = λ t p. record { tree = t; earliest = p.earliest; latest = p.latest } in
+    ap (λ t. observable_state t there) same ∙ ap (observable_state (wrap (tree_of x.bind))) (sym is)

@@ -72,7 +72,7 @@ pub level_law : (mk : BindTree → BindTree → BindTree) → Joins mk → (n : 
     ((m b : BindTree) → q b ≡ true → p m ≡ true → has n b ≡ true → has n m ≡ false → lt m b ≡ true) →
     ((m b : BindTree) → q b ≡ true → p m ≡ true → has n m ≡ true → lt m b ≡ false) →
     (m b : BindTree) → count (mk m b) (pairs mk d old new) ≡ bit (((p m && q b && (d m b && lt m b)) && (x m && y b)) && (has n m || has n b))
-level_law mk j n p x q y d lt old new ho hn rises falls m b =
+level_law mk j n p x q y d lt old new ho hn ascends falls m b =
     count_pairs mk j d m b old new
     ∙ (let e1 = ho m in let e2 = hn b in rw (e1, e2) refl)
-    ∙ level_bits (d m b) (lt m b) (p m) (x m) (has n m) (q b) (y b) (has n b) (rises m b) (falls m b)
+    ∙ level_bits (d m b) (lt m b) (p m) (x m) (has n m) (q b) (y b) (has n b) (ascends m b) (falls m b)

@@ -14,8 +14,8 @@ use Rattle.match_bindings.specs.Once.{same, count}
 use Rattle.match_pruning.specs.declared.window.Window.{Window}
 use Rattle.match_pruning.specs.Stores.{window_of}
 use Rattle.match_stream.specs.declared.join.Join.TheVariants as join
-use Rattle.match_stream.specs.PieceTree.{PieceTree, hold}
-use Rattle.match_stream.specs.inner.Lives.{lives}
+use Rattle.match_stream.specs.PartialMatchTree.{PartialMatchTree, hold}
+use Rattle.match_stream.specs.inner.Retains.{retains}
 use Rattle.match_stream.specs.inner.Steps.{SideStores, State, a_leaf, a_join, a_choice, a_limit, a_chain}
 use Rattle.match_bindings.proofs.OnceLemmas.{same_self}
 use Rattle.match_stream.proofs.NumberLemmas.{both_parts}
@@ -23,7 +23,7 @@ use Rattle.match_stream.proofs.StoreLemmas.{AreHeld, exactly_same, held_same, bi
 use Rattle.match_stream.proofs.StepLemmas.{SidesStand, LevelsStand, AllLevelsStand, Stands, all_of, without}
 
 -- a log goes on in another one, whose new row is n
-pub record GoesOn (o o' : Observed) (n : ℕ) : Type 0 where
+pub record Continues (o o' : Observed) (n : ℕ) : Type 0 where
   pub holds : (k i : ℕ) → o.holds k i ≡ (o'.holds k i && not (nat_eq n i))
   pub first : (k i : ℕ) → o.holds k i ≡ true → o.first i ≡ o'.first i
   pub last : (k i : ℕ) → o.holds k i ≡ true → o.last i ≡ o'.last i
@@ -46,7 +46,7 @@ many_times o o' f h (suc (suc j)) (More m a) k =
 many_times o o' f h j x k = absurd (cc)
 
 -- the times of a binding stay
-pub same_times : (o o' : Observed) (n : ℕ) → GoesOn o o' n → (p : NumberedPattern) (x : BindTree) → is_binding o p x ≡ true → SameTimes o o' x
+pub same_times : (o o' : Observed) (n : ℕ) → Continues o o' n → (p : NumberedPattern) (x : BindTree) → is_binding o p x ≡ true → SameTimes o o' x
 same_times o o' n g (Leaf k) (One i) h = (g.first k i h, g.last k i h)
 same_times o o' n g (Both p q) (Pair a b) h =
     let parts = both_parts (is_binding o p a) (is_binding o q b) (disjoint a b) h in
@@ -108,7 +108,7 @@ one_bits false c c' h = refl
 one_bits true c c' h = h refl
 
 -- a binding over the longer log without the new row is one over the shorter
-pub lasting : (o o' : Observed) (n : ℕ) → GoesOn o o' n → (p : NumberedPattern) (x : BindTree) → is_binding o p x ≡ (is_binding o' p x && not (has n x))
+pub lasting : (o o' : Observed) (n : ℕ) → Continues o o' n → (p : NumberedPattern) (x : BindTree) → is_binding o p x ≡ (is_binding o' p x && not (has n x))
 lasting o o' n g (Leaf k) (One i) = g.holds k i
 lasting o o' n g (Both p q) (Pair a b) =
     ap (λ z. z && is_binding o q b && disjoint a b) (lasting o o' n g p a)
@@ -141,7 +141,7 @@ lasting o o' n g p x = refl
 
 -- ---- what is held
 
-map_same : (f g : BindTree → PieceTree) (xs : List BindTree) → ((x : BindTree) → 0 < count x xs → f x ≡ g x) → map f xs ≡ map g xs
+map_same : (f g : BindTree → PartialMatchTree) (xs : List BindTree) → ((x : BindTree) → 0 < count x xs → f x ≡ g x) → map f xs ≡ map g xs
 map_same f g [] h = refl
 map_same f g (x ∷ xs) h =
     let me : same x x ≡ true = same_self x in
@@ -152,24 +152,24 @@ map_same f g (x ∷ xs) h =
 same_hold : (o o' : Observed) (x : BindTree) → SameTimes o o' x → hold o x ≡ hold o' x
 same_hold o o' x e = ap (λ z. record { tree = x; earliest = z; latest = latest o.last x }) e.0 ∙ ap (λ z. record { tree = x; earliest = earliest o'.first x; latest = z }) e.1
 
-lasting_store : (o o' : Observed) (n : ℕ) (s : ℤ) (v : Window) (f f' : BindTree → Bool) (held : List PieceTree) →
+lasting_store : (o o' : Observed) (n : ℕ) (s : ℤ) (v : Window) (f f' : BindTree → Bool) (held : List PartialMatchTree) →
     ((x : BindTree) → f x ≡ true → SameTimes o o' x) → ((x : BindTree) → f x ≡ (f' x && not (has n x))) →
-    AreHeld o (λ x. f x && lives v (earliest o.first x) s) held →
-    AreHeld o' (λ x. (f' x && not (has n x)) && lives v (earliest o'.first x) s) held
+    AreHeld o (λ x. f x && retains v (earliest o.first x) s) held →
+    AreHeld o' (λ x. (f' x && not (has n x)) && retains v (earliest o'.first x) s) held
 lasting_store o o' n s v f f' held times still (xs, is, each) = (
   xs,
   is ∙ map_same (hold o) (hold o') xs (λ x k.
-      let binding : f x ≡ true = (and_parts _ _ (bit_positive (f x && lives v (earliest o.first x) s) (count x xs) (each x) k)).0 in
+      let binding : f x ≡ true = (and_parts _ _ (bit_positive (f x && retains v (earliest o.first x) s) (count x xs) (each x) k)).0 in
       same_hold o o' x (times x binding)),
-  exactly_same (λ x. f x && lives v (earliest o.first x) s) (λ x. (f' x && not (has n x)) && lives v (earliest o'.first x) s) xs
-      (λ x. one_bits (f x) (lives v (earliest o.first x) s) (lives v (earliest o'.first x) s) (λ h. ap (λ z. lives v z s) (times x h).0)
-      ∙ ap (λ z. z && lives v (earliest o'.first x) s) (still x))
+  exactly_same (λ x. f x && retains v (earliest o.first x) s) (λ x. (f' x && not (has n x)) && retains v (earliest o'.first x) s) xs
+      (λ x. one_bits (f x) (retains v (earliest o.first x) s) (retains v (earliest o'.first x) s) (λ h. ap (λ z. retains v z s) (times x h).0)
+      ∙ ap (λ z. z && retains v (earliest o'.first x) s) (still x))
       each,
 )
 
 lasting_levels : (o o' : Observed) (n : ℕ) (s : ℤ) (w : Bounds) (f f' : ℕ → BindTree → Bool) (count : ℕ) →
     ((j : ℕ) (x : BindTree) → f j x ≡ true → SameTimes o o' x) → ((j : ℕ) (x : BindTree) → f j x ≡ (f' j x && not (has n x))) →
-    (j : ℕ) (levels : List (List PieceTree)) → LevelsStand o f s w count j levels → LevelsStand o' (λ i x. f' i x && not (has n x)) s w count j levels
+    (j : ℕ) (levels : List (List PartialMatchTree)) → LevelsStand o f s w count j levels → LevelsStand o' (λ i x. f' i x && not (has n x)) s w count j levels
 lasting_levels o o' n s w f f' count times still j [] st = st
 lasting_levels o o' n s w f f' count times still j (held ∷ levels) st = (
   lasting_store o o' n s (window_of w false) (f j) (f' j) held (times j) (still j) st.0,
@@ -178,7 +178,7 @@ lasting_levels o o' n s w f f' count times still j (held ∷ levels) st = (
 
 lasting_all_levels : (o o' : Observed) (n : ℕ) (s : ℤ) (w : Bounds) (f f' : ℕ → BindTree → Bool) (count : ℕ) →
     ((j : ℕ) (x : BindTree) → f j x ≡ true → SameTimes o o' x) → ((j : ℕ) (x : BindTree) → f j x ≡ (f' j x && not (has n x))) →
-    (levels : List (List PieceTree)) → AllLevelsStand o f s w count levels → AllLevelsStand o' (λ i x. f' i x && not (has n x)) s w count levels
+    (levels : List (List PartialMatchTree)) → AllLevelsStand o f s w count levels → AllLevelsStand o' (λ i x. f' i x && not (has n x)) s w count levels
 lasting_all_levels o o' n s w f f' zero times still levels st = st
 lasting_all_levels o o' n s w f f' (suc count) times still levels st = lasting_levels o o' n s w f f' (suc count) times still 1 levels st
 
@@ -193,7 +193,7 @@ lasting_sides o o' n s w v f f' g g' sides tf sf tg sg st = record {
   right = lasting_store o o' n s v g g' sides.right tg sg st.right;
 }
 
-pub lasting_stands : (o o' : Observed) (n : ℕ) (s : ℤ) → GoesOn o o' n →
+pub lasting_stands : (o o' : Observed) (n : ℕ) (s : ℤ) → Continues o o' n →
     (p : NumberedPattern) (w : Bounds) (z : State) → Stands o (all_of o) s w p z → Stands o' (without n o') s w p z
 lasting_stands o o' n s g (Leaf k) w (a_leaf leaf window) st = st
 lasting_stands o o' n s g (Both p q) w (a_join join.Both l r sides) st = (
@@ -229,16 +229,16 @@ no_sets f h (suc zero) (Single a) = h a
 no_sets f h (suc (suc j)) (More m a) = rw (no_sets f h (suc j) m) refl
 no_sets f h j x = refl
 
-any_store : (o : Observed) (f : BindTree → Bool) (v : Window) (s t : ℤ) (held : List PieceTree) → ((x : BindTree) → f x ≡ false) →
-    AreHeld o (λ x. f x && lives v (earliest o.first x) s) held → AreHeld o (λ x. f x && lives v (earliest o.first x) t) held
-any_store o f v s t held h = held_same o (λ x. f x && lives v (earliest o.first x) s) (λ x. f x && lives v (earliest o.first x) t) held (λ x. let no = h x in rw no refl)
+any_store : (o : Observed) (f : BindTree → Bool) (v : Window) (s t : ℤ) (held : List PartialMatchTree) → ((x : BindTree) → f x ≡ false) →
+    AreHeld o (λ x. f x && retains v (earliest o.first x) s) held → AreHeld o (λ x. f x && retains v (earliest o.first x) t) held
+any_store o f v s t held h = held_same o (λ x. f x && retains v (earliest o.first x) s) (λ x. f x && retains v (earliest o.first x) t) held (λ x. let no = h x in rw no refl)
 
-any_levels : (o : Observed) (f : ℕ → BindTree → Bool) (w : Bounds) (s t : ℤ) (n j : ℕ) (levels : List (List PieceTree)) → ((j : ℕ) (x : BindTree) → f j x ≡ false) →
+any_levels : (o : Observed) (f : ℕ → BindTree → Bool) (w : Bounds) (s t : ℤ) (n j : ℕ) (levels : List (List PartialMatchTree)) → ((j : ℕ) (x : BindTree) → f j x ≡ false) →
     LevelsStand o f s w n j levels → LevelsStand o f t w n j levels
 any_levels o f w s t n j [] h st = st
 any_levels o f w s t n j (held ∷ levels) h st = (any_store o (f j) (window_of w false) s t held (h j) st.0, any_levels o f w s t n (suc j) levels h st.1)
 
-any_all_levels : (o : Observed) (f : ℕ → BindTree → Bool) (w : Bounds) (s t : ℤ) (n : ℕ) (levels : List (List PieceTree)) → ((j : ℕ) (x : BindTree) → f j x ≡ false) →
+any_all_levels : (o : Observed) (f : ℕ → BindTree → Bool) (w : Bounds) (s t : ℤ) (n : ℕ) (levels : List (List PartialMatchTree)) → ((j : ℕ) (x : BindTree) → f j x ≡ false) →
     AllLevelsStand o f s w n levels → AllLevelsStand o f t w n levels
 any_all_levels o f w s t zero levels h st = st
 any_all_levels o f w s t (suc n) levels h st = any_levels o f w s t (suc n) 1 levels h st

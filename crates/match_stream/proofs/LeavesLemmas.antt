@@ -10,14 +10,14 @@ use Rattle.std.proofs.lemmas.Bool.Decides.{Decides-int_eq}
 use Rattle.match_bindings.specs.BindTree.{First, Second, firsts}
 use Rattle.match_pruning.specs.declared.window.Window.{Window}
 use Rattle.match_stream.specs.declared.row.Row.{Row}
-use Rattle.match_stream.specs.PieceTree.{PieceTree}
-use Rattle.match_stream.specs.LivePart.{held_count}
-use Rattle.match_stream.specs.inner.Lives.{lives}
+use Rattle.match_stream.specs.PartialMatchTree.{PartialMatchTree}
+use Rattle.match_stream.specs.RetainedPart.{held_count}
+use Rattle.match_stream.specs.inner.Retains.{retains}
 use Rattle.match_stream.specs.inner.Steps.{a_leaf, a_choice, held_with, truth_at, row_alone, new_at_leaf, leaves_state, step_new, step_state, contents_of, expired}
-use Rattle.match_stream.specs.inner.Wanted.{Ahead, is_wanted, wanted}
+use Rattle.match_stream.specs.inner.Needed.{PendingLeftTrees, is_needed, needed}
 use Rattle.match_stream.specs.inner.Totals.{held_after}
-use Rattle.match_stream.specs.inner.Arranged.{IsArranged}
-use Rattle.match_stream.proofs.TotalLemmas.{either_wanted}
+use Rattle.match_stream.specs.inner.UpToOrder.{IsSameUpToOrder}
+use Rattle.match_stream.proofs.TotalLemmas.{either_needed}
 use Rattle.match_stream.proofs.UnderFirstsLemmas.{under_none, choice_under}
 
 -- one more is on the right of them all
@@ -42,7 +42,7 @@ pub leaves_count : (row : Row) (truths : List Bool) (first n : ℕ) (w : Window)
 leaves_count row truths first n w =
     ap (λ z. held_count (contents_of z)) (leaves_stay row truths first n w) ∙ ap held_count (leaves_hold_nothing first n w)
 
-pub leaves_arranged : (now : ℤ) (first n : ℕ) (w : Window) → IsArranged (expired now (leaves_state first n w)) (leaves_state first n w)
+pub leaves_arranged : (now : ℤ) (first n : ℕ) (w : Window) → IsSameUpToOrder (expired now (leaves_state first n w)) (leaves_state first n w)
 leaves_arranged now first zero w = refl
 leaves_arranged now first (suc n) w = (leaves_arranged now first n w, refl)
 
@@ -57,16 +57,16 @@ new_with_one row truths first at n w =
     ap (λ z. map (held_with (firsts n)) (step_new row truths z)) (one_more first at w)
     ∙ sym (choice_under n (step_new row truths (leaves_state first at w)) (new_at_leaf row truths (first + at + 1) w))
 
--- a leaf that holds has the row alone where it lives, and one that doesn't nothing
-pub leaf_holds : (row : Row) (truths : List Bool) (k : ℕ) (w : Window) → truth_at truths k ≡ true → lives w row.first row.last ≡ true →
+-- a leaf that holds has the row alone where it retains, and one that doesn't nothing
+pub leaf_holds : (row : Row) (truths : List Bool) (k : ℕ) (w : Window) → truth_at truths k ≡ true → retains w row.first row.last ≡ true →
     new_at_leaf row truths k w ≡ row_alone row ∷ []
-leaf_holds row truths k w holds live = rw (holds, live) refl
+leaf_holds row truths k w holds retained = rw (holds, retained) refl
 
 pub leaf_off : (row : Row) (truths : List Bool) (k : ℕ) (w : Window) → truth_at truths k ≡ false → new_at_leaf row truths k w ≡ []
 leaf_off row truths k w off = rw off refl
 
 -- what is made after one leaf more of so many
-pub made_more : (row : Row) (truths : List Bool) (first at more : ℕ) (w : Window) (made new one : List PieceTree) → at < more →
+pub made_more : (row : Row) (truths : List Bool) (first at more : ℕ) (w : Window) (made new one : List PartialMatchTree) → at < more →
     made ≡ map (held_with (firsts (more - at))) (step_new row truths (leaves_state first at w)) → new_at_leaf row truths (first + at + 1) w ≡ one →
     new ≡ made ++ map (held_with (firsts (more - at - 1))) (map (held_with Second) one) →
     new ≡ map (held_with (firsts (more - (at + 1)))) (step_new row truths (leaves_state first (at + 1) w))
@@ -81,16 +81,16 @@ made_more row truths first at more w made new one inside before leaf is =
     ∙ ap (λ k. map (held_with (firsts k)) (step_new row truths (leaves_state first (at + 1) w))) (sym same)
 
 -- and after all
-pub made_all : (row : Row) (truths : List Bool) (first at more : ℕ) (w : Window) (made : List PieceTree) → at ≡ more →
+pub made_all : (row : Row) (truths : List Bool) (first at more : ℕ) (w : Window) (made : List PartialMatchTree) → at ≡ more →
     made ≡ map (held_with (firsts (more - at))) (step_new row truths (leaves_state first at w)) → made ≡ step_new row truths (leaves_state first more w)
 made_all row truths first at more w made all is =
     let none : more - at ≡ 0 = omega (arith, all) in
     is ∙ ap (λ k. map (held_with (firsts k)) (step_new row truths (leaves_state first at w))) none ∙ under_none (step_new row truths (leaves_state first at w))
     ∙ ap (λ k. step_new row truths (leaves_state first k w)) all
 
--- nothing where the row doesn't live
-pub none_lives : (row : Row) (truths : List Bool) (first n : ℕ) (w : Window) → lives w row.first row.last ≡ false → step_new row truths (leaves_state first n w) ≡ []
-none_lives row truths first n w dead = each n where
+-- nothing where the row doesn't retained
+pub none_retains : (row : Row) (truths : List Bool) (first n : ℕ) (w : Window) → retains w row.first row.last ≡ false → step_new row truths (leaves_state first n w) ≡ []
+none_retains row truths first n w dead = each n where
   leaf : (k : ℕ) → new_at_leaf row truths k w ≡ []
   leaf k = by (truth_at truths k) refl where
     by : (a : Bool) → truth_at truths k ≡ a → new_at_leaf row truths k w ≡ []
@@ -103,33 +103,33 @@ none_lives row truths first n w dead = each n where
       ap (λ z. map (held_with First) z ++ map (held_with Second) (new_at_leaf row truths (first + n + 1) w)) (each n)
       ∙ ap (map (held_with Second)) (leaf (first + n + 1))
 
--- all is wanted where the row alone is, and nothing where it isn't
-module _ (row : Row) (truths : List Bool) (ahead : List Ahead) (w : Window) where
-  leaf_wanted : is_wanted row.last ahead (row_alone row) ≡ true → (k : ℕ) → wanted row.last ahead (new_at_leaf row truths k w) ≡ new_at_leaf row truths k w
-  leaf_wanted is k = by (truth_at truths k && lives w row.first row.last) refl where
-    by : (a : Bool) → (truth_at truths k && lives w row.first row.last) ≡ a → wanted row.last ahead (new_at_leaf row truths k w) ≡ new_at_leaf row truths k w
+-- all is needed where the row alone is, and nothing where it isn't
+module _ (row : Row) (truths : List Bool) (ahead : List PendingLeftTrees) (w : Window) where
+  leaf_needed : is_needed row.last ahead (row_alone row) ≡ true → (k : ℕ) → needed row.last ahead (new_at_leaf row truths k w) ≡ new_at_leaf row truths k w
+  leaf_needed is k = by (truth_at truths k && retains w row.first row.last) refl where
+    by : (a : Bool) → (truth_at truths k && retains w row.first row.last) ≡ a → needed row.last ahead (new_at_leaf row truths k w) ≡ new_at_leaf row truths k w
     by false at = rw at refl
     by true at = rw (at, is) refl
 
-  leaf_unwanted : is_wanted row.last ahead (row_alone row) ≡ false → (k : ℕ) → wanted row.last ahead (new_at_leaf row truths k w) ≡ []
-  leaf_unwanted is k = by (truth_at truths k && lives w row.first row.last) refl where
-    by : (a : Bool) → (truth_at truths k && lives w row.first row.last) ≡ a → wanted row.last ahead (new_at_leaf row truths k w) ≡ []
+  leaf_unwanted : is_needed row.last ahead (row_alone row) ≡ false → (k : ℕ) → needed row.last ahead (new_at_leaf row truths k w) ≡ []
+  leaf_unwanted is k = by (truth_at truths k && retains w row.first row.last) refl where
+    by : (a : Bool) → (truth_at truths k && retains w row.first row.last) ≡ a → needed row.last ahead (new_at_leaf row truths k w) ≡ []
     by false at = rw at refl
     by true at = rw (at, is) refl
 
-  pub all_wanted : is_wanted row.last ahead (row_alone row) ≡ true → (first n : ℕ) →
-      wanted row.last ahead (step_new row truths (leaves_state first n w)) ≡ step_new row truths (leaves_state first n w)
-  all_wanted is first zero = leaf_wanted is first
-  all_wanted is first (suc n) =
-      sym (either_wanted row.last ahead (step_new row truths (leaves_state first n w)) (new_at_leaf row truths (first + n + 1) w))
-      ∙ ap (λ z. map (held_with First) z ++ map (held_with Second) (wanted row.last ahead (new_at_leaf row truths (first + n + 1) w))) (all_wanted is first n)
-      ∙ ap (λ z. map (held_with First) (step_new row truths (leaves_state first n w)) ++ map (held_with Second) z) (leaf_wanted is (first + n + 1))
+  pub all_needed : is_needed row.last ahead (row_alone row) ≡ true → (first n : ℕ) →
+      needed row.last ahead (step_new row truths (leaves_state first n w)) ≡ step_new row truths (leaves_state first n w)
+  all_needed is first zero = leaf_needed is first
+  all_needed is first (suc n) =
+      sym (either_needed row.last ahead (step_new row truths (leaves_state first n w)) (new_at_leaf row truths (first + n + 1) w))
+      ∙ ap (λ z. map (held_with First) z ++ map (held_with Second) (needed row.last ahead (new_at_leaf row truths (first + n + 1) w))) (all_needed is first n)
+      ∙ ap (λ z. map (held_with First) (step_new row truths (leaves_state first n w)) ++ map (held_with Second) z) (leaf_needed is (first + n + 1))
 
-  pub none_wanted : is_wanted row.last ahead (row_alone row) ≡ false → (first n : ℕ) → wanted row.last ahead (step_new row truths (leaves_state first n w)) ≡ []
-  none_wanted is first zero = leaf_unwanted is first
-  none_wanted is first (suc n) =
-      sym (either_wanted row.last ahead (step_new row truths (leaves_state first n w)) (new_at_leaf row truths (first + n + 1) w))
-      ∙ ap (λ z. map (held_with First) z ++ map (held_with Second) (wanted row.last ahead (new_at_leaf row truths (first + n + 1) w))) (none_wanted is first n)
+  pub none_needed : is_needed row.last ahead (row_alone row) ≡ false → (first n : ℕ) → needed row.last ahead (step_new row truths (leaves_state first n w)) ≡ []
+  none_needed is first zero = leaf_unwanted is first
+  none_needed is first (suc n) =
+      sym (either_needed row.last ahead (step_new row truths (leaves_state first n w)) (new_at_leaf row truths (first + n + 1) w))
+      ∙ ap (λ z. map (held_with First) z ++ map (held_with Second) (needed row.last ahead (new_at_leaf row truths (first + n + 1) w))) (none_needed is first n)
       ∙ ap (map (held_with Second)) (leaf_unwanted is (first + n + 1))
 
 -- ---- windows that `==` finds alike
@@ -147,11 +147,11 @@ int_is : (a b : ℤ) → int_eq a b ≡ true → a ≡ b
 int_is a b = (Decides-int_eq a b).0
 
 pub window_is : (a b : Window) →
-    (option_eq nat_eq a.seconds b.seconds && (option_eq int_eq a.start b.start && (option_eq int_eq a.stop b.stop && beq a.behind b.behind))) ≡ true → a ≡ b
+    (option_eq nat_eq a.seconds b.seconds && (option_eq int_eq a.start b.start && (option_eq int_eq a.stop b.stop && beq a.after_left b.after_left))) ≡ true → a ≡ b
 window_is a b h =
-    let one = and_parts (option_eq nat_eq a.seconds b.seconds) (option_eq int_eq a.start b.start && (option_eq int_eq a.stop b.stop && beq a.behind b.behind)) h in
-    let two = and_parts (option_eq int_eq a.start b.start) (option_eq int_eq a.stop b.stop && beq a.behind b.behind) one.1 in
-    let three = and_parts (option_eq int_eq a.stop b.stop) (beq a.behind b.behind) two.1 in
+    let one = and_parts (option_eq nat_eq a.seconds b.seconds) (option_eq int_eq a.start b.start && (option_eq int_eq a.stop b.stop && beq a.after_left b.after_left)) h in
+    let two = and_parts (option_eq int_eq a.start b.start) (option_eq int_eq a.stop b.stop && beq a.after_left b.after_left) one.1 in
+    let three = and_parts (option_eq int_eq a.stop b.stop) (beq a.after_left b.after_left) two.1 in
     let e = option_is nat_eq eqb-true a.seconds b.seconds one.0 in let f = option_is int_eq int_is a.start b.start two.0 in
-    let g = option_is int_eq int_is a.stop b.stop three.0 in let k = bool_is a.behind b.behind three.1 in
-    λ i. record { seconds = e i; start = f i; stop = g i; behind = k i }
+    let g = option_is int_eq int_is a.stop b.stop three.0 in let k = bool_is a.after_left b.after_left three.1 in
+    λ i. record { seconds = e i; start = f i; stop = g i; after_left = k i }

@@ -10,21 +10,21 @@ use Rattle.match_bindings.specs.BindTree.{BindTree, has, greatest}
 use Rattle.match_bindings.specs.Log.{Observed, observed_in}
 use Rattle.match_bindings.specs.Test.{is_binding}
 use Rattle.match_bindings.specs.Once.{bit, same, count, Exactly}
-use Rattle.match_bindings.specs.Flat.{comes_before, Rises}
+use Rattle.match_bindings.specs.Flat.{comes_before, Ascends}
 use Rattle.match_bindings.specs.Listing.{IsListing}
 use Rattle.match_stream.specs.Answer.{IsAnswer, AnswersAfter, AreAnswers, joined_answers}
 use Rattle.match_bindings.proofs.OnceLemmas.{same_self, count_append}
 use Rattle.match_stream.proofs.NumberLemmas.{greatest_binding}
 use Rattle.match_stream.proofs.StoreLemmas.{bit_positive, sum_bits}
 use Rattle.match_stream.proofs.LastingLemmas.{lasting}
-use Rattle.match_stream.proofs.LogLemmas.{holds_inside, length_more, goes_on, nothing}
+use Rattle.match_stream.proofs.LogLemmas.{holds_inside, length_more, continues, nothing}
 use Rattle.match_stream.proofs.ShapeLemmas.{Rule}
 use Rattle.match_stream.proofs.AnswerLemmas.{ends_at}
 use Rattle.match_stream.proofs.CountLemmas.{answer_counts}
 
--- a listing is what passes the test, each once, rising
+-- a listing is what passes the test, each once, ascending
 abbrev pub ByTest : Type 0
-ByTest = (o : Observed) (p : NumberedPattern) (xs : List BindTree) → IsListing o p xs ↔ (Exactly (is_binding o p) xs × Rises xs)
+ByTest = (o : Observed) (p : NumberedPattern) (xs : List BindTree) → IsListing o p xs ↔ (Exactly (is_binding o p) xs × Ascends xs)
 
 -- what has the lesser greatest number comes first
 pub lesser_first : (x y : BindTree) → greatest x < greatest y → comes_before x y ≡ true
@@ -33,19 +33,19 @@ lesser_first x y h =
     let less : nat_cmp (greatest x) (greatest y) ≡ Less = rw yes_it_is refl in
     rw less refl
 
-pub rises_append : (xs ys : List BindTree) → Rises xs → Rises ys → ((x y : BindTree) → 0 < count x xs → 0 < count y ys → comes_before x y ≡ true) → Rises (xs ++ ys)
-rises_append [] ys hx hy h = hy
-rises_append (x ∷ []) [] hx hy h = tt
-rises_append (x ∷ []) (y ∷ ys) hx hy h =
+pub ascends_append : (xs ys : List BindTree) → Ascends xs → Ascends ys → ((x y : BindTree) → 0 < count x xs → 0 < count y ys → comes_before x y ≡ true) → Ascends (xs ++ ys)
+ascends_append [] ys hx hy h = hy
+ascends_append (x ∷ []) [] hx hy h = tt
+ascends_append (x ∷ []) (y ∷ ys) hx hy h =
     let me : same x x ≡ true = same_self x in let you : same y y ≡ true = same_self y in
     (h x y (rw me (omega arith)) (rw you (omega arith)), hy)
-rises_append (x ∷ z ∷ xs) ys hx hy h = (hx.0, rises_append (z ∷ xs) ys hx.1 hy (λ a b ka kb. h a b (omega (arith, ka)) kb))
+ascends_append (x ∷ z ∷ xs) ys hx hy h = (hx.0, ascends_append (z ∷ xs) ys hx.1 hy (λ a b ka kb. h a b (omega (arith, ka)) kb))
 
 -- one row more
 listing_more : Rule → ByTest → (p : NumberedPattern) (log : List LogEntry) (r : LogEntry) (xs ys : List BindTree) → IsListing (observed_in log) p xs → IsAnswer p (log ++ r ∷ []) ys →
     IsListing (observed_in (log ++ r ∷ [])) p (xs ++ ys)
-listing_more rule test p log r xs ys hx hy = (test (observed_in (log ++ r ∷ [])) p (xs ++ ys)).1 (exactly, rises_append xs ys old.1 hy.rises before) where
-  old : Exactly (is_binding (observed_in log) p) xs × Rises xs
+listing_more rule test p log r xs ys hx hy = (test (observed_in (log ++ r ∷ [])) p (xs ++ ys)).1 (exactly, ascends_append xs ys old.1 hy.ascends before) where
+  old : Exactly (is_binding (observed_in log) p) xs × Ascends xs
   old = (test (observed_in log) p xs).0 hx
 
   long : length (log ++ r ∷ []) ≡ suc (length log)
@@ -60,7 +60,7 @@ listing_more rule test p log r xs ys hx hy = (test (observed_in (log ++ r ∷ []
   exactly : (x : BindTree) → count x (xs ++ ys) ≡ bit (is_binding (observed_in (log ++ r ∷ [])) p x)
   exactly x =
       let one : count x xs ≡ bit (is_binding (observed_in (log ++ r ∷ [])) p x && not (has (suc (length log)) x)) =
-      old.0 x ∙ ap bit (lasting (observed_in log) (observed_in (log ++ r ∷ [])) (suc (length log)) (goes_on log r) p x) in
+      old.0 x ∙ ap bit (lasting (observed_in log) (observed_in (log ++ r ∷ [])) (suc (length log)) (continues log r) p x) in
       let two : count x ys ≡ bit (is_binding (observed_in (log ++ r ∷ [])) p x && has (suc (length log)) x) =
       new x ∙ ap bit (sym (ends_at (observed_in (log ++ r ∷ [])) (suc (length log)) counted p x)) in
       count_append x xs ys ∙ (rw (one, two) (sum_bits (is_binding (observed_in (log ++ r ∷ [])) p x) (has (suc (length log)) x)))

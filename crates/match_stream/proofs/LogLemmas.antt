@@ -14,14 +14,14 @@ use Rattle.match_bindings.proofs.IsBindingLemmas.{le_true}
 use Rattle.match_pruning.specs.declared.window.Window.{Window}
 use Rattle.match_pruning.specs.Stores.{window_of}
 use Rattle.match_stream.specs.declared.row.Row.{Row}
-use Rattle.match_stream.specs.LivePart.{time_of}
+use Rattle.match_stream.specs.RetainedPart.{time_of}
 use Rattle.match_stream.specs.MatcherState.{last_of, Falls}
-use Rattle.match_stream.specs.inner.Lives.{lives}
+use Rattle.match_stream.specs.inner.Retains.{retains}
 use Rattle.match_stream.specs.inner.Steps.{State, step_new, step_state, no_levels, empty_sides, empty_state}
-use Rattle.match_stream.proofs.LivesLemmas.{le_false, le_trans, le_self}
+use Rattle.match_stream.proofs.RetainsLemmas.{le_false, le_trans, le_self}
 use Rattle.match_stream.proofs.StoreLemmas.{AreHeld}
 use Rattle.match_stream.proofs.StepLemmas.{SidesStand, LevelsStand, AllLevelsStand, Stands, all_of, ends, Given, step_law}
-use Rattle.match_stream.proofs.LastingLemmas.{GoesOn, lasting_stands, no_sets, any_time}
+use Rattle.match_stream.proofs.LastingLemmas.{Continues, lasting_stands, no_sets, any_time}
 
 -- ---- rows
 
@@ -60,8 +60,8 @@ and_false : (b : Bool) → false ≡ (b && false)
 and_false true = refl
 and_false false = refl
 
-pub goes_on : (log : List LogEntry) (r : LogEntry) → GoesOn (observed_in log) (observed_in (log ++ r ∷ [])) (suc (length log))
-goes_on log r = record { holds = holds; first = first; last = last } where
+pub continues : (log : List LogEntry) (r : LogEntry) → Continues (observed_in log) (observed_in (log ++ r ∷ [])) (suc (length log))
+continues log r = record { holds = holds; first = first; last = last } where
   at : (k i : ℕ) → (i < length log) ⊎ ((i ≡ length log) ⊎ (length log < i)) →
       truth (slice_get log i) k ≡ (truth (slice_get (log ++ r ∷ []) i) k && not (nat_eq (suc (length log)) (suc i)))
   at k i (inl below) =
@@ -176,7 +176,7 @@ pub take_from : (p : NumberedPattern) (log : List LogEntry) (r : LogEntry) (s : 
     AreHeld (observed_in (log ++ r ∷ [])) (ends (observed_in (log ++ r ∷ [])) (suc (length log)) r.last no_bounds p) (step_new (row_after log r) r.truths z)
     × Stands (observed_in (log ++ r ∷ [])) (all_of (observed_in (log ++ r ∷ []))) (time_of (log ++ r ∷ [])) no_bounds p (step_state (row_after log r) r.truths z)
 take_from p log r s z order after early st =
-    let old = lasting_stands (observed_in log) (observed_in (log ++ r ∷ [])) (suc (length log)) s (goes_on log r) p no_bounds z st in
+    let old = lasting_stands (observed_in log) (observed_in (log ++ r ∷ [])) (suc (length log)) s (continues log r) p no_bounds z st in
     let law = step_law (observed_in (log ++ r ∷ [])) (row_after log r) r.truths s (given_row log r s order after early) p no_bounds z old in (
       law.0,
       subst (λ (u : ℤ). Stands (observed_in (log ++ r ∷ [])) (all_of (observed_in (log ++ r ∷ []))) u no_bounds p (step_state (row_after log r) r.truths z)) (sym (time_new log r)) law.1,
@@ -190,7 +190,7 @@ take_law p log r z order after st = let early = early_stands log r.last p no_bou
 
 -- ---- no rows
 
-none_held : (f : BindTree → Bool) → ((x : BindTree) → f x ≡ false) → (s : ℤ) (v : Window) → AreHeld (observed_in []) (λ x. f x && lives v (earliest (observed_in []).first x) s) []
+none_held : (f : BindTree → Bool) → ((x : BindTree) → f x ≡ false) → (s : ℤ) (v : Window) → AreHeld (observed_in []) (λ x. f x && retains v (earliest (observed_in []).first x) s) []
 none_held f h s v = ([], refl, λ x. let no_one = h x in rw no_one refl)
 
 no_levels_stand : (f : ℕ → BindTree → Bool) → ((j : ℕ) (x : BindTree) → f j x ≡ false) → (s : ℤ) (w : Bounds) (n k j : ℕ) → n ≡ k + j → LevelsStand (observed_in []) f s w n j (no_levels k)

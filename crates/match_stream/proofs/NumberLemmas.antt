@@ -9,7 +9,7 @@ use Rattle.match_bindings.specs.BindTree.{BindTree, One, Pair, First, Second, Em
 use Rattle.match_bindings.specs.Log.{Observed}
 use Rattle.match_bindings.specs.Span.{earliest, latest}
 use Rattle.match_bindings.specs.Test.{are_repeats, is_binding}
-use Rattle.match_stream.proofs.LivesLemmas.{le_self}
+use Rattle.match_stream.proofs.RetainsLemmas.{le_self}
 
 le_max_left : (t a b : ℤ) → t ≤ℤ a → t ≤ℤ int_max a b
 le_max_left t a b h = omega (arith, ints, clamps)

@@ -1,4 +1,4 @@
--- How much is live after a row whose answer isn't made: there is an answer, and it is as long as what ends there.
+-- How much is retained after a row whose answer isn't made: there is an answer, and it is as long as what ends there.
 use Rattle.std.proofs.Common.{◌≡◌, ℕ, suc, ◌+◌, ◌*◌, ◌≤◌, ℤ, List, length, refl, sym, ◌∙◌, ap, arith}
 use Rattle.std.specs.Prelude.{Bool, true, false, ◌&&◌, nat_eq, filter}
 use Rattle.std.proofs.lemmas.Bool.{eqb-true, eq-eqb}
@@ -12,21 +12,21 @@ use Rattle.match_bindings.specs.Test.{is_binding}
 use Rattle.match_bindings.specs.Once.{bit, count}
 use Rattle.match_bindings.proofs.OnceLemmas.{count_filter}
 use Rattle.match_stream.specs.declared.run.Run.{Run}
-use Rattle.match_stream.specs.PieceTree.{trees_in}
-use Rattle.match_stream.specs.LivePart.{held_count}
+use Rattle.match_stream.specs.PartialMatchTree.{trees_in}
+use Rattle.match_stream.specs.RetainedPart.{held_count}
 use Rattle.match_stream.specs.MatcherState.{with_row}
-use Rattle.match_stream.specs.Answer.{EndsAtLast, IsAnswer, IsLiveCount}
+use Rattle.match_stream.specs.Answer.{EndsAtLast, IsAnswer, IsRetainedCount}
 use Rattle.match_stream.specs.inner.Steps.{step_new, step_state, contents_of}
 use Rattle.match_stream.specs.inner.Nodes.{state_of}
-use Rattle.match_stream.specs.inner.Runs.{next_row, live_after}
+use Rattle.match_stream.specs.inner.Runs.{next_row, retained_after}
 use Rattle.match_stream.proofs.StepLemmas.{ends}
 use Rattle.match_stream.proofs.LogLemmas.{holds_inside, length_more}
 use Rattle.match_stream.proofs.ShapeLemmas.{Rule}
 use Rattle.match_stream.proofs.AnswerLemmas.{ends_at, and_true, held_counts, same_length, trees_length}
 use Rattle.match_stream.proofs.CountLemmas.{answer_counts}
 use Rattle.match_stream.proofs.ListingLemmas.{ByTest}
-use Rattle.match_stream.proofs.PrefixLemmas.{Ordered, rises_filter}
-use Rattle.match_stream.proofs.TakeLemmas.{Goes, entry, both_laws, live_then}
+use Rattle.match_stream.proofs.PrefixLemmas.{Ordered, ascends_filter}
+use Rattle.match_stream.proofs.TakeLemmas.{Goes, entry, both_laws, retained_then}
 
 -- each log has a listing
 abbrev pub Listed : Type 0
@@ -40,7 +40,7 @@ answer_is : Rule → ByTest → Ordered → (p : NumberedPattern) (log : List Lo
 answer_is rule test ordered p log xs listing = record {
   each_once = λ x h. each x ∙ (let b = (rule (observed_in log) p x).1 h.0 in let g = eq-eqb (greatest x) (length log) h.1 in rw (b, g) refl);
   no_other = λ x h. each x ∙ by x h (is_binding (observed_in log) p x) (nat_eq (greatest x) (length log)) refl refl;
-  rises = rises_filter ordered (λ x. nat_eq (greatest x) (length log)) xs ((test (observed_in log) p xs).0 listing).1;
+  ascends = ascends_filter ordered (λ x. nat_eq (greatest x) (length log)) xs ((test (observed_in log) p xs).0 listing).1;
 } where
   each : (x : BindTree) → count x (last_of_it log xs) ≡ bit (nat_eq (greatest x) (length log)) * bit (is_binding (observed_in log) p x)
   each x = count_filter x (λ x. nat_eq (greatest x) (length log)) xs ∙ ap (λ n. bit (nat_eq (greatest x) (length log)) * n) (((test (observed_in log) p xs).0 listing).0 x)
@@ -54,7 +54,7 @@ answer_is rule test ordered p log xs listing = record {
 
 pub count_over : Rule → ByTest → Ordered → Listed → (run : Run) (p : NumberedPattern) (log : List LogEntry) (first last : ℤ) (truths : List Bool) →
     Goes p (state_of run.node) run.rows log last →
-    IsLiveCount p (with_row log first last truths) (live_after run (next_row run.rows first last) truths)
+    IsRetainedCount p (with_row log first last truths) (retained_after run (next_row run.rows first last) truths)
 count_over rule test ordered listed run p log first last truths g =
     let longer = with_row log first last truths in
     let new = step_new (next_row run.rows first last) truths (state_of run.node) in
@@ -74,7 +74,7 @@ count_over rule test ordered listed run p log first last truths g =
     record {
       contents = contents;
       answer = xs;
-      live = live_then rule p (state_of run.node) run.rows log first last truths g;
+      retained = retained_then rule p (state_of run.node) run.rows log first last truths g;
       ending = answer;
       sum = (let e : length new + held_count contents ≡ held_count contents + length xs = omega (arith, many) in e);
     }

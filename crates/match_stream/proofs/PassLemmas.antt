@@ -15,27 +15,27 @@ use Rattle.match_pruning.specs.declared.window.Window.{Window}
 use Rattle.match_stream.specs.declared.join.Join.{Join}
 use Rattle.match_stream.specs.declared.join.Join.TheVariants as join
 use Rattle.match_stream.specs.declared.row.Row.{Row}
-use Rattle.match_stream.specs.PieceTree.{PieceTree}
-use Rattle.match_stream.specs.LivePart.{time_of}
+use Rattle.match_stream.specs.PartialMatchTree.{PartialMatchTree}
+use Rattle.match_stream.specs.RetainedPart.{time_of}
 use Rattle.match_stream.specs.MatcherState.{last_of}
 use Rattle.match_stream.specs.Answer.{AnswersAfter}
-use Rattle.match_stream.specs.Passing.{AreQuiet, no_answers}
-use Rattle.match_stream.specs.inner.Lives.{lives}
+use Rattle.match_stream.specs.Passing.{AreNonmatching, no_answers}
+use Rattle.match_stream.specs.inner.Retains.{retains}
 use Rattle.match_stream.specs.inner.Steps.{held_with, joins, kept, SideStores, State, a_leaf, a_join, a_choice, a_limit, a_chain, truth_at, sides_kept, sides_after, joins_new, levels_new, levels_after, no_levels, counted, step_new, step_state, expired}
-use Rattle.match_stream.proofs.AliveLemmas.{lives_before}
+use Rattle.match_stream.proofs.AliveLemmas.{retains_before}
 use Rattle.match_stream.proofs.StepLemmas.{Stands, all_of}
-use Rattle.match_stream.proofs.LivesLemmas.{le_trans, le_self}
+use Rattle.match_stream.proofs.RetainsLemmas.{le_trans, le_self}
 use Rattle.match_stream.proofs.LogLemmas.{row_after, take_law}
 use Rattle.match_stream.proofs.ShapeLemmas.{Rule}
-use Rattle.match_stream.proofs.AnswerLemmas.{Rise, answer_law}
+use Rattle.match_stream.proofs.AnswerLemmas.{Ascend, answer_law}
 
 -- ---- nothing is new
 
-no_joins : (j : Join) (xs : List PieceTree) → joins j xs [] ≡ []
+no_joins : (j : Join) (xs : List PartialMatchTree) → joins j xs [] ≡ []
 no_joins j [] = refl
 no_joins j (x ∷ xs) = no_joins j xs
 
-none_above : (w : Window) (t : ℤ) (levels : List (List PieceTree)) → levels_new w t [] [] levels ≡ []
+none_above : (w : Window) (t : ℤ) (levels : List (List PartialMatchTree)) → levels_new w t [] [] levels ≡ []
 none_above w t [] = refl
 none_above w t (held ∷ levels) = ap (λ z. levels_new w t z [] levels) (no_joins join.Repeats (kept w t held)) ∙ none_above w t levels
 
@@ -43,61 +43,61 @@ none_counted : (n : ℕ) → counted n [] ≡ []
 none_counted zero = refl
 none_counted (suc n) = refl
 
-quiet_new : (row : Row) (truths : List Bool) → ((k : ℕ) → truth_at truths k ≡ false) → (z : State) → step_new row truths z ≡ []
-quiet_new row truths h (a_leaf leaf window) = let no = h leaf in rw no refl
-quiet_new row truths h (a_join j l r s) =
-    ap (λ y. joins_new j row.last s y (step_new row truths r)) (quiet_new row truths h l)
-    ∙ ap (λ y. joins_new j row.last s [] y) (quiet_new row truths h r)
+nonmatching_new : (row : Row) (truths : List Bool) → ((k : ℕ) → truth_at truths k ≡ false) → (z : State) → step_new row truths z ≡ []
+nonmatching_new row truths h (a_leaf leaf window) = let no = h leaf in rw no refl
+nonmatching_new row truths h (a_join j l r s) =
+    ap (λ y. joins_new j row.last s y (step_new row truths r)) (nonmatching_new row truths h l)
+    ∙ ap (λ y. joins_new j row.last s [] y) (nonmatching_new row truths h r)
     ∙ no_joins j (kept s.left_window row.last s.left)
-quiet_new row truths h (a_choice l r) =
-    ap (λ y. map (held_with First) y ++ map (held_with Second) (step_new row truths r)) (quiet_new row truths h l)
-    ∙ ap (λ y. map (held_with Second) y) (quiet_new row truths h r)
-quiet_new row truths h (a_limit part) = quiet_new row truths h part
-quiet_new row truths h (a_chain part count w levels) =
-    ap (λ y. counted count (levels_new w row.last (map (held_with Single) y) y levels)) (quiet_new row truths h part)
+nonmatching_new row truths h (a_choice l r) =
+    ap (λ y. map (held_with First) y ++ map (held_with Second) (step_new row truths r)) (nonmatching_new row truths h l)
+    ∙ ap (λ y. map (held_with Second) y) (nonmatching_new row truths h r)
+nonmatching_new row truths h (a_limit part) = nonmatching_new row truths h part
+nonmatching_new row truths h (a_chain part count w levels) =
+    ap (λ y. counted count (levels_new w row.last (map (held_with Single) y) y levels)) (nonmatching_new row truths h part)
     ∙ ap (counted count) (none_above w row.last levels) ∙ none_counted count
 
 -- and what is kept hasn't expired
-levels_quiet : (w : Window) (t : ℤ) (levels : List (List PieceTree)) → levels_after w t [] [] levels ≡ map (kept w t) levels
-levels_quiet w t [] = refl
-levels_quiet w t (held ∷ levels) =
+levels_nonmatching : (w : Window) (t : ℤ) (levels : List (List PartialMatchTree)) → levels_after w t [] [] levels ≡ map (kept w t) levels
+levels_nonmatching w t [] = refl
+levels_nonmatching w t (held ∷ levels) =
     ap (λ y. y ∷ levels_after w t (joins join.Repeats (kept w t held) []) [] levels) (append-nil (kept w t held))
     ∙ ap (λ y. kept w t held ∷ levels_after w t y [] levels) (no_joins join.Repeats (kept w t held))
-    ∙ ap (λ y. kept w t held ∷ y) (levels_quiet w t levels)
+    ∙ ap (λ y. kept w t held ∷ y) (levels_nonmatching w t levels)
 
-sides_quiet : (t : ℤ) (s : SideStores) → sides_after t s [] [] ≡ sides_kept t s
-sides_quiet t s =
+sides_nonmatching : (t : ℤ) (s : SideStores) → sides_after t s [] [] ≡ sides_kept t s
+sides_nonmatching t s =
     ap (λ y. record { left = y; right = kept s.right_window t s.right ++ []; left_window = s.left_window; right_window = s.right_window }) (append-nil (kept s.left_window t s.left))
     ∙ ap (λ y. record { left = kept s.left_window t s.left; right = y; left_window = s.left_window; right_window = s.right_window }) (append-nil (kept s.right_window t s.right))
 
-quiet_state : (row : Row) (truths : List Bool) → ((k : ℕ) → truth_at truths k ≡ false) → (z : State) → step_state row truths z ≡ expired row.last z
-quiet_state row truths h (a_leaf leaf window) = refl
-quiet_state row truths h (a_join j l r s) =
-    ap (λ y. a_join j y (step_state row truths r) (sides_after row.last s (step_new row truths l) (step_new row truths r))) (quiet_state row truths h l)
-    ∙ ap (λ y. a_join j (expired row.last l) y (sides_after row.last s (step_new row truths l) (step_new row truths r))) (quiet_state row truths h r)
-    ∙ ap (λ y. a_join j (expired row.last l) (expired row.last r) (sides_after row.last s y (step_new row truths r))) (quiet_new row truths h l)
-    ∙ ap (λ y. a_join j (expired row.last l) (expired row.last r) (sides_after row.last s [] y)) (quiet_new row truths h r)
-    ∙ ap (a_join j (expired row.last l) (expired row.last r)) (sides_quiet row.last s)
-quiet_state row truths h (a_choice l r) =
-    ap (λ y. a_choice y (step_state row truths r)) (quiet_state row truths h l) ∙ ap (a_choice (expired row.last l)) (quiet_state row truths h r)
-quiet_state row truths h (a_limit part) = ap a_limit (quiet_state row truths h part)
-quiet_state row truths h (a_chain part count w levels) =
-    ap (λ y. a_chain y count w (levels_after w row.last (map (held_with Single) (step_new row truths part)) (step_new row truths part) levels)) (quiet_state row truths h part)
-    ∙ ap (λ y. a_chain (expired row.last part) count w (levels_after w row.last (map (held_with Single) y) y levels)) (quiet_new row truths h part)
-    ∙ ap (a_chain (expired row.last part) count w) (levels_quiet w row.last levels)
+nonmatching_state : (row : Row) (truths : List Bool) → ((k : ℕ) → truth_at truths k ≡ false) → (z : State) → step_state row truths z ≡ expired row.last z
+nonmatching_state row truths h (a_leaf leaf window) = refl
+nonmatching_state row truths h (a_join j l r s) =
+    ap (λ y. a_join j y (step_state row truths r) (sides_after row.last s (step_new row truths l) (step_new row truths r))) (nonmatching_state row truths h l)
+    ∙ ap (λ y. a_join j (expired row.last l) y (sides_after row.last s (step_new row truths l) (step_new row truths r))) (nonmatching_state row truths h r)
+    ∙ ap (λ y. a_join j (expired row.last l) (expired row.last r) (sides_after row.last s y (step_new row truths r))) (nonmatching_new row truths h l)
+    ∙ ap (λ y. a_join j (expired row.last l) (expired row.last r) (sides_after row.last s [] y)) (nonmatching_new row truths h r)
+    ∙ ap (a_join j (expired row.last l) (expired row.last r)) (sides_nonmatching row.last s)
+nonmatching_state row truths h (a_choice l r) =
+    ap (λ y. a_choice y (step_state row truths r)) (nonmatching_state row truths h l) ∙ ap (a_choice (expired row.last l)) (nonmatching_state row truths h r)
+nonmatching_state row truths h (a_limit part) = ap a_limit (nonmatching_state row truths h part)
+nonmatching_state row truths h (a_chain part count w levels) =
+    ap (λ y. a_chain y count w (levels_after w row.last (map (held_with Single) (step_new row truths part)) (step_new row truths part) levels)) (nonmatching_state row truths h part)
+    ∙ ap (λ y. a_chain (expired row.last part) count w (levels_after w row.last (map (held_with Single) y) y levels)) (nonmatching_new row truths h part)
+    ∙ ap (a_chain (expired row.last part) count w) (levels_nonmatching w row.last levels)
 
 -- ---- one look for many rows
 
-kept_later : (w : Window) (s t : ℤ) → s ≤ℤ t → (xs : List PieceTree) → kept w t (kept w s xs) ≡ kept w t xs
+kept_later : (w : Window) (s t : ℤ) → s ≤ℤ t → (xs : List PartialMatchTree) → kept w t (kept w s xs) ≡ kept w t xs
 kept_later w s t h [] = refl
-kept_later w s t h (x ∷ xs) = by (lives w x.earliest s) (lives w x.earliest t) refl refl (kept_later w s t h xs) where
-  by : (a b : Bool) → lives w x.earliest s ≡ a → lives w x.earliest t ≡ b → kept w t (kept w s xs) ≡ kept w t xs → kept w t (kept w s (x ∷ xs)) ≡ kept w t (x ∷ xs)
+kept_later w s t h (x ∷ xs) = by (retains w x.earliest s) (retains w x.earliest t) refl refl (kept_later w s t h xs) where
+  by : (a b : Bool) → retains w x.earliest s ≡ a → retains w x.earliest t ≡ b → kept w t (kept w s xs) ≡ kept w t xs → kept w t (kept w s (x ∷ xs)) ≡ kept w t (x ∷ xs)
   by true true ea eb ih = rw (ea, eb) (ap (λ z. x ∷ z) ih)
   by true false ea eb ih = rw (ea, eb) ih
-  by false true ea eb ih = absurd (let yes_it_is = lives_before w x.earliest s t h eb in let no : true ≡ false = sym yes_it_is ∙ ea in cc)
+  by false true ea eb ih = absurd (let yes_it_is = retains_before w x.earliest s t h eb in let no : true ≡ false = sym yes_it_is ∙ ea in cc)
   by false false ea eb ih = rw (ea, eb) ih
 
-levels_later : (w : Window) (s t : ℤ) → s ≤ℤ t → (levels : List (List PieceTree)) → map (kept w t) (map (kept w s) levels) ≡ map (kept w t) levels
+levels_later : (w : Window) (s t : ℤ) → s ≤ℤ t → (levels : List (List PartialMatchTree)) → map (kept w t) (map (kept w s) levels) ≡ map (kept w t) levels
 levels_later w s t h [] = refl
 levels_later w s t h (x ∷ xs) = ap (λ y. y ∷ map (kept w t) (map (kept w s) xs)) (kept_later w s t h x) ∙ ap (λ y. kept w t x ∷ y) (levels_later w s t h xs)
 
@@ -142,34 +142,34 @@ rest_in_order (x ∷ y ∷ log) r rest h = rest_in_order (y ∷ log) r rest h.2
 nothing_sorted : IsSortedBy comes_before []
 nothing_sorted k d low high = absurd (omega (arith, high))
 
-pub pass_law : Rule → Rise → (p : NumberedPattern) (log : List LogEntry) (r : LogEntry) (rest : List LogEntry) (last : ℤ) (z : State) →
-    AreQuiet (r ∷ rest) → IsInOrder (log ++ r ∷ rest) → last_of (r ∷ rest) ≡ Some last →
+pub pass_law : Rule → Ascend → (p : NumberedPattern) (log : List LogEntry) (r : LogEntry) (rest : List LogEntry) (last : ℤ) (z : State) →
+    AreNonmatching (r ∷ rest) → IsInOrder (log ++ r ∷ rest) → last_of (r ∷ rest) ≡ Some last →
     Stands (observed_in log) (all_of (observed_in log)) (time_of log) no_bounds p z →
     Stands (observed_in (log ++ r ∷ rest)) (all_of (observed_in (log ++ r ∷ rest))) (time_of (log ++ r ∷ rest)) no_bounds p (expired last z)
     × AnswersAfter p log (r ∷ rest) (no_answers (r ∷ rest))
-pass_law rule rise p log r [] last z quiet order e st =
+pass_law rule sift_up p log r [] last z nonmatching order e st =
     let first = first_in_order log r [] order in
     let law = take_law p log r z first.0 first.1 st in
-    let none = quiet_new (row_after log r) r.truths quiet.0 z in
+    let none = nonmatching_new (row_after log r) r.truths nonmatching.0 z in
     let same : r.last ≡ last = cc in (
       subst (λ (y : State). Stands (observed_in (log ++ r ∷ [])) (all_of (observed_in (log ++ r ∷ []))) (time_of (log ++ r ∷ [])) no_bounds p y)
-          (quiet_state (row_after log r) r.truths quiet.0 z ∙ ap (λ t. expired t z) same) law.1,
-      (answer_law rule rise p log r (step_new (row_after log r) r.truths z) [] law.0 (λ x. ap (λ y. Rattle.match_bindings.specs.Once.count x (Rattle.match_stream.specs.PieceTree.trees_in y)) (sym none)) nothing_sorted, tt),
+          (nonmatching_state (row_after log r) r.truths nonmatching.0 z ∙ ap (λ t. expired t z) same) law.1,
+      (answer_law rule sift_up p log r (step_new (row_after log r) r.truths z) [] law.0 (λ x. ap (λ y. Rattle.match_bindings.specs.Once.count x (Rattle.match_stream.specs.PartialMatchTree.trees_in y)) (sym none)) nothing_sorted, tt),
     )
-pass_law rule rise p log r (q ∷ rest) last z quiet order e st =
+pass_law rule sift_up p log r (q ∷ rest) last z nonmatching order e st =
     let first = first_in_order log r (q ∷ rest) order in
     let law = take_law p log r z first.0 first.1 st in
-    let none = quiet_new (row_after log r) r.truths quiet.0 z in
+    let none = nonmatching_new (row_after log r) r.truths nonmatching.0 z in
     let next = subst (λ (y : State). Stands (observed_in (log ++ r ∷ [])) (all_of (observed_in (log ++ r ∷ []))) (time_of (log ++ r ∷ [])) no_bounds p y)
-    (quiet_state (row_after log r) r.truths quiet.0 z) law.1 in
+    (nonmatching_state (row_after log r) r.truths nonmatching.0 z) law.1 in
     let whole : (log ++ r ∷ []) ++ q ∷ rest ≡ log ++ r ∷ q ∷ rest = append_assoc log (r ∷ []) (q ∷ rest) in
-    let more = pass_law rule rise p (log ++ r ∷ []) q rest last (expired r.last z) quiet.1 (subst IsInOrder (sym whole) order) e next in
+    let more = pass_law rule sift_up p (log ++ r ∷ []) q rest last (expired r.last z) nonmatching.1 (subst IsInOrder (sym whole) order) e next in
     let early = all_by_last r (q ∷ rest) last (rest_in_order log r (q ∷ rest) order) e in (
       subst (λ (l : List LogEntry). Stands (observed_in l) (all_of (observed_in l)) (time_of l) no_bounds p (expired last z)) whole
           (subst (λ (y : State). Stands (observed_in ((log ++ r ∷ []) ++ q ∷ rest)) (all_of (observed_in ((log ++ r ∷ []) ++ q ∷ rest))) (time_of ((log ++ r ∷ []) ++ q ∷ rest)) no_bounds p y)
           (expired_later r.last last early z) more.0),
       (
-        answer_law rule rise p log r (step_new (row_after log r) r.truths z) [] law.0 (λ x. ap (λ y. Rattle.match_bindings.specs.Once.count x (Rattle.match_stream.specs.PieceTree.trees_in y)) (sym none)) nothing_sorted,
+        answer_law rule sift_up p log r (step_new (row_after log r) r.truths z) [] law.0 (λ x. ap (λ y. Rattle.match_bindings.specs.Once.count x (Rattle.match_stream.specs.PartialMatchTree.trees_in y)) (sym none)) nothing_sorted,
         more.1,
       ),
     )
@@ -189,8 +189,8 @@ fits_expired t (Repeats p n) w (a_chain part count window levels) =
     let one = fits_expired t p w part in let many = length-map levels (kept window t) in rw (one, many) refl
 fits_expired t p w z = refl
 
-pub last_of_append : (log quiet : List LogEntry) (last : ℤ) → last_of quiet ≡ Some last → last_of (log ++ quiet) ≡ Some last
-last_of_append [] quiet last h = h
+pub last_of_append : (log nonmatching : List LogEntry) (last : ℤ) → last_of nonmatching ≡ Some last → last_of (log ++ nonmatching) ≡ Some last
+last_of_append [] nonmatching last h = h
 last_of_append (x ∷ []) [] last h = absurd (cc)
-last_of_append (x ∷ []) (q ∷ quiet) last h = h
-last_of_append (x ∷ y ∷ log) quiet last h = last_of_append (y ∷ log) quiet last h
+last_of_append (x ∷ []) (q ∷ nonmatching) last h = h
+last_of_append (x ∷ y ∷ log) nonmatching last h = last_of_append (y ∷ log) nonmatching last h

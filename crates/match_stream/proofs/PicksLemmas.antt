@@ -11,11 +11,11 @@ use Rattle.match_bindings.specs.BindTree.{BindTree, One, Pair, First, Second, Em
 use Rattle.match_bindings.specs.declared.bind.Bind.TheVariants.{One as Only}
 use Rattle.match_bindings.proofs.BindTreeLemmas.{tree_one}
 use Rattle.match_bindings.proofs.IsBindingLemmas.{apart_to}
-use Rattle.match_stream.specs.declared.choices.Choice.{Choice}
+use Rattle.match_stream.specs.declared.matching.Neighbors.{Neighbors}
 use Rattle.match_stream.specs.declared.join.Join.{Join}
 use Rattle.match_stream.specs.declared.join.Join.TheVariants as join
 use Rattle.match_stream.specs.inner.Numbers.{numbers}
-use Rattle.match_stream.specs.inner.Picks.{MayPick, HasPicks, HasAt, IsAmong}
+use Rattle.match_stream.specs.inner.Picks.{MayPick, HasPerfectMatching, HasAt, IsAmong}
 use Rattle.match_stream.specs.inner.Steps.{joined_tree}
 use Rattle.match_stream.proofs.RowNumbersLemmas.{contains_numbers, numbers_firsts}
 
@@ -25,12 +25,12 @@ contains_next : (n m : ℕ) (ns : List ℕ) → Contains (n ∷ ns) m → (n ≡
 contains_next n m ns (zero, l, is) = inl is
 contains_next n m ns (suc k, l, is) = inr (k, omega (arith, l), is)
 
-contains_behind : (n m : ℕ) (ns : List ℕ) → Contains ns m → Contains (n ∷ ns) m
-contains_behind n m ns c = (suc c.0, omega (arith, c.1), c.2)
+contains_after_left : (n m : ℕ) (ns : List ℕ) → Contains ns m → Contains (n ∷ ns) m
+contains_after_left n m ns c = (suc c.0, omega (arith, c.1), c.2)
 
 all_differ : (n : ℕ) (ns : List ℕ) → ((m : ℕ) → Contains ns m → nat_eq n m ≡ false) → AllByRecursion (λ m. nat_eq n m ≡ false) ns
 all_differ n [] h = tt
-all_differ n (m ∷ ns) h = (h m (zero, omega arith, refl), all_differ n ns (λ k c. h k (contains_behind m k ns c)))
+all_differ n (m ∷ ns) h = (h m (zero, omega arith, refl), all_differ n ns (λ k c. h k (contains_after_left m k ns c)))
 
 other : (n m : ℕ) (x : BindTree) → has n x ≡ false → has m x ≡ true → nat_eq n m ≡ false
 other n m x out there = by (nat_eq n m) refl where
@@ -38,22 +38,22 @@ other n m x out there = by (nat_eq n m) refl where
   by false is = is
   by true is = absurd (let same : n ≡ m = eqb-true n m is in let e : false ≡ true = sym out ∙ ap (λ k. has k x) same ∙ there in cc)
 
-picks_had : (choices : List Choice) (x : BindTree) (picks : List ℕ) → AllZip (MayPick x) choices picks → (m : ℕ) → Contains picks m → has m x ≡ true
+picks_had : (matching : List Neighbors) (x : BindTree) (picks : List ℕ) → AllZip (MayPick x) matching picks → (m : ℕ) → Contains picks m → has m x ≡ true
 picks_had [] x [] e m c = absurd (omega (arith, c.1))
 picks_had [] x (p ∷ ps) e m c = absurd e
-picks_had (choice ∷ choices) x [] e m c = absurd e
-picks_had (choice ∷ choices) x (p ∷ ps) e m c = elim (contains_next p m ps c) [
+picks_had (neighbors ∷ matching) x [] e m c = absurd e
+picks_had (neighbors ∷ matching) x (p ∷ ps) e m c = elim (contains_next p m ps c) [
   | inl is ↦ subst (λ i. has i x ≡ true) is e.0.1
-  | inr d ↦ picks_had choices x ps e.1 m d
+  | inr d ↦ picks_had matching x ps e.1 m d
 ]
 
-still_picked : (choices : List Choice) (left x : BindTree) (picks : List ℕ) → AllZip (MayPick x) choices picks → AllZip (MayPick (Pair left x)) choices picks
+still_picked : (matching : List Neighbors) (left x : BindTree) (picks : List ℕ) → AllZip (MayPick x) matching picks → AllZip (MayPick (Pair left x)) matching picks
 still_picked [] left x [] e = tt
 still_picked [] left x (p ∷ ps) e = absurd e
-still_picked (choice ∷ choices) left x [] e = absurd e
-still_picked (choice ∷ choices) left x (p ∷ ps) e = ((e.0.0, or_right (has p left) (has p x) e.0.1), still_picked choices left x ps e.1)
+still_picked (neighbors ∷ matching) left x [] e = absurd e
+still_picked (neighbors ∷ matching) left x (p ∷ ps) e = ((e.0.0, or_right (has p left) (has p x) e.0.1), still_picked matching left x ps e.1)
 
-pub none_picked : (x : BindTree) → HasPicks [] x
+pub none_picked : (x : BindTree) → HasPerfectMatching [] x
 unfolding IsDistinct
 none_picked x = record { picks = []; differ = tt; each = tt }
 
@@ -62,14 +62,14 @@ none_picked x = record { picks = []; differ = tt; each = tt }
 at_place : (ns : List ℕ) (place n : ℕ) → slice_get ns place ≡ Some n → Contains ns n
 at_place [] place n is = absurd (cc)
 at_place (x ∷ ns) zero n is = (zero, omega arith, cc)
-at_place (x ∷ ns) (suc place) n is = contains_behind x n ns (at_place ns place n is)
+at_place (x ∷ ns) (suc place) n is = contains_after_left x n ns (at_place ns place n is)
 
 at_place_taken : (ns : List ℕ) (place n : ℕ) → slice_get ns place ≡ Some n → Contains (take (place + 1) ns) n
 at_place_taken ns place n is = (let e : suc place ≡ place + 1 = omega arith in subst (λ k. Contains (take k ns) n) e (by ns place n is)) where
   by : (ns : List ℕ) (place n : ℕ) → slice_get ns place ≡ Some n → Contains (take (suc place) ns) n
   by [] place n is = absurd (cc)
   by (x ∷ ns) zero n is = (zero, omega arith, cc)
-  by (x ∷ ns) (suc place) n is = contains_behind x n (take (suc place) ns) (by ns place n is)
+  by (x ∷ ns) (suc place) n is = contains_after_left x n (take (suc place) ns) (by ns place n is)
 
 take_longer : (place m : ℕ) (ns : List ℕ) → Contains (take place ns) m → Contains (take (place + 1) ns) m
 take_longer place m ns c = (let e : suc place ≡ place + 1 = omega arith in subst (λ k. Contains (take k ns) m) e (by place ns c)) where
@@ -78,7 +78,7 @@ take_longer place m ns c = (let e : suc place ≡ place + 1 = omega arith in sub
   by (suc place) [] c = absurd (omega (arith, c.1))
   by (suc place) (x ∷ ns) c = elim (contains_next x m (take place ns) c) [
     | inl is ↦ (zero, omega arith, is)
-    | inr d ↦ contains_behind x m (take (suc place) ns) (by place ns d)
+    | inr d ↦ contains_after_left x m (take (suc place) ns) (by place ns d)
   ]
 
 flip : (n m : ℕ) → nat_eq m n ≡ false → nat_eq n m ≡ false
@@ -111,7 +111,7 @@ distinct_both (m ∷ ms) ns x y apart = (
     | inl a ↦ All-contains (λ k. nat_eq m k ≡ false) ms n (All-from_recursion (λ k. nat_eq m k ≡ false) ms x.0) a
     | inr b ↦ not_same n b (nat_eq m n) refl
   ]),
-  distinct_both ms ns x.1 y (λ n a b. apart n (contains_behind m n ms a) b),
+  distinct_both ms ns x.1 y (λ n a b. apart n (contains_after_left m n ms a) b),
 ) where
   not_same : (n : ℕ) → Contains ns n → (b : Bool) → nat_eq m n ≡ b → nat_eq m n ≡ false
   not_same n c false is = is
@@ -145,26 +145,26 @@ before_differs (x ∷ ns) (suc place) n m d is c = elim (contains_next x m (take
 
 -- ---- picks of what joins a tree: the tree's, and numbers at some first places of the other
 
-pub record HasPicksTo (place : ℕ) (choices : List Choice) (left x : BindTree) : Type 0 where
+pub record HasPicksTo (place : ℕ) (matching : List Neighbors) (left x : BindTree) : Type 0 where
   pub picks : List ℕ
   pub differ : IsDistinct nat_eq picks
-  pub each : AllZip (MayPick (Pair left x)) choices picks
+  pub each : AllZip (MayPick (Pair left x)) matching picks
   pub from : (m : ℕ) → Contains picks m → (has m x ≡ true) ⊎ Contains (take place (numbers left)) m
 
-pub picks_start : (choices : List Choice) (left x : BindTree) → HasPicks choices x → HasPicksTo 0 choices left x
-picks_start choices left x h = record {
+pub picks_start : (matching : List Neighbors) (left x : BindTree) → HasPerfectMatching matching x → HasPicksTo 0 matching left x
+picks_start matching left x h = record {
   picks = h.picks;
   differ = h.differ;
-  each = still_picked choices left x h.picks h.each;
-  from = λ m c. inl (picks_had choices x h.picks h.each m c);
+  each = still_picked matching left x h.picks h.each;
+  from = λ m c. inl (picks_had matching x h.picks h.each m c);
 }
 
-pub picks_end : (place : ℕ) (choices : List Choice) (left x : BindTree) → HasPicksTo place choices left x → HasPicks choices (Pair left x)
-picks_end place choices left x h = record { picks = h.picks; differ = h.differ; each = h.each }
+pub picks_end : (place : ℕ) (matching : List Neighbors) (left x : BindTree) → HasPicksTo place matching left x → HasPerfectMatching matching (Pair left x)
+picks_end place matching left x h = record { picks = h.picks; differ = h.differ; each = h.each }
 
 -- one more place, of which no choice is noted
-pub picks_pass : (place : ℕ) (choices : List Choice) (left x : BindTree) → HasPicksTo place choices left x → HasPicksTo (place + 1) choices left x
-picks_pass place choices left x h = record {
+pub picks_pass : (place : ℕ) (matching : List Neighbors) (left x : BindTree) → HasPicksTo place matching left x → HasPicksTo (place + 1) matching left x
+picks_pass place matching left x h = record {
   picks = h.picks;
   differ = h.differ;
   each = h.each;
@@ -172,10 +172,10 @@ picks_pass place choices left x h = record {
 }
 
 -- or one is
-pub picks_more : (place : ℕ) (choices : List Choice) (choice : Choice) (left x : BindTree) → HasPicksTo place choices left x → disjoint left x ≡ true →
-    IsDistinct nat_eq (numbers left) → HasAt choice.numbers.items place left → HasPicksTo (place + 1) (choice ∷ choices) left x
+pub picks_more : (place : ℕ) (matching : List Neighbors) (neighbors : Neighbors) (left x : BindTree) → HasPicksTo place matching left x → disjoint left x ≡ true →
+    IsDistinct nat_eq (numbers left) → HasAt neighbors.numbers.items place left → HasPicksTo (place + 1) (neighbors ∷ matching) left x
 unfolding IsDistinct
-picks_more place choices choice left x h apart once at = record {
+picks_more place matching neighbors left x h apart once at = record {
   picks = at.number ∷ h.picks;
   differ = (
     all_differ at.number h.picks (λ m c. elim (h.from m c) [
@@ -199,12 +199,12 @@ pub none_among : (numbers picks : List ℕ) → IsAmong 0 numbers picks
 unfolding IsDistinct
 none_among numbers picks = record { some = []; differ = tt; counted = refl; each = λ n c. absurd (omega (arith, c.1)) }
 
-pub among_behind : (count : ℕ) (numbers : List ℕ) (n : ℕ) (picks : List ℕ) → IsAmong count numbers picks → IsAmong count numbers (n ∷ picks)
-among_behind count numbers n picks h = record {
+pub among_after_left : (count : ℕ) (numbers : List ℕ) (n : ℕ) (picks : List ℕ) → IsAmong count numbers picks → IsAmong count numbers (n ∷ picks)
+among_after_left count numbers n picks h = record {
   some = h.some;
   differ = h.differ;
   counted = h.counted;
-  each = λ m c. (contains_behind n m picks (h.each m c).0, (h.each m c).1);
+  each = λ m c. (contains_after_left n m picks (h.each m c).0, (h.each m c).1);
 }
 
 pub among_more : (count : ℕ) (old new : List ℕ) (n : ℕ) (picks : List ℕ) → IsDistinct nat_eq (n ∷ picks) → IsAmong count old picks → Contains new n →
@@ -216,7 +216,7 @@ among_more count old new n picks differ h there kept = record {
   counted = omega (arith, h.counted);
   each = λ m c. elim (contains_next n m h.some c) [
     | inl is ↦ (subst (Contains (n ∷ picks)) is (zero, omega arith, refl), subst (Contains new) is there)
-    | inr d ↦ (contains_behind n m picks (h.each m d).0, kept m (h.each m d).1)
+    | inr d ↦ (contains_after_left n m picks (h.each m d).0, kept m (h.each m d).1)
   ];
 }
 
@@ -225,27 +225,27 @@ unfolding IsDistinct
 rest_distinct n picks h = h.1
 
 -- there are no more different ones of some numbers than these
-pub at_most : (count : ℕ) (numbers tidy picks : List ℕ) → IsAmong count numbers picks → ((n : ℕ) → Contains numbers n → Contains tidy n) → count ≤ length tidy
-at_most count numbers tidy picks h kept =
-    let le : length h.some ≤ length tidy
-    = length-le_from_is_member nat_eq_equiv h.some tidy h.differ
-    (λ n m. list_any-from_Contains nat_eq_equiv n tidy (kept n (h.each n (Contains-from_any (λ a b e. eqb-true a b e) n h.some m)).1)) in
+pub at_most : (count : ℕ) (numbers sort_dedup picks : List ℕ) → IsAmong count numbers picks → ((n : ℕ) → Contains numbers n → Contains sort_dedup n) → count ≤ length sort_dedup
+at_most count numbers sort_dedup picks h kept =
+    let le : length h.some ≤ length sort_dedup
+    = length-le_from_is_member nat_eq_equiv h.some sort_dedup h.differ
+    (λ n m. list_any-from_Contains nat_eq_equiv n sort_dedup (kept n (h.each n (Contains-from_any (λ a b e. eqb-true a b e) n h.some m)).1)) in
     omega (arith, le, h.counted)
 
 -- picks of the first choice and of the others: those of the others are among some numbers, or the first, too
-pub among_others : (x : BindTree) (all others : List Choice) (choice : Choice) (picks : List ℕ) (count : ℕ) (numbers : List ℕ) → all ≡ choice ∷ others →
+pub among_others : (x : BindTree) (all others : List Neighbors) (neighbors : Neighbors) (picks : List ℕ) (count : ℕ) (numbers : List ℕ) → all ≡ neighbors ∷ others →
     IsDistinct nat_eq picks → AllZip (MayPick x) all picks →
     ((ps : List ℕ) → IsDistinct nat_eq ps → AllZip (MayPick x) others ps → IsAmong count numbers ps) → IsAmong count numbers picks
-among_others x all others choice picks count numbers is differ each rest = by picks differ (subst (λ (z : List Choice). AllZip (MayPick x) z picks) is each) where
-  by : (ps : List ℕ) → IsDistinct nat_eq ps → AllZip (MayPick x) (choice ∷ others) ps → IsAmong count numbers ps
+among_others x all others neighbors picks count numbers is differ each rest = by picks differ (subst (λ (z : List Neighbors). AllZip (MayPick x) z picks) is each) where
+  by : (ps : List ℕ) → IsDistinct nat_eq ps → AllZip (MayPick x) (neighbors ∷ others) ps → IsAmong count numbers ps
   by [] d e = absurd e
-  by (p ∷ ps) d e = among_behind count numbers p ps (rest ps (rest_distinct p ps d) e.1)
+  by (p ∷ ps) d e = among_after_left count numbers p ps (rest ps (rest_distinct p ps d) e.1)
 
-pub among_all : (x : BindTree) (all others : List Choice) (choice : Choice) (picks : List ℕ) (count : ℕ) (old new : List ℕ) → all ≡ choice ∷ others →
+pub among_all : (x : BindTree) (all others : List Neighbors) (neighbors : Neighbors) (picks : List ℕ) (count : ℕ) (old new : List ℕ) → all ≡ neighbors ∷ others →
     IsDistinct nat_eq picks → AllZip (MayPick x) all picks →
     ((ps : List ℕ) → IsDistinct nat_eq ps → AllZip (MayPick x) others ps → IsAmong count old ps) →
-    ((n : ℕ) → Contains old n → Contains new n) → ((n : ℕ) → Contains choice.numbers.items n → Contains new n) → IsAmong (count + 1) new picks
-among_all x all others choice picks count old new is differ each rest kept added = by picks differ (subst (λ (z : List Choice). AllZip (MayPick x) z picks) is each) where
-  by : (ps : List ℕ) → IsDistinct nat_eq ps → AllZip (MayPick x) (choice ∷ others) ps → IsAmong (count + 1) new ps
+    ((n : ℕ) → Contains old n → Contains new n) → ((n : ℕ) → Contains neighbors.numbers.items n → Contains new n) → IsAmong (count + 1) new picks
+among_all x all others neighbors picks count old new is differ each rest kept added = by picks differ (subst (λ (z : List Neighbors). AllZip (MayPick x) z picks) is each) where
+  by : (ps : List ℕ) → IsDistinct nat_eq ps → AllZip (MayPick x) (neighbors ∷ others) ps → IsAmong (count + 1) new ps
   by [] d e = absurd e
   by (p ∷ ps) d e = among_more count old new p ps d (rest ps (rest_distinct p ps d) e.1) (added p e.0.0) kept

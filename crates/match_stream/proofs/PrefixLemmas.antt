@@ -8,19 +8,19 @@ use Rattle.match_bindings.specs.BindTree.{BindTree, has, greatest}
 use Rattle.match_bindings.specs.Log.{Observed, observed_in}
 use Rattle.match_bindings.specs.Test.{is_binding}
 use Rattle.match_bindings.specs.Once.{bit, same, count, Exactly}
-use Rattle.match_bindings.specs.Flat.{comes_before, Rises}
+use Rattle.match_bindings.specs.Flat.{comes_before, Ascends}
 use Rattle.match_bindings.specs.Listing.{IsListing}
 use Rattle.match_bindings.proofs.OnceLemmas.{same_self, count_append, count_filter}
-use Rattle.match_bindings.proofs.FlatLemmas.{tail_rises}
+use Rattle.match_bindings.proofs.FlatLemmas.{tail_ascends}
 use Rattle.match_stream.proofs.NumberLemmas.{has_greatest, greatest_binding, old_binding}
 use Rattle.match_stream.proofs.StoreLemmas.{bit_positive}
 use Rattle.match_stream.proofs.LastingLemmas.{lasting}
-use Rattle.match_stream.proofs.LogLemmas.{holds_inside, length_more, goes_on}
-use Rattle.match_stream.proofs.ListingLemmas.{ByTest, lesser_first, rises_append}
+use Rattle.match_stream.proofs.LogLemmas.{holds_inside, length_more, continues}
+use Rattle.match_stream.proofs.ListingLemmas.{ByTest, lesser_first, ascends_append}
 
--- in a rising list each tree comes before all behind it
+-- in a ascending list each tree comes before all after left it
 abbrev pub Ordered : Type 0
-Ordered = (x : BindTree) (xs : List BindTree) → Rises (x ∷ xs) → (y : BindTree) → 0 < count y xs → comes_before x y ≡ true
+Ordered = (x : BindTree) (xs : List BindTree) → Ascends (x ∷ xs) → (y : BindTree) → 0 < count y xs → comes_before x y ≡ true
 
 abbrev pub OneListing : Type 0
 OneListing = (o : Observed) (p : NumberedPattern) (xs ys : List BindTree) → IsListing o p xs → IsListing o p ys → xs ≡ ys
@@ -65,29 +65,29 @@ lasting_long (r ∷ more) log p x =
     subst (λ (l : List LogEntry). is_binding (observed_in log) p x ≡ (is_binding (observed_in l) p x && nat_le (greatest x) (length log))) (append_assoc log (r ∷ []) more)
     (last_bits (is_binding (observed_in log) p x) (is_binding (observed_in (log ++ r ∷ [])) p x) (is_binding (observed_in ((log ++ r ∷ []) ++ more)) p x) (has (suc (length log)) x)
     (length log) (greatest x)
-    (lasting (observed_in log) (observed_in (log ++ r ∷ [])) (suc (length log)) (goes_on log r) p x)
+    (lasting (observed_in log) (observed_in (log ++ r ∷ [])) (suc (length log)) (continues log r) p x)
     (lasting_long more (log ++ r ∷ []) p x ∙ ap (λ n. is_binding (observed_in ((log ++ r ∷ []) ++ more)) p x && nat_le (greatest x) n) (length_more log r))
     (λ b h. has_greatest (suc (length log)) x h)
     (λ b h. old_binding (observed_in (log ++ r ∷ [])) (suc (length log)) counted p x b h)) where
       counted : (k i : ℕ) → (observed_in (log ++ r ∷ [])).holds k i ≡ true → i ≤ suc (length log)
       counted k i h = let within_log : i ≤ length (log ++ r ∷ []) = holds_inside (log ++ r ∷ []) k i h in omega (arith, within_log, length_more log r)
 
--- ---- rising lists
+-- ---- ascending lists
 
-rises_cons : (x : BindTree) (zs : List BindTree) → Rises zs → ((y : BindTree) → 0 < count y zs → comes_before x y ≡ true) → Rises (x ∷ zs)
-rises_cons x [] rises h = tt
-rises_cons x (z ∷ zs) rises h = let me : same z z ≡ true = same_self z in (h z (rw me (omega arith)), rises)
+ascends_cons : (x : BindTree) (zs : List BindTree) → Ascends zs → ((y : BindTree) → 0 < count y zs → comes_before x y ≡ true) → Ascends (x ∷ zs)
+ascends_cons x [] ascends h = tt
+ascends_cons x (z ∷ zs) ascends h = let me : same z z ≡ true = same_self z in (h z (rw me (omega arith)), ascends)
 
 some_left : (b n m : ℕ) → n ≡ b * m → 0 < n → 0 < m
 some_left b n zero e h = absurd (omega (arith, e, h))
 some_left b n (suc m) e h = omega arith
 
-pub rises_filter : Ordered → (g : BindTree → Bool) (xs : List BindTree) → Rises xs → Rises (filter g xs)
-rises_filter ordered g [] rises = tt
-rises_filter ordered g (x ∷ xs) rises = by (g x) (rises_filter ordered g xs (tail_rises x xs rises)) where
-  by : (b : Bool) → Rises (filter g xs) → Rises (cond b (x ∷ filter g xs) (filter g xs))
+pub ascends_filter : Ordered → (g : BindTree → Bool) (xs : List BindTree) → Ascends xs → Ascends (filter g xs)
+ascends_filter ordered g [] ascends = tt
+ascends_filter ordered g (x ∷ xs) ascends = by (g x) (ascends_filter ordered g xs (tail_ascends x xs ascends)) where
+  by : (b : Bool) → Ascends (filter g xs) → Ascends (cond b (x ∷ filter g xs) (filter g xs))
   by false ih = ih
-  by true ih = rises_cons x (filter g xs) ih (λ y k. ordered x xs rises y (some_left (bit (g y)) (count y (filter g xs)) (count y xs) (count_filter y g xs) k))
+  by true ih = ascends_cons x (filter g xs) ih (λ y k. ordered x xs ascends y (some_left (bit (g y)) (count y (filter g xs)) (count y xs) (count_filter y g xs) k))
 
 -- ---- the longer listing
 
@@ -107,10 +107,10 @@ prefix_law test one ordered p log more xs ys hx hy = (
   filter (λ x. not (nat_le (greatest x) (length log))) ys,
   one (observed_in (log ++ more)) p ys (xs ++ filter (λ x. not (nat_le (greatest x) (length log))) ys) hy listed,
 ) where
-  old : Exactly (is_binding (observed_in log) p) xs × Rises xs
+  old : Exactly (is_binding (observed_in log) p) xs × Ascends xs
   old = (test (observed_in log) p xs).0 hx
 
-  all : Exactly (is_binding (observed_in (log ++ more)) p) ys × Rises ys
+  all : Exactly (is_binding (observed_in (log ++ more)) p) ys × Ascends ys
   all = (test (observed_in (log ++ more)) p ys).0 hy
 
   exactly : (x : BindTree) → count x (xs ++ filter (λ x. not (nat_le (greatest x) (length log))) ys) ≡ bit (is_binding (observed_in (log ++ more)) p x)
@@ -131,4 +131,4 @@ prefix_law test one ordered p log more xs ys hx hy = (
 
   listed : IsListing (observed_in (log ++ more)) p (xs ++ filter (λ x. not (nat_le (greatest x) (length log))) ys)
   listed = (test (observed_in (log ++ more)) p (xs ++ filter (λ x. not (nat_le (greatest x) (length log))) ys)).1
-      (exactly, rises_append xs (filter (λ x. not (nat_le (greatest x) (length log))) ys) old.1 (rises_filter ordered (λ x. not (nat_le (greatest x) (length log))) ys all.1) before)
+      (exactly, ascends_append xs (filter (λ x. not (nat_le (greatest x) (length log))) ys) old.1 (ascends_filter ordered (λ x. not (nat_le (greatest x) (length log))) ys all.1) before)

@@ -11,7 +11,7 @@ use Rattle.match_bindings.specs.declared.bind.Bind.TheVariants.{First as OfFirst
 use Rattle.match_bindings.specs.declared.bind.Bind.TheOpen as shape
 use Rattle.match_bindings.specs.declared.bind.Bind.TheFolds.{fold-roll-Bind}
 use Rattle.match_bindings.specs.BindTree.{BindTree, One, Pair, First, Second, Empty, Single, More, firsts, more_of, many_of, tree_level, tree_of, has}
-use Rattle.match_stream.specs.PieceTree.{PieceTree}
+use Rattle.match_stream.specs.PartialMatchTree.{PartialMatchTree}
 use Rattle.match_stream.specs.RowNumbers.{any_has, is_kept}
 use Rattle.match_stream.specs.inner.Steps.{no_levels, levels_above, all_levels}
 use Rattle.match_stream.specs.inner.Numbers.{numbers, store_numbers, all_numbers}
@@ -47,14 +47,14 @@ numbers_of_part bind part (inl is) =
     ∙ numbers_firsts is.0 (tree_of (rc_value part))
 numbers_of_part bind part (inr is) = ap (λ b. numbers (tree_of b)) is ∙ ap numbers (tree_second part)
 
-pub numbers_append : (xs ys : List (List PieceTree)) → all_numbers (xs ++ ys) ≡ all_numbers xs ++ all_numbers ys
+pub numbers_append : (xs ys : List (List PartialMatchTree)) → all_numbers (xs ++ ys) ≡ all_numbers xs ++ all_numbers ys
 numbers_append xs ys = flat_map-append store_numbers xs ys
 
 none_numbers : (k : ℕ) → all_numbers (no_levels k) ≡ []
 none_numbers zero = refl
 none_numbers (suc k) = none_numbers k
 
-pub numbers_levels : (n : ℕ) (made : List (List PieceTree)) → all_numbers (all_levels n made) ≡ all_numbers made
+pub numbers_levels : (n : ℕ) (made : List (List PartialMatchTree)) → all_numbers (all_levels n made) ≡ all_numbers made
 numbers_levels n made =
     numbers_append made (no_levels (levels_above n made)) ∙ ap (λ z. all_numbers made ++ z) (none_numbers (levels_above n made)) ∙ append-nil (all_numbers made)
 
@@ -85,12 +85,12 @@ among_numbers n Empty = refl
 among_numbers n (Single a) = among_numbers n a
 among_numbers n (More m a) = among_append n (numbers m) (numbers a) ∙ (let e = among_numbers n m in let f = among_numbers n a in rw (e, f) refl)
 
-among_store : (n : ℕ) (held : List PieceTree) → among n (store_numbers held) ≡ any_has n held
+among_store : (n : ℕ) (held : List PartialMatchTree) → among n (store_numbers held) ≡ any_has n held
 among_store n [] = refl
 among_store n (h ∷ held) =
     among_append n (numbers h.tree) (store_numbers held) ∙ (let e = among_numbers n h.tree in let f = among_store n held in rw (e, f) refl)
 
-among_all : (n : ℕ) (contents : List (List PieceTree)) → among n (all_numbers contents) ≡ is_kept n contents
+among_all : (n : ℕ) (contents : List (List PartialMatchTree)) → among n (all_numbers contents) ≡ is_kept n contents
 among_all n [] = refl
 among_all n (held ∷ contents) =
     among_append n (store_numbers held) (all_numbers contents) ∙ (let e = among_store n held in let f = among_all n contents in rw (e, f) refl)
@@ -115,7 +115,7 @@ contains_numbers n x = (
 )
 
 -- what is among the numbers is kept
-pub contains_kept : (n : ℕ) (contents : List (List PieceTree)) → Contains (all_numbers contents) n ↔ (is_kept n contents ≡ true)
+pub contains_kept : (n : ℕ) (contents : List (List PartialMatchTree)) → Contains (all_numbers contents) n ↔ (is_kept n contents ≡ true)
 contains_kept n contents = (
   λ h. sym (among_all n contents) ∙ contains_among n (all_numbers contents) h.0 h.1 h.2,
   λ h. among_contains n (all_numbers contents) (among_all n contents ∙ h),

@@ -1,4 +1,4 @@
--- What is made for a pattern, its stores one after another, is its live part where node by node the stores stand, and the other
+-- What is made for a pattern, its stores one after another, is its retained part where node by node the stores stand, and the other
 -- way round.
 use Rattle.std.proofs.Common.{◌≡◌, ℕ, zero, suc, ◌+◌, ◌-◌, ℤ, List, [], ◌∷◌, ◌++◌, length, refl, sym, ◌∙◌, ap, subst, arith, length-append}
 use Rattle.std.specs.Prelude.{Bool, true, false, ◌&&◌, nat_eq, ◌↔◌, int_le, Option, Some, None, map}
@@ -17,12 +17,12 @@ use Rattle.match_pruning.specs.declared.window.Window.{Window}
 use Rattle.match_pruning.specs.Stores.{Part, a_side, Store, window_of, side, level, levels, stores_under}
 use Rattle.match_stream.specs.declared.row.Row.{Row}
 use Rattle.match_stream.specs.declared.join.Join.TheVariants as join
-use Rattle.match_stream.specs.PieceTree.{PieceTree, hold, trees_in}
-use Rattle.match_stream.specs.LivePart.{MayHold, IsLive, HoldsLive, AreLive}
-use Rattle.match_stream.specs.inner.Lives.{lives}
+use Rattle.match_stream.specs.PartialMatchTree.{PartialMatchTree, hold, trees_in}
+use Rattle.match_stream.specs.RetainedPart.{MayHold, IsRetained, HoldsRetained, AreRetained}
+use Rattle.match_stream.specs.inner.Retains.{retains}
 use Rattle.match_stream.specs.inner.Steps.{held_with, SideStores, State, a_leaf, a_join, a_choice, a_limit, a_chain, step_new, step_state, levels_after, no_levels, empty_state, contents_of}
 use Rattle.match_stream.specs.inner.Shape.{same_bool, same_count, same_time, same_window, have_windows, fits}
-use Rattle.match_stream.proofs.LivesLemmas.{gone_expired, expired_gone, le_both, le_self}
+use Rattle.match_stream.proofs.RetainsLemmas.{gone_expired, expired_gone, le_both, le_self}
 use Rattle.match_stream.proofs.LevelLemmas.{length_after}
 use Rattle.match_stream.proofs.StoreLemmas.{AreHeld}
 use Rattle.match_stream.proofs.StepLemmas.{SidesStand, LevelsStand, AllLevelsStand, Stands, all_of}
@@ -37,67 +37,67 @@ pub trees_held : (o : Observed) (xs : List BindTree) → trees_in (map (hold o) 
 trees_held o [] = refl
 trees_held o (x ∷ xs) = ap (λ ys. x ∷ ys) (trees_held o xs)
 
--- what passes is live
-is_live : (o : Observed) (now : ℤ) (store : Store) (f : BindTree → Bool) → ((x : BindTree) → (f x ≡ true) ↔ MayHold o store.part x) → (x : BindTree) →
-    (f x && lives store.window (earliest o.first x) now) ≡ true → IsLive o now store x
-is_live o now store f h x k =
-    let parts = and_parts (f x) (lives store.window (earliest o.first x) now) k in (
+-- what passes is retained
+is_retained : (o : Observed) (now : ℤ) (store : Store) (f : BindTree → Bool) → ((x : BindTree) → (f x ≡ true) ↔ MayHold o store.part x) → (x : BindTree) →
+    (f x && retains store.window (earliest o.first x) now) ≡ true → IsRetained o now store x
+is_retained o now store f h x k =
+    let parts = and_parts (f x) (retains store.window (earliest o.first x) now) k in (
       (h x).0 parts.0,
-      λ z. let no : lives store.window (earliest o.first x) now ≡ false = expired_gone store.window (earliest o.first x) now z in
+      λ z. let no : retains store.window (earliest o.first x) now ≡ false = expired_gone store.window (earliest o.first x) now z in
           let e : true ≡ false = sym parts.1 ∙ no in cc,
     )
 
 -- what doesn't pass isn't
-not_live : (o : Observed) (now : ℤ) (store : Store) (f : BindTree → Bool) → ((x : BindTree) → (f x ≡ true) ↔ MayHold o store.part x) → (x : BindTree) →
-    (f x && lives store.window (earliest o.first x) now) ≡ false → IsLive o now store x → ⊥
-not_live o now store f h x k z = by (f x) (lives store.window (earliest o.first x) now) refl refl k where
-  by : (a b : Bool) → f x ≡ a → lives store.window (earliest o.first x) now ≡ b → (a && b) ≡ false → ⊥
+not_retained : (o : Observed) (now : ℤ) (store : Store) (f : BindTree → Bool) → ((x : BindTree) → (f x ≡ true) ↔ MayHold o store.part x) → (x : BindTree) →
+    (f x && retains store.window (earliest o.first x) now) ≡ false → IsRetained o now store x → ⊥
+not_retained o now store f h x k z = by (f x) (retains store.window (earliest o.first x) now) refl refl k where
+  by : (a b : Bool) → f x ≡ a → retains store.window (earliest o.first x) now ≡ b → (a && b) ≡ false → ⊥
   by false b ea eb e = let yes_it_is : f x ≡ true = (h x).1 z.0 in let no : true ≡ false = sym yes_it_is ∙ ea in cc
   by true false ea eb e = z.1 (gone_expired store.window (earliest o.first x) now eb)
   by true true ea eb e = cc
 
-pub to_held : (o : Observed) (now : ℤ) (store : Store) (f : BindTree → Bool) → ((x : BindTree) → (f x ≡ true) ↔ MayHold o store.part x) → (held : List PieceTree) →
-    HoldsLive o now store held → AreHeld o (λ x. f x && lives store.window (earliest o.first x) now) held
-to_held o now store f h held live = (trees_in held, live.times, each) where
-  by : (x : BindTree) (t : Bool) → (f x && lives store.window (earliest o.first x) now) ≡ t → count x (trees_in held) ≡ bit (f x && lives store.window (earliest o.first x) now)
-  by x true e = rw e (live.each_once x (is_live o now store f h x e))
-  by x false e = rw e (live.no_other x (not_live o now store f h x e))
+pub to_held : (o : Observed) (now : ℤ) (store : Store) (f : BindTree → Bool) → ((x : BindTree) → (f x ≡ true) ↔ MayHold o store.part x) → (held : List PartialMatchTree) →
+    HoldsRetained o now store held → AreHeld o (λ x. f x && retains store.window (earliest o.first x) now) held
+to_held o now store f h held retained = (trees_in held, retained.times, each) where
+  by : (x : BindTree) (t : Bool) → (f x && retains store.window (earliest o.first x) now) ≡ t → count x (trees_in held) ≡ bit (f x && retains store.window (earliest o.first x) now)
+  by x true e = rw e (retained.each_once x (is_retained o now store f h x e))
+  by x false e = rw e (retained.no_other x (not_retained o now store f h x e))
 
-  each : (x : BindTree) → count x (trees_in held) ≡ bit (f x && lives store.window (earliest o.first x) now)
-  each x = by x (f x && lives store.window (earliest o.first x) now) refl
+  each : (x : BindTree) → count x (trees_in held) ≡ bit (f x && retains store.window (earliest o.first x) now)
+  each x = by x (f x && retains store.window (earliest o.first x) now) refl
 
-pub from_held : (o : Observed) (now : ℤ) (store : Store) (f : BindTree → Bool) → ((x : BindTree) → (f x ≡ true) ↔ MayHold o store.part x) → (held : List PieceTree) →
-    AreHeld o (λ x. f x && lives store.window (earliest o.first x) now) held → HoldsLive o now store held
+pub from_held : (o : Observed) (now : ℤ) (store : Store) (f : BindTree → Bool) → ((x : BindTree) → (f x ≡ true) ↔ MayHold o store.part x) → (held : List PartialMatchTree) →
+    AreHeld o (λ x. f x && retains store.window (earliest o.first x) now) held → HoldsRetained o now store held
 from_held o now store f h held (xs, is, each) = record {
   times = is ∙ sym (ap (map (hold o)) same);
-  each_once = λ x k. ap (count x) same ∙ each x ∙ ap bit (yes_it_is x k (f x && lives store.window (earliest o.first x) now) refl);
-  no_other = λ x k. ap (count x) same ∙ each x ∙ ap bit (no_it_isnt x k (f x && lives store.window (earliest o.first x) now) refl);
+  each_once = λ x k. ap (count x) same ∙ each x ∙ ap bit (yes_it_is x k (f x && retains store.window (earliest o.first x) now) refl);
+  no_other = λ x k. ap (count x) same ∙ each x ∙ ap bit (no_it_isnt x k (f x && retains store.window (earliest o.first x) now) refl);
 } where
   same : trees_in held ≡ xs
   same = ap trees_in is ∙ trees_held o xs
 
-  yes_it_is : (x : BindTree) → IsLive o now store x → (b : Bool) → (f x && lives store.window (earliest o.first x) now) ≡ b → (f x && lives store.window (earliest o.first x) now) ≡ true
+  yes_it_is : (x : BindTree) → IsRetained o now store x → (b : Bool) → (f x && retains store.window (earliest o.first x) now) ≡ b → (f x && retains store.window (earliest o.first x) now) ≡ true
   yes_it_is x k true e = e
-  yes_it_is x k false e = absurd (not_live o now store f h x e k)
+  yes_it_is x k false e = absurd (not_retained o now store f h x e k)
 
-  no_it_isnt : (x : BindTree) → (IsLive o now store x → ⊥) → (b : Bool) → (f x && lives store.window (earliest o.first x) now) ≡ b → (f x && lives store.window (earliest o.first x) now) ≡ false
-  no_it_isnt x k true e = absurd (k (is_live o now store f h x e))
+  no_it_isnt : (x : BindTree) → (IsRetained o now store x → ⊥) → (b : Bool) → (f x && retains store.window (earliest o.first x) now) ≡ b → (f x && retains store.window (earliest o.first x) now) ≡ false
+  no_it_isnt x k true e = absurd (k (is_retained o now store f h x e))
   no_it_isnt x k false e = e
 
 -- ---- lists of stores
 
-live_append : (o : Observed) (now : ℤ) (xs ys : List Store) (us vs : List (List PieceTree)) → AreLive o now xs us → AreLive o now ys vs → AreLive o now (xs ++ ys) (us ++ vs)
-live_append o now [] ys [] vs h k = k
-live_append o now (x ∷ xs) ys (u ∷ us) vs h k = (h.0, live_append o now xs ys us vs h.1 k)
-live_append o now xs ys us vs h k = absurd h
+retained_append : (o : Observed) (now : ℤ) (xs ys : List Store) (us vs : List (List PartialMatchTree)) → AreRetained o now xs us → AreRetained o now ys vs → AreRetained o now (xs ++ ys) (us ++ vs)
+retained_append o now [] ys [] vs h k = k
+retained_append o now (x ∷ xs) ys (u ∷ us) vs h k = (h.0, retained_append o now xs ys us vs h.1 k)
+retained_append o now xs ys us vs h k = absurd h
 
-live_split : (o : Observed) (now : ℤ) (xs ys : List Store) (us vs : List (List PieceTree)) → length xs ≡ length us → AreLive o now (xs ++ ys) (us ++ vs) →
-    AreLive o now xs us × AreLive o now ys vs
-live_split o now [] ys [] vs e h = (tt, h)
-live_split o now [] ys (u ∷ us) vs e h = absurd (omega arith)
-live_split o now (x ∷ xs) ys [] vs e h = absurd (omega arith)
-live_split o now (x ∷ xs) ys (u ∷ us) vs e h =
-    let rest = live_split o now xs ys us vs (omega arith) h.1 in ((h.0, rest.0), rest.1)
+retained_split : (o : Observed) (now : ℤ) (xs ys : List Store) (us vs : List (List PartialMatchTree)) → length xs ≡ length us → AreRetained o now (xs ++ ys) (us ++ vs) →
+    AreRetained o now xs us × AreRetained o now ys vs
+retained_split o now [] ys [] vs e h = (tt, h)
+retained_split o now [] ys (u ∷ us) vs e h = absurd (omega arith)
+retained_split o now (x ∷ xs) ys [] vs e h = absurd (omega arith)
+retained_split o now (x ∷ xs) ys (u ∷ us) vs e h =
+    let rest = retained_split o now xs ys us vs (omega arith) h.1 in ((h.0, rest.0), rest.1)
 
 -- ---- windows
 
@@ -133,15 +133,15 @@ time_self (Some n) = let e = true_le n n (le_self n) in and_from _ _ e e
 
 pub same_window_is : (a b : Window) → same_window a b ≡ true → a ≡ b
 same_window_is a b h =
-    let parts = and_parts (same_count a.seconds b.seconds && same_time a.start b.start) (same_time a.stop b.stop && same_bool a.behind b.behind) h in
+    let parts = and_parts (same_count a.seconds b.seconds && same_time a.start b.start) (same_time a.stop b.stop && same_bool a.after_left b.after_left) h in
     let one = and_parts (same_count a.seconds b.seconds) (same_time a.start b.start) parts.0 in
-    let two = and_parts (same_time a.stop b.stop) (same_bool a.behind b.behind) parts.1 in
+    let two = and_parts (same_time a.stop b.stop) (same_bool a.after_left b.after_left) parts.1 in
     let e = same_count_is a.seconds b.seconds one.0 in let f = same_time_is a.start b.start one.1 in
-    let g = same_time_is a.stop b.stop two.0 in let k = same_bool_is a.behind b.behind two.1 in
-    λ i. record { seconds = e i; start = f i; stop = g i; behind = k i }
+    let g = same_time_is a.stop b.stop two.0 in let k = same_bool_is a.after_left b.after_left two.1 in
+    λ i. record { seconds = e i; start = f i; stop = g i; after_left = k i }
 
 window_self : (a : Window) → same_window a a ≡ true
-window_self a = and_from _ _ (and_from _ _ (count_self a.seconds) (time_self a.start)) (and_from _ _ (time_self a.stop) (bool_self a.behind))
+window_self a = and_from _ _ (and_from _ _ (count_self a.seconds) (time_self a.start)) (and_from _ _ (time_self a.stop) (bool_self a.after_left))
 
 -- ---- levels
 
@@ -163,39 +163,39 @@ levels_are (suc n) w p =
     ∙ ap (λ m. levels_from 1 n w p ++ level w p m ∷ []) (let e : suc n ≡ 1 + n = omega arith in e)
     ∙ sym (levels_from_more 1 n w p)
 
-to_levels : Rule → (o : Observed) (s : ℤ) (w : Bounds) (p : NumberedPattern) (n k j : ℕ) (held : List (List PieceTree)) → n ≡ k + j →
-    AreLive o s (levels_from j k w p) held → LevelsStand o (are_repeats (is_binding o p)) s w n j held
+to_levels : Rule → (o : Observed) (s : ℤ) (w : Bounds) (p : NumberedPattern) (n k j : ℕ) (held : List (List PartialMatchTree)) → n ≡ k + j →
+    AreRetained o s (levels_from j k w p) held → LevelsStand o (are_repeats (is_binding o p)) s w n j held
 to_levels rule o s w p n zero j [] e h = omega arith
 to_levels rule o s w p n zero j (u ∷ us) e h = absurd h
 to_levels rule o s w p n (suc k) j [] e h = absurd h
 to_levels rule o s w p n (suc k) j (u ∷ us) e h =
     (to_held o s (level w p j) (are_repeats (is_binding o p) j) (λ x. rule o (Repeats p j) x) u h.0, to_levels rule o s w p n k (suc j) us (omega arith) h.1)
 
-levels_length : (o : Observed) (f : ℕ → BindTree → Bool) (s : ℤ) (w : Bounds) (n j : ℕ) (held : List (List PieceTree)) → LevelsStand o f s w n j held → n ≡ length held + j
+levels_length : (o : Observed) (f : ℕ → BindTree → Bool) (s : ℤ) (w : Bounds) (n j : ℕ) (held : List (List PartialMatchTree)) → LevelsStand o f s w n j held → n ≡ length held + j
 levels_length o f s w n j [] st = omega (arith, st)
 levels_length o f s w n j (u ∷ us) st = omega (arith, levels_length o f s w n (suc j) us st.1)
 
-from_levels : Rule → (o : Observed) (s : ℤ) (w : Bounds) (p : NumberedPattern) (n k j : ℕ) (held : List (List PieceTree)) → n ≡ k + j →
-    LevelsStand o (are_repeats (is_binding o p)) s w n j held → AreLive o s (levels_from j k w p) held
+from_levels : Rule → (o : Observed) (s : ℤ) (w : Bounds) (p : NumberedPattern) (n k j : ℕ) (held : List (List PartialMatchTree)) → n ≡ k + j →
+    LevelsStand o (are_repeats (is_binding o p)) s w n j held → AreRetained o s (levels_from j k w p) held
 from_levels rule o s w p n zero j [] e st = tt
 from_levels rule o s w p n (suc k) j [] e st = absurd (omega (arith, st))
 from_levels rule o s w p n zero j (u ∷ us) e st = absurd (omega (arith, levels_length o (are_repeats (is_binding o p)) s w n (suc j) us st.1))
 from_levels rule o s w p n (suc k) j (u ∷ us) e st =
     (from_held o s (level w p j) (are_repeats (is_binding o p) j) (λ x. rule o (Repeats p j) x) u st.0, from_levels rule o s w p n k (suc j) us (omega arith) st.1)
 
-to_all_levels : Rule → (o : Observed) (s : ℤ) (w : Bounds) (p : NumberedPattern) (n : ℕ) (held : List (List PieceTree)) →
-    AreLive o s (levels w p n) held → AllLevelsStand o (are_repeats (is_binding o p)) s w n held
+to_all_levels : Rule → (o : Observed) (s : ℤ) (w : Bounds) (p : NumberedPattern) (n : ℕ) (held : List (List PartialMatchTree)) →
+    AreRetained o s (levels w p n) held → AllLevelsStand o (are_repeats (is_binding o p)) s w n held
 to_all_levels rule o s w p zero [] h = refl
 to_all_levels rule o s w p zero (u ∷ us) h = absurd h
 to_all_levels rule o s w p (suc n) held h =
-    to_levels rule o s w p (suc n) n 1 held (omega arith) (subst (λ (z : List Store). AreLive o s z held) (levels_are n w p) h)
+    to_levels rule o s w p (suc n) n 1 held (omega arith) (subst (λ (z : List Store). AreRetained o s z held) (levels_are n w p) h)
 
-from_all_levels : Rule → (o : Observed) (s : ℤ) (w : Bounds) (p : NumberedPattern) (n : ℕ) (held : List (List PieceTree)) →
-    AllLevelsStand o (are_repeats (is_binding o p)) s w n held → AreLive o s (levels w p n) held
+from_all_levels : Rule → (o : Observed) (s : ℤ) (w : Bounds) (p : NumberedPattern) (n : ℕ) (held : List (List PartialMatchTree)) →
+    AllLevelsStand o (are_repeats (is_binding o p)) s w n held → AreRetained o s (levels w p n) held
 from_all_levels rule o s w p zero [] st = tt
 from_all_levels rule o s w p zero (u ∷ us) st = absurd (cc)
 from_all_levels rule o s w p (suc n) held st =
-    subst (λ (z : List Store). AreLive o s z held) (sym (levels_are n w p)) (from_levels rule o s w p (suc n) n 1 held (omega arith) st)
+    subst (λ (z : List Store). AreRetained o s z held) (sym (levels_are n w p)) (from_levels rule o s w p (suc n) n 1 held (omega arith) st)
 
 from_length : (j k : ℕ) (w : Bounds) (p : NumberedPattern) → length (levels_from j k w p) ≡ k
 from_length j zero w p = refl
@@ -232,79 +232,79 @@ stores_length (Repeats p n) w (a_chain part count window held) h =
 stores_length p w z h = absurd (cc)
 
 sides_from : Rule → (o : Observed) (s : ℤ) (p q : NumberedPattern) (w : Bounds) (v : Window) (right : Store) → right.part ≡ a_side q → right.window ≡ v → (sides : SideStores) →
-    have_windows sides (window_of w false) v ≡ true → HoldsLive o s (side w false p) sides.left → HoldsLive o s right sides.right →
+    have_windows sides (window_of w false) v ≡ true → HoldsRetained o s (side w false p) sides.left → HoldsRetained o s right sides.right →
     SidesStand o (is_binding o p) (is_binding o q) s w v sides
-sides_from rule o s p q w v right part window sides h left_live right_live =
+sides_from rule o s p q w v right part window sides h left_retained right_retained =
     let parts = and_parts (same_window sides.left_window (window_of w false)) (same_window sides.right_window v) h in record {
       left_window = same_window_is sides.left_window (window_of w false) parts.0;
       right_window = same_window_is sides.right_window v parts.1;
-      left = to_held o s (side w false p) (is_binding o p) (λ x. rule o p x) sides.left left_live;
-      right = subst (λ (u : Window). AreHeld o (λ x. is_binding o q x && lives u (earliest o.first x) s) sides.right) window
-          (to_held o s right (is_binding o q) (λ x. subst (λ (u : Part). (is_binding o q x ≡ true) ↔ MayHold o u x) (sym part) (rule o q x)) sides.right right_live);
+      left = to_held o s (side w false p) (is_binding o p) (λ x. rule o p x) sides.left left_retained;
+      right = subst (λ (u : Window). AreHeld o (λ x. is_binding o q x && retains u (earliest o.first x) s) sides.right) window
+          (to_held o s right (is_binding o q) (λ x. subst (λ (u : Part). (is_binding o q x ≡ true) ↔ MayHold o u x) (sym part) (rule o q x)) sides.right right_retained);
     }
 
-pub stands_from : Rule → (o : Observed) (s : ℤ) (p : NumberedPattern) (w : Bounds) (z : State) → fits w p z ≡ true → AreLive o s (stores_under w p) (contents_of z) →
+pub stands_from : Rule → (o : Observed) (s : ℤ) (p : NumberedPattern) (w : Bounds) (z : State) → fits w p z ≡ true → AreRetained o s (stores_under w p) (contents_of z) →
     Stands o (all_of o) s w p z
-stands_from rule o s (Leaf k) w (a_leaf leaf window) h live =
+stands_from rule o s (Leaf k) w (a_leaf leaf window) h retained =
     let parts = and_parts (nat_eq leaf k) (same_window window (window_of w false)) h in (eqb-true leaf k parts.0, same_window_is window (window_of w false) parts.1)
-stands_from rule o s (Both p q) w (a_join join.Both l r sides) h live =
+stands_from rule o s (Both p q) w (a_join join.Both l r sides) h retained =
     let parts = and_parts (fits w p l && fits w q r) (have_windows sides (window_of w false) (window_of w false)) h in
     let both = and_parts (fits w p l) (fits w q r) parts.0 in
-    let rest = live_split o s (stores_under w p) (stores_under w q) (contents_of l) (contents_of r) (stores_length p w l both.0) live.1.1 in (
+    let rest = retained_split o s (stores_under w p) (stores_under w q) (contents_of l) (contents_of r) (stores_length p w l both.0) retained.1.1 in (
       stands_from rule o s p w l both.0 rest.0,
       stands_from rule o s q w r both.1 rest.1,
-      sides_from rule o s p q w (window_of w false) (side w false q) refl refl sides parts.1 live.0 live.1.0,
+      sides_from rule o s p q w (window_of w false) (side w false q) refl refl sides parts.1 retained.0 retained.1.0,
     )
-stands_from rule o s (Then p q) w (a_join join.Then l r sides) h live =
+stands_from rule o s (Then p q) w (a_join join.Then l r sides) h retained =
     let parts = and_parts (fits w p l && fits w q r) (have_windows sides (window_of w false) (window_of w true)) h in
     let both = and_parts (fits w p l) (fits w q r) parts.0 in
-    let rest = live_split o s (stores_under w p) (stores_under w q) (contents_of l) (contents_of r) (stores_length p w l both.0) live.1.1 in (
+    let rest = retained_split o s (stores_under w p) (stores_under w q) (contents_of l) (contents_of r) (stores_length p w l both.0) retained.1.1 in (
       stands_from rule o s p w l both.0 rest.0,
       stands_from rule o s q w r both.1 rest.1,
-      sides_from rule o s p q w (window_of w true) (side w true q) refl refl sides parts.1 live.0 live.1.0,
+      sides_from rule o s p q w (window_of w true) (side w true q) refl refl sides parts.1 retained.0 retained.1.0,
     )
-stands_from rule o s (Either p q) w (a_choice l r) h live =
+stands_from rule o s (Either p q) w (a_choice l r) h retained =
     let both = and_parts (fits w p l) (fits w q r) h in
-    let rest = live_split o s (stores_under w p) (stores_under w q) (contents_of l) (contents_of r) (stores_length p w l both.0) live in
+    let rest = retained_split o s (stores_under w p) (stores_under w q) (contents_of l) (contents_of r) (stores_length p w l both.0) retained in
     (stands_from rule o s p w l both.0 rest.0, stands_from rule o s q w r both.1 rest.1)
-stands_from rule o s (Within p x) w (a_limit part) h live = stands_from rule o s p (within w x) part h live
-stands_from rule o s (Between p x y) w (a_limit part) h live = stands_from rule o s p (between w x y) part h live
-stands_from rule o s (Repeats p n) w (a_chain part count window held) h live =
+stands_from rule o s (Within p x) w (a_limit part) h retained = stands_from rule o s p (within w x) part h retained
+stands_from rule o s (Between p x y) w (a_limit part) h retained = stands_from rule o s p (between w x y) part h retained
+stands_from rule o s (Repeats p n) w (a_chain part count window held) h retained =
     let parts = and_parts (fits w p part && same_window window (window_of w false)) (nat_eq count n && nat_eq (length held) (n - 1)) h in
     let two = and_parts (fits w p part) (same_window window (window_of w false)) parts.0 in
     let last = and_parts (nat_eq count n) (nat_eq (length held) (n - 1)) parts.1 in
     let many : length held ≡ n - 1 = eqb-true (length held) (n - 1) last.1 in
-    let rest = live_split o s (levels w p n) (stores_under w p) held (contents_of part) (levels_count w p n ∙ sym many) live in (
+    let rest = retained_split o s (levels w p n) (stores_under w p) held (contents_of part) (levels_count w p n ∙ sym many) retained in (
       stands_from rule o s p w part two.0 rest.1,
       eqb-true count n last.0,
       same_window_is window (window_of w false) two.1,
       to_all_levels rule o s w p n held rest.0,
     )
-stands_from rule o s p w z h live = absurd (cc)
+stands_from rule o s p w z h retained = absurd (cc)
 
-pub live_from : Rule → (o : Observed) (s : ℤ) (p : NumberedPattern) (w : Bounds) (z : State) → Stands o (all_of o) s w p z → AreLive o s (stores_under w p) (contents_of z)
-live_from rule o s (Leaf k) w (a_leaf leaf window) st = tt
-live_from rule o s (Both p q) w (a_join join.Both l r sides) st = (
+pub retained_from : Rule → (o : Observed) (s : ℤ) (p : NumberedPattern) (w : Bounds) (z : State) → Stands o (all_of o) s w p z → AreRetained o s (stores_under w p) (contents_of z)
+retained_from rule o s (Leaf k) w (a_leaf leaf window) st = tt
+retained_from rule o s (Both p q) w (a_join join.Both l r sides) st = (
   from_held o s (side w false p) (is_binding o p) (λ x. rule o p x) sides.left st.2.left,
   (
     from_held o s (side w false q) (is_binding o q) (λ x. rule o q x) sides.right st.2.right,
-    live_append o s (stores_under w p) (stores_under w q) (contents_of l) (contents_of r) (live_from rule o s p w l st.0) (live_from rule o s q w r st.1),
+    retained_append o s (stores_under w p) (stores_under w q) (contents_of l) (contents_of r) (retained_from rule o s p w l st.0) (retained_from rule o s q w r st.1),
   ),
 )
-live_from rule o s (Then p q) w (a_join join.Then l r sides) st = (
+retained_from rule o s (Then p q) w (a_join join.Then l r sides) st = (
   from_held o s (side w false p) (is_binding o p) (λ x. rule o p x) sides.left st.2.left,
   (
     from_held o s (side w true q) (is_binding o q) (λ x. rule o q x) sides.right st.2.right,
-    live_append o s (stores_under w p) (stores_under w q) (contents_of l) (contents_of r) (live_from rule o s p w l st.0) (live_from rule o s q w r st.1),
+    retained_append o s (stores_under w p) (stores_under w q) (contents_of l) (contents_of r) (retained_from rule o s p w l st.0) (retained_from rule o s q w r st.1),
   ),
 )
-live_from rule o s (Either p q) w (a_choice l r) st =
-    live_append o s (stores_under w p) (stores_under w q) (contents_of l) (contents_of r) (live_from rule o s p w l st.0) (live_from rule o s q w r st.1)
-live_from rule o s (Within p x) w (a_limit part) st = live_from rule o s p (within w x) part st
-live_from rule o s (Between p x y) w (a_limit part) st = live_from rule o s p (between w x y) part st
-live_from rule o s (Repeats p n) w (a_chain part count window held) st =
-    live_append o s (levels w p n) (stores_under w p) held (contents_of part) (from_all_levels rule o s w p n held st.3) (live_from rule o s p w part st.0)
-live_from rule o s p w z st = absurd st
+retained_from rule o s (Either p q) w (a_choice l r) st =
+    retained_append o s (stores_under w p) (stores_under w q) (contents_of l) (contents_of r) (retained_from rule o s p w l st.0) (retained_from rule o s q w r st.1)
+retained_from rule o s (Within p x) w (a_limit part) st = retained_from rule o s p (within w x) part st
+retained_from rule o s (Between p x y) w (a_limit part) st = retained_from rule o s p (between w x y) part st
+retained_from rule o s (Repeats p n) w (a_chain part count window held) st =
+    retained_append o s (levels w p n) (stores_under w p) held (contents_of part) (from_all_levels rule o s w p n held st.3) (retained_from rule o s p w part st.0)
+retained_from rule o s p w z st = absurd st
 
 -- a row leaves the shape
 both_same : (a b c d : Bool) → a ≡ c → b ≡ d → (a && b) ≡ (c && d)

@@ -18,17 +18,17 @@ use Rattle.match_pruning.specs.Stores.{window_of}
 use Rattle.match_stream.specs.declared.join.Join.{Join}
 use Rattle.match_stream.specs.declared.join.Join.TheVariants as join
 use Rattle.match_stream.specs.declared.row.Row.{Row}
-use Rattle.match_stream.specs.PieceTree.{PieceTree, hold}
-use Rattle.match_stream.specs.inner.Lives.{alive, lives}
+use Rattle.match_stream.specs.PartialMatchTree.{PartialMatchTree, hold}
+use Rattle.match_stream.specs.inner.Retains.{alive, retains}
 use Rattle.match_stream.specs.inner.Steps.{held_with, joined_tree, may_join, joins, kept, SideStores, State, a_leaf, a_join, a_choice, a_limit, a_chain, truth_at, new_at_leaf, joins_new, sides_after, levels_new, levels_after, counted, step_new, step_state}
 use Rattle.match_bindings.proofs.ListLemmas.{map_append}
 use Rattle.match_bindings.proofs.PairsLemmas.{pairs}
 use Rattle.match_bindings.proofs.OnceLemmas.{same_self, count_append, count_others, count_under, count_not_under}
-use Rattle.match_stream.proofs.AliveLemmas.{alive_min, alive_within, alive_between, behind_alive, behind_ahead}
+use Rattle.match_stream.proofs.AliveLemmas.{alive_min, alive_within, alive_between, after_left_alive, after_left_ahead}
 use Rattle.match_stream.proofs.NumberLemmas.{latest_new, latest_binding, has_greatest, greatest_binding, old_set, apart}
 use Rattle.match_stream.proofs.JoinLemmas.{join_law, level_law}
 use Rattle.match_stream.proofs.StoreLemmas.{AreHeld, held_same, joins_are, both_joins_are, under_are, bit_positive, sets_made, kept_law, added_law, stored_law}
-use Rattle.match_stream.proofs.LivesLemmas.{le_both}
+use Rattle.match_stream.proofs.RetainsLemmas.{le_both}
 
 -- ---- what stands before and after a row
 
@@ -48,24 +48,24 @@ without n o = record {
   level = λ p j x. are_repeats (is_binding o p) j x && not (has n x);
 }
 
--- the stores of two sides hold what counts and lives at s
+-- the stores of two sides hold what counts and retains at s
 pub record SidesStand (o : Observed) (f g : BindTree → Bool) (s : ℤ) (w : Bounds) (v : Window) (sides : SideStores) : Type 0 where
   pub left_window : sides.left_window ≡ window_of w false
   pub right_window : sides.right_window ≡ v
   pub left : AreHeld o (λ x. f x && alive w (earliest o.first x) s) sides.left
-  pub right : AreHeld o (λ x. g x && lives v (earliest o.first x) s) sides.right
+  pub right : AreHeld o (λ x. g x && retains v (earliest o.first x) s) sides.right
 
 -- the stores of the levels from j on, up to the one before n
-abbrev pub LevelsStand : Observed → (ℕ → BindTree → Bool) → ℤ → Bounds → ℕ → ℕ → List (List PieceTree) → Type 0
+abbrev pub LevelsStand : Observed → (ℕ → BindTree → Bool) → ℤ → Bounds → ℕ → ℕ → List (List PartialMatchTree) → Type 0
 LevelsStand o f s w n j [] = n ≡ j
 LevelsStand o f s w n j (held ∷ levels) = AreHeld o (λ x. f j x && alive w (earliest o.first x) s) held × LevelsStand o f s w n (suc j) levels
 
 -- none of no repeats
-abbrev pub AllLevelsStand : Observed → (ℕ → BindTree → Bool) → ℤ → Bounds → ℕ → List (List PieceTree) → Type 0
+abbrev pub AllLevelsStand : Observed → (ℕ → BindTree → Bool) → ℤ → Bounds → ℕ → List (List PartialMatchTree) → Type 0
 AllLevelsStand o f s w zero levels = levels ≡ []
 AllLevelsStand o f s w (suc n) levels = LevelsStand o f s w (suc n) 1 levels
 
--- the stores hold what counts and lives at s
+-- the stores hold what counts and retains at s
 abbrev pub Stands : Observed → Counted → ℤ → Bounds → NumberedPattern → State → Type 0
 Stands o b s w (Leaf k) (a_leaf leaf window) = (leaf ≡ k) × (window ≡ window_of w false)
 Stands o b s w (Both p q) (a_join join.Both l r sides) = Stands o b s w p l × Stands o b s w q r × SidesStand o (b.binding p) (b.binding q) s w (window_of w false) sides
@@ -209,15 +209,15 @@ pub record Joined (o : Observed) (n : ℕ) (t : ℤ) (w : Bounds) (v : Window) (
   pub other : (x : BindTree) → ((c d : BindTree) → same x (Pair c d) ≡ false) → f x ≡ false
   pub pair : (a b : BindTree) → f (Pair a b) ≡ (p a && q b && may_join j (hold o a) (hold o b))
   pub distinct : (a b : BindTree) → may_join j (hold o a) (hold o b) ≡ true → (has n a && has n b) ≡ false
-  pub reach : (a b : BindTree) → has n a ≡ true → may_join j (hold o a) (hold o b) ≡ true → lives v (earliest o.first b) t ≡ alive w (earliest o.first b) t
-  pub lasting : (e : ℤ) → lives v e t ≡ true → alive w e t ≡ true
+  pub completion_bound : (a b : BindTree) → has n a ≡ true → may_join j (hold o a) (hold o b) ≡ true → retains v (earliest o.first b) t ≡ alive w (earliest o.first b) t
+  pub lasting : (e : ℤ) → retains v e t ≡ true → alive w e t ≡ true
 
 join_node : (o : Observed) (n : ℕ) (t : ℤ) (w : Bounds) (v : Window) (j : Join) (p q f : BindTree → Bool) → Joined o n t w v j p q f →
-    (new_l left new_r right : List PieceTree) →
+    (new_l left new_r right : List PartialMatchTree) →
     AreHeld o (λ x. (p x && alive w (earliest o.first x) t) && has n x) new_l →
     AreHeld o (λ x. (p x && alive w (earliest o.first x) t) && not (has n x)) left →
     AreHeld o (λ x. (q x && alive w (earliest o.first x) t) && has n x) new_r →
-    AreHeld o (λ x. (q x && lives v (earliest o.first x) t) && not (has n x)) right →
+    AreHeld o (λ x. (q x && retains v (earliest o.first x) t) && not (has n x)) right →
     AreHeld o (λ x. (f x && alive w (earliest o.first x) t) && has n x) (joins j new_l right ++ joins j left new_r)
 join_node o n t w v j p q f k new_l left new_r right (us, u_is, u_each) (cs, c_is, c_each) (ds, d_is, d_each) (bs, b_is, b_each) = (
   pairs Pair (λ a b. may_join j (hold o a) (hold o b)) us bs ++ pairs Pair (λ a b. may_join j (hold o a) (hold o b)) cs ds,
@@ -246,10 +246,10 @@ join_node o n t w v j p q f k new_l left new_r right (us, u_is, u_each) (cs, c_i
       join_law Pair pair_joins n
       (λ x. p x && alive w (earliest o.first x) t)
       (λ x. q x && alive w (earliest o.first x) t)
-      (λ x. (q x && lives v (earliest o.first x) t) && not (has n x))
+      (λ x. (q x && retains v (earliest o.first x) t) && not (has n x))
       (λ x. (p x && alive w (earliest o.first x) t) && not (has n x))
       (λ a b. may_join j (hold o a) (hold o b)) us cs ds bs u_each c_each d_each b_each
-      (λ a b hp hn hc. ap (λ z. (q b && z) && not (has n b)) (k.reach a b hn hc))
+      (λ a b hp hn hc. ap (λ z. (q b && z) && not (has n b)) (k.completion_bound a b hn hc))
       (λ a b hq hn hc. refl)
       (λ a b hc. k.distinct a b hc) a b
       ∙ ap bit (side_bits (p a) (q b) (may_join j (hold o a) (hold o b)) (alive w (earliest o.first a) t) (alive w (earliest o.first b) t) (has n a || has n b))
@@ -264,7 +264,7 @@ join_node o n t w v j p q f k new_l left new_r right (us, u_is, u_each) (cs, c_i
 
 -- what ends at a node that joins two sides, and what is kept there
 sides_law : (o : Observed) (n : ℕ) (s t : ℤ) (w : Bounds) (v : Window) (j : Join) (p q f : BindTree → Bool) → Joined o n t w v j p q f → s ≤ℤ t →
-    (sides : SideStores) → SidesStand o (λ x. p x && not (has n x)) (λ x. q x && not (has n x)) s w v sides → (new_l new_r : List PieceTree) →
+    (sides : SideStores) → SidesStand o (λ x. p x && not (has n x)) (λ x. q x && not (has n x)) s w v sides → (new_l new_r : List PartialMatchTree) →
     AreHeld o (λ x. (p x && alive w (earliest o.first x) t) && has n x) new_l →
     AreHeld o (λ x. (q x && alive w (earliest o.first x) t) && has n x) new_r →
     AreHeld o (λ x. (f x && alive w (earliest o.first x) t) && has n x) (joins_new j t sides new_l new_r) × SidesStand o p q t w v (sides_after t sides new_l new_r)
@@ -272,21 +272,21 @@ sides_law o n s t w v j p q f k h sides st new_l new_r hl hr =
     let old_l : AreHeld o (λ x. (p x && alive w (earliest o.first x) t) && not (has n x)) (kept sides.left_window t sides.left) =
     subst (λ (u : Window). AreHeld o (λ x. (p x && alive w (earliest o.first x) t) && not (has n x)) (kept u t sides.left)) (sym st.left_window)
     (kept_law o (window_of w false) s t n p sides.left h st.left) in
-    let old_r : AreHeld o (λ x. (q x && lives v (earliest o.first x) t) && not (has n x)) (kept sides.right_window t sides.right) =
-    subst (λ (u : Window). AreHeld o (λ x. (q x && lives v (earliest o.first x) t) && not (has n x)) (kept u t sides.right)) (sym st.right_window)
+    let old_r : AreHeld o (λ x. (q x && retains v (earliest o.first x) t) && not (has n x)) (kept sides.right_window t sides.right) =
+    subst (λ (u : Window). AreHeld o (λ x. (q x && retains v (earliest o.first x) t) && not (has n x)) (kept u t sides.right)) (sym st.right_window)
     (kept_law o v s t n q sides.right h st.right) in
     let add_l : AreHeld o (λ x. (p x && alive w (earliest o.first x) t) && has n x) (kept sides.left_window t new_l) =
     subst (λ (u : Window). AreHeld o (λ x. (p x && alive w (earliest o.first x) t) && has n x) (kept u t new_l)) (sym st.left_window)
     (added_law o (window_of w false) w t n p new_l (λ e z. z) hl) in
-    let add_r : AreHeld o (λ x. (q x && lives v (earliest o.first x) t) && has n x) (kept sides.right_window t new_r) =
-    subst (λ (u : Window). AreHeld o (λ x. (q x && lives v (earliest o.first x) t) && has n x) (kept u t new_r)) (sym st.right_window)
+    let add_r : AreHeld o (λ x. (q x && retains v (earliest o.first x) t) && has n x) (kept sides.right_window t new_r) =
+    subst (λ (u : Window). AreHeld o (λ x. (q x && retains v (earliest o.first x) t) && has n x) (kept u t new_r)) (sym st.right_window)
     (added_law o v w t n q new_r k.lasting hr) in (
       join_node o n t w v j p q f k new_l (kept sides.left_window t sides.left) new_r (kept sides.right_window t sides.right) hl old_l hr old_r,
       record {
         left_window = st.left_window;
         right_window = st.right_window;
         left = stored_law o n (λ x. p x && alive w (earliest o.first x) t) (kept sides.left_window t sides.left) (kept sides.left_window t new_l) old_l add_l;
-        right = stored_law o n (λ x. q x && lives v (earliest o.first x) t) (kept sides.right_window t sides.right) (kept sides.right_window t new_r) old_r add_r;
+        right = stored_law o n (λ x. q x && retains v (earliest o.first x) t) (kept sides.right_window t sides.right) (kept sides.right_window t new_r) old_r add_r;
       },
     )
 
@@ -303,7 +303,7 @@ both_joined o n t w p q = record {
   other = other;
   pair = λ a b. refl;
   distinct = λ a b h. apart n a b h;
-  reach = λ a b h k. refl;
+  completion_bound = λ a b h k. refl;
   lasting = λ e h. h;
 } where
   other : (x : BindTree) → ((c d : BindTree) → same x (Pair c d) ≡ false) → is_binding o (Both p q) x ≡ false
@@ -317,11 +317,11 @@ then_joined o row truths s g w p q = record {
   other = other;
   pair = λ a b. refl;
   distinct = λ a b h. apart row.number a b (and_parts (int_le (latest o.last a) (earliest o.first b)) (disjoint a b) h).1;
-  reach = λ a b h k. behind_ahead w (earliest o.first b) row.last
+  completion_bound = λ a b h k. after_left_ahead w (earliest o.first b) row.last
       (le_trans row.last (latest o.last a) (earliest o.first b)
       (subst (λ (z : ℤ). z ≤ℤ latest o.last a) g.last (latest_new o.last row.number a h))
       (le_true (latest o.last a) (earliest o.first b) (and_parts (int_le (latest o.last a) (earliest o.first b)) (disjoint a b) k).0));
-  lasting = λ e h. behind_alive w e row.last h;
+  lasting = λ e h. after_left_alive w e row.last h;
 } where
   other : (x : BindTree) → ((c d : BindTree) → same x (Pair c d) ≡ false) → is_binding o (Then p q) x ≡ false
   other (Pair a b) h = absurd (no_pair (Pair a b) h a b refl)
@@ -339,18 +339,18 @@ swap_bits p q false true x h = refl
 swap_bits p q false false x h = refl
 
 -- one level up: the older sets of the level below, each with a new part
-level_node : (o : Observed) (row : Row) (truths : List Bool) (s : ℤ) → Given o row truths s → (p : NumberedPattern) (w : Bounds) (j : ℕ) (held new : List PieceTree) →
+level_node : (o : Observed) (row : Row) (truths : List Bool) (s : ℤ) → Given o row truths s → (p : NumberedPattern) (w : Bounds) (j : ℕ) (held new : List PartialMatchTree) →
     AreHeld o (λ x. (are_repeats (is_binding o p) (suc j) x && alive w (earliest o.first x) row.last) && not (has row.number x)) held →
     AreHeld o (ends o row.number row.last w p) new →
     AreHeld o (λ x. (are_repeats (is_binding o p) (suc (suc j)) x && alive w (earliest o.first x) row.last) && has row.number x) (joins join.Repeats held new)
 level_node o row truths s g p w j held new (xs, x_is, x_each) (ys, y_is, y_each) = (
   pairs More (λ a b. disjoint a b) xs ys,
   ap (λ z. joins join.Repeats z new) x_is ∙ ap (λ z. joins join.Repeats (map (hold o) xs) z) y_is
-      ∙ joins_are o join.Repeats More (record { early = λ a b. refl; late = λ a b. refl }) xs ys (sets_made (is_binding o p) (suc j) xs passes),
+      ∙ joins_are o join.Repeats More (record { early = λ a b. refl; late = λ a b. refl }) xs ys (sets_made (is_binding o p) (suc j) xs excludes),
   each,
 ) where
-  passes : (x : BindTree) → 0 < count x xs → are_repeats (is_binding o p) (suc j) x ≡ true
-  passes x k = (and_parts _ _ (and_parts _ _ (bit_positive ((are_repeats (is_binding o p) (suc j) x && alive w (earliest o.first x) row.last) && not (has row.number x)) (count x xs) (x_each x) k)).0).0
+  excludes : (x : BindTree) → 0 < count x xs → are_repeats (is_binding o p) (suc j) x ≡ true
+  excludes x k = (and_parts _ _ (and_parts _ _ (bit_positive ((are_repeats (is_binding o p) (suc j) x && alive w (earliest o.first x) row.last) && not (has row.number x)) (count x xs) (x_each x) k)).0).0
 
   none : (x : BindTree) → ((a b : BindTree) → same x (More a b) ≡ false) → are_repeats (is_binding o p) (suc (suc j)) x ≡ false →
       count x (pairs More (λ a b. disjoint a b) xs ys) ≡ bit ((are_repeats (is_binding o p) (suc (suc j)) x && alive w (earliest o.first x) row.last) && has row.number x)
@@ -382,7 +382,7 @@ level_node o row truths s g p w j held new (xs, x_is, x_each) (ys, y_is, y_each)
   each (Pair x y) = none (Pair x y) (λ a b. refl) refl
 
 -- what is new at the first level
-first_level : (o : Observed) (n : ℕ) (t : ℤ) (p : NumberedPattern) (w : Bounds) (new : List PieceTree) →
+first_level : (o : Observed) (n : ℕ) (t : ℤ) (p : NumberedPattern) (w : Bounds) (new : List PartialMatchTree) →
     AreHeld o (ends o n t w p) new →
     AreHeld o (λ x. (are_repeats (is_binding o p) (suc zero) x && alive w (earliest o.first x) t) && has n x) (map (held_with Single) new)
 first_level o n t p w new (ys, y_is, y_each) = (
@@ -401,7 +401,7 @@ first_level o n t p w new (ys, y_is, y_each) = (
 
 -- all levels from j on
 levels_law : (o : Observed) (row : Row) (truths : List Bool) (s : ℤ) → Given o row truths s → (p : NumberedPattern) (w : Bounds) (n j : ℕ)
-    (first new : List PieceTree) (levels : List (List PieceTree)) →
+    (first new : List PartialMatchTree) (levels : List (List PartialMatchTree)) →
     AreHeld o (λ x. (are_repeats (is_binding o p) (suc j) x && alive w (earliest o.first x) row.last) && has row.number x) first →
     AreHeld o (ends o row.number row.last w p) new →
     LevelsStand o (λ i x. are_repeats (is_binding o p) i x && not (has row.number x)) s w n (suc j) levels →
@@ -423,7 +423,7 @@ levels_law o row truths s g p w n j first new (held ∷ levels) hf hn st =
 
 -- the sets of a REPEATS
 chain_law : (o : Observed) (row : Row) (truths : List Bool) (s : ℤ) → Given o row truths s → (p : NumberedPattern) (w : Bounds) (n : ℕ)
-    (new : List PieceTree) (levels : List (List PieceTree)) → AreHeld o (ends o row.number row.last w p) new →
+    (new : List PartialMatchTree) (levels : List (List PartialMatchTree)) → AreHeld o (ends o row.number row.last w p) new →
     AllLevelsStand o (λ i x. are_repeats (is_binding o p) i x && not (has row.number x)) s w n levels →
     AreHeld o (ends o row.number row.last w (Repeats p n)) (counted n (levels_new (window_of w false) row.last (map (held_with Single) new) new levels))
     × AllLevelsStand o (λ i x. are_repeats (is_binding o p) i x) row.last w n (levels_after (window_of w false) row.last (map (held_with Single) new) new levels)
@@ -434,7 +434,7 @@ chain_law o row truths s g p w (suc n) new levels hn st =
 
 -- ---- OR
 
-either_node : (o : Observed) (n : ℕ) (t : ℤ) (p q : NumberedPattern) (w : Bounds) (new_l new_r : List PieceTree) →
+either_node : (o : Observed) (n : ℕ) (t : ℤ) (p q : NumberedPattern) (w : Bounds) (new_l new_r : List PartialMatchTree) →
     AreHeld o (ends o n t w p) new_l → AreHeld o (ends o n t w q) new_r →
     AreHeld o (ends o n t w (Either p q)) (map (held_with First) new_l ++ map (held_with Second) new_r)
 either_node o n t p q w new_l new_r (xs, x_is, x_each) (ys, y_is, y_each) = (
@@ -460,7 +460,7 @@ either_node o n t p q w new_l new_r (xs, x_is, x_each) (ys, y_is, y_each) = (
 
 -- ---- patterns
 
--- From stores that hold what lived before the row: what ends at it, and stores that hold what lives after it.
+-- From stores that hold what lived before the row: what ends at it, and stores that hold what retains after it.
 pub step_law : (o : Observed) (row : Row) (truths : List Bool) (s : ℤ) → Given o row truths s →
     (p : NumberedPattern) (w : Bounds) (z : State) → Stands o (without row.number o) s w p z →
     AreHeld o (ends o row.number row.last w p) (step_new row truths z) × Stands o (all_of o) row.last w p (step_state row truths z)

@@ -11,22 +11,22 @@ use Rattle.match_bindings.specs.declared.bounds.Bounds.{Bounds}
 use Rattle.match_pruning.specs.declared.window.Window.{Window}
 use Rattle.match_stream.specs.declared.join.Join.{Join}
 use Rattle.match_stream.specs.declared.join.Join.TheVariants as join
-use Rattle.match_stream.specs.PieceTree.{PieceTree, hold}
-use Rattle.match_stream.specs.inner.Lives.{alive, lives}
+use Rattle.match_stream.specs.PartialMatchTree.{PartialMatchTree, hold}
+use Rattle.match_stream.specs.inner.Retains.{alive, retains}
 use Rattle.match_stream.specs.inner.Steps.{held_with, joined_tree, joined, may_join, join_row, joins, kept}
 use Rattle.match_bindings.proofs.ListLemmas.{map_append, map_map, map_agree, filter_map}
 use Rattle.match_bindings.proofs.PairsLemmas.{pairs}
 use Rattle.match_bindings.proofs.OnceLemmas.{same_self, count_append, count_filter}
-use Rattle.match_stream.proofs.AliveLemmas.{lives_before}
+use Rattle.match_stream.proofs.AliveLemmas.{retains_before}
 
 -- the things are the trees that pass, each once, with their times
-abbrev pub AreHeld : Observed → (BindTree → Bool) → List PieceTree → Type 0
+abbrev pub AreHeld : Observed → (BindTree → Bool) → List PartialMatchTree → Type 0
 AreHeld o f held = (xs : List BindTree) × (held ≡ map (hold o) xs) × Exactly f xs
 
 pub exactly_same : (f g : BindTree → Bool) (xs : List BindTree) → ((x : BindTree) → f x ≡ g x) → Exactly f xs → Exactly g xs
 exactly_same f g xs h e x = e x ∙ ap bit (h x)
 
-pub held_same : (o : Observed) (f g : BindTree → Bool) (held : List PieceTree) → ((x : BindTree) → f x ≡ g x) → AreHeld o f held → AreHeld o g held
+pub held_same : (o : Observed) (f g : BindTree → Bool) (held : List PartialMatchTree) → ((x : BindTree) → f x ≡ g x) → AreHeld o f held → AreHeld o g held
 held_same o f g held h (xs, is, each) = (xs, is, exactly_same f g xs h each)
 
 -- ---- joins
@@ -116,33 +116,33 @@ sum_bits true true = refl
 sum_bits true false = refl
 sum_bits false h = refl
 
--- the older part of a store that lives at t
-pub kept_law : (o : Observed) (v : Window) (s t : ℤ) (n : ℕ) (b : BindTree → Bool) (held : List PieceTree) → s ≤ℤ t →
-    AreHeld o (λ x. (b x && not (has n x)) && lives v (earliest o.first x) s) held →
-    AreHeld o (λ x. (b x && lives v (earliest o.first x) t) && not (has n x)) (kept v t held)
+-- the older part of a store that retains at t
+pub kept_law : (o : Observed) (v : Window) (s t : ℤ) (n : ℕ) (b : BindTree → Bool) (held : List PartialMatchTree) → s ≤ℤ t →
+    AreHeld o (λ x. (b x && not (has n x)) && retains v (earliest o.first x) s) held →
+    AreHeld o (λ x. (b x && retains v (earliest o.first x) t) && not (has n x)) (kept v t held)
 kept_law o v s t n b held h (xs, is, each) = (
-  filter (λ x. lives v (earliest o.first x) t) xs,
-  ap (kept v t) is ∙ filter_map (hold o) (λ k. lives v k.earliest t) xs,
-  λ x. count_filter x (λ x. lives v (earliest o.first x) t) xs
-      ∙ ap (λ z. bit (lives v (earliest o.first x) t) * z) (each x)
-      ∙ old_bits (lives v (earliest o.first x) t) (b x) (has n x) (lives v (earliest o.first x) s) (lives_before v (earliest o.first x) s t h),
+  filter (λ x. retains v (earliest o.first x) t) xs,
+  ap (kept v t) is ∙ filter_map (hold o) (λ k. retains v k.earliest t) xs,
+  λ x. count_filter x (λ x. retains v (earliest o.first x) t) xs
+      ∙ ap (λ z. bit (retains v (earliest o.first x) t) * z) (each x)
+      ∙ old_bits (retains v (earliest o.first x) t) (b x) (has n x) (retains v (earliest o.first x) s) (retains_before v (earliest o.first x) s t h),
 )
 
 -- the new part
-pub added_law : (o : Observed) (v : Window) (w : Bounds) (t : ℤ) (n : ℕ) (b : BindTree → Bool) (held : List PieceTree) →
-    ((e : ℤ) → lives v e t ≡ true → alive w e t ≡ true) →
+pub added_law : (o : Observed) (v : Window) (w : Bounds) (t : ℤ) (n : ℕ) (b : BindTree → Bool) (held : List PartialMatchTree) →
+    ((e : ℤ) → retains v e t ≡ true → alive w e t ≡ true) →
     AreHeld o (λ x. (b x && alive w (earliest o.first x) t) && has n x) held →
-    AreHeld o (λ x. (b x && lives v (earliest o.first x) t) && has n x) (kept v t held)
+    AreHeld o (λ x. (b x && retains v (earliest o.first x) t) && has n x) (kept v t held)
 added_law o v w t n b held h (xs, is, each) = (
-  filter (λ x. lives v (earliest o.first x) t) xs,
-  ap (kept v t) is ∙ filter_map (hold o) (λ k. lives v k.earliest t) xs,
-  λ x. count_filter x (λ x. lives v (earliest o.first x) t) xs
-      ∙ ap (λ z. bit (lives v (earliest o.first x) t) * z) (each x)
-      ∙ new_bits (lives v (earliest o.first x) t) (b x) (has n x) (alive w (earliest o.first x) t) (h (earliest o.first x)),
+  filter (λ x. retains v (earliest o.first x) t) xs,
+  ap (kept v t) is ∙ filter_map (hold o) (λ k. retains v k.earliest t) xs,
+  λ x. count_filter x (λ x. retains v (earliest o.first x) t) xs
+      ∙ ap (λ z. bit (retains v (earliest o.first x) t) * z) (each x)
+      ∙ new_bits (retains v (earliest o.first x) t) (b x) (has n x) (alive w (earliest o.first x) t) (h (earliest o.first x)),
 )
 
 -- the old and the new
-pub stored_law : (o : Observed) (n : ℕ) (p : BindTree → Bool) (old new : List PieceTree) →
+pub stored_law : (o : Observed) (n : ℕ) (p : BindTree → Bool) (old new : List PartialMatchTree) →
     AreHeld o (λ x. p x && not (has n x)) old → AreHeld o (λ x. p x && has n x) new → AreHeld o p (old ++ new)
 stored_law o n p old new (xs, is, each) (ys, is', each') = (
   xs ++ ys,

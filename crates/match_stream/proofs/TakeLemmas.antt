@@ -11,22 +11,22 @@ use Rattle.match_stream.specs.declared.ending.MatchRefusal.{MatchRefusal}
 use Rattle.match_stream.specs.declared.ending.MatchRefusal.TheVariants as refusal
 use Rattle.match_stream.specs.declared.row.Row.{Row}
 use Rattle.match_stream.specs.declared.run.Run.{Run}
-use Rattle.match_stream.specs.PieceTree.{trees_in}
-use Rattle.match_stream.specs.LivePart.{IsLivePart, held_count, time_of}
-use Rattle.match_stream.specs.Answer.{IsAnswer, IsLiveCount}
+use Rattle.match_stream.specs.PartialMatchTree.{trees_in}
+use Rattle.match_stream.specs.RetainedPart.{IsRetainedPart, held_count, time_of}
+use Rattle.match_stream.specs.Answer.{IsAnswer, IsRetainedCount}
 use Rattle.match_stream.specs.MatcherState.{with_row, Falls, last_of}
 use Rattle.match_stream.specs.inner.Steps.{State, step_new, step_state, contents_of, expired}
 use Rattle.match_stream.specs.inner.Nodes.{state_of}
 use Rattle.match_stream.specs.inner.Shape.{fits}
-use Rattle.match_stream.specs.inner.Arranged.{IsArranged}
-use Rattle.match_stream.specs.inner.Runs.{next_row, AreSteps, live_after}
-use Rattle.match_stream.proofs.LivesLemmas.{le_self}
+use Rattle.match_stream.specs.inner.UpToOrder.{IsSameUpToOrder}
+use Rattle.match_stream.specs.inner.Runs.{next_row, AreSteps, retained_after}
+use Rattle.match_stream.proofs.RetainsLemmas.{le_self}
 use Rattle.match_stream.proofs.StoreLemmas.{AreHeld}
 use Rattle.match_stream.proofs.StepLemmas.{Stands, all_of, ends}
 use Rattle.match_stream.proofs.LogLemmas.{not_falls, row_after, early_stands, take_from}
-use Rattle.match_stream.proofs.ShapeLemmas.{Rule, stands_from, live_from}
+use Rattle.match_stream.proofs.ShapeLemmas.{Rule, stands_from, retained_from}
 use Rattle.match_stream.proofs.ArrangedLemmas.{cleared_stands, cleared_fits}
-use Rattle.match_stream.proofs.AnswerLemmas.{Rise, answer_law, same_length, trees_length}
+use Rattle.match_stream.proofs.AnswerLemmas.{Ascend, answer_law, same_length, trees_length}
 
 abbrev pub entry : ℤ → ℤ → List Bool → LogEntry
 entry first last truths = record { first = first; last = last; truths = truths }
@@ -42,20 +42,20 @@ stays_made (Some e) b b' h k = refl
 pub record Goes (p : NumberedPattern) (z : State) (rows : ℕ) (log : List LogEntry) (last : ℤ) : Type 0 where
   pub made : fits no_bounds p z ≡ true
   pub count : rows ≡ length log
-  pub stands : Stands (observed_in log) (all_of (observed_in log)) last no_bounds p z
+  pub represents : Stands (observed_in log) (all_of (observed_in log)) last no_bounds p z
   pub order : IsInOrder log
   pub after : LastIsBy log last
 
 -- so it is once what has expired is taken out
 pub cleared_goes : Rule → (p : NumberedPattern) (z z' : State) (rows : ℕ) (before : Option ℤ) (log : List LogEntry) (last : ℤ) → fits no_bounds p z ≡ true → rows ≡ length log →
-    before ≡ last_of log → IsLivePart p log (contents_of z) → IsInOrder log → (Falls before last → ⊥) → IsArranged (expired last z) z' → Goes p z' rows log last
-cleared_goes rule p z z' rows before log last made count time live order after same =
+    before ≡ last_of log → IsRetainedPart p log (contents_of z) → IsInOrder log → (Falls before last → ⊥) → IsSameUpToOrder (expired last z) z' → Goes p z' rows log last
+cleared_goes rule p z z' rows before log last made count time retained order after same =
     let by = not_falls log last (λ k. after (subst (λ (t : Option ℤ). Falls t last) (sym time) k)) in
-    let early = early_stands log last p no_bounds z by (stands_from rule (observed_in log) (time_of log) p no_bounds z made live) in
+    let early = early_stands log last p no_bounds z by (stands_from rule (observed_in log) (time_of log) p no_bounds z made retained) in
     record {
       made = cleared_fits p last z z' same made;
       count = count;
-      stands = cleared_stands (observed_in log) (all_of (observed_in log)) early.0 last early.1 no_bounds p z z' early.2 same;
+      represents = cleared_stands (observed_in log) (all_of (observed_in log)) early.0 last early.1 no_bounds p z z' early.2 same;
       order = order;
       after = by;
     }
@@ -71,34 +71,34 @@ both_laws rule p z rows log first last truths g =
     AreHeld (observed_in (with_row log first last truths)) (ends (observed_in (with_row log first last truths)) (suc (length log)) last no_bounds p) (step_new row truths z)
     × Stands (observed_in (with_row log first last truths)) (all_of (observed_in (with_row log first last truths))) (time_of (with_row log first last truths)) no_bounds p (step_state row truths z))
     (sym (next_is rows log first last truths g.count))
-    (take_from p log (entry first last truths) last z g.order g.after (le_self last) g.stands)
+    (take_from p log (entry first last truths) last z g.order g.after (le_self last) g.represents)
 
--- the stores then hold the live part of the longer log
-pub live_then : Rule → (p : NumberedPattern) (z : State) (rows : ℕ) (log : List LogEntry) (first last : ℤ) (truths : List Bool) → Goes p z rows log last →
-    IsLivePart p (with_row log first last truths) (contents_of (step_state (next_row rows first last) truths z))
-live_then rule p z rows log first last truths g =
-    live_from rule (observed_in (with_row log first last truths)) (time_of (with_row log first last truths)) p no_bounds (step_state (next_row rows first last) truths z)
+-- the stores then hold the retained part of the longer log
+pub retained_then : Rule → (p : NumberedPattern) (z : State) (rows : ℕ) (log : List LogEntry) (first last : ℤ) (truths : List Bool) → Goes p z rows log last →
+    IsRetainedPart p (with_row log first last truths) (contents_of (step_state (next_row rows first last) truths z))
+retained_then rule p z rows log first last truths g =
+    retained_from rule (observed_in (with_row log first last truths)) (time_of (with_row log first last truths)) p no_bounds (step_state (next_row rows first last) truths z)
     (both_laws rule p z rows log first last truths g).1
 
 -- and what ends at the row is its answer
-pub answer_then : Rule → Rise → (run : Run) (p : NumberedPattern) (log : List LogEntry) (first last : ℤ) (truths : List Bool) → Goes p (state_of run.node) run.rows log last →
+pub answer_then : Rule → Ascend → (run : Run) (p : NumberedPattern) (log : List LogEntry) (first last : ℤ) (truths : List Bool) → Goes p (state_of run.node) run.rows log last →
     (xs : List BindTree) → AreSteps run (next_row run.rows first last) truths xs → IsAnswer p (with_row log first last truths) xs
-answer_then rule rise run p log first last truths g xs steps =
-    answer_law rule rise p log (entry first last truths) (step_new (next_row run.rows first last) truths (state_of run.node)) xs
+answer_then rule sift_up run p log first last truths g xs steps =
+    answer_law rule sift_up p log (entry first last truths) (step_new (next_row run.rows first last) truths (state_of run.node)) xs
     (both_laws rule p (state_of run.node) run.rows log first last truths g).0 steps.counts steps.sorted
 
--- so much is live then
-pub count_then : Rule → Rise → (run : Run) (p : NumberedPattern) (log : List LogEntry) (first last : ℤ) (truths : List Bool) → Goes p (state_of run.node) run.rows log last →
-    (xs : List BindTree) → AreSteps run (next_row run.rows first last) truths xs → IsLiveCount p (with_row log first last truths) (live_after run (next_row run.rows first last) truths)
-count_then rule rise run p log first last truths g xs steps =
+-- so much is retained then
+pub count_then : Rule → Ascend → (run : Run) (p : NumberedPattern) (log : List LogEntry) (first last : ℤ) (truths : List Bool) → Goes p (state_of run.node) run.rows log last →
+    (xs : List BindTree) → AreSteps run (next_row run.rows first last) truths xs → IsRetainedCount p (with_row log first last truths) (retained_after run (next_row run.rows first last) truths)
+count_then rule sift_up run p log first last truths g xs steps =
     let new = step_new (next_row run.rows first last) truths (state_of run.node) in
     let contents = contents_of (step_state (next_row run.rows first last) truths (state_of run.node)) in
     let many : length xs ≡ length new = same_length xs (trees_in new) steps.counts ∙ trees_length new in
     record {
       contents = contents;
       answer = xs;
-      live = live_then rule p (state_of run.node) run.rows log first last truths g;
-      ending = answer_then rule rise run p log first last truths g xs steps;
+      retained = retained_then rule p (state_of run.node) run.rows log first last truths g;
+      ending = answer_then rule sift_up run p log first last truths g xs steps;
       sum = (let e : length new + held_count contents ≡ held_count contents + length xs = omega (arith, many) in e);
     }
 

@@ -14,15 +14,15 @@ use Rattle.match_bindings.specs.Span.{earliest, later_by}
 use Rattle.match_bindings.specs.Once.{same, count}
 use Rattle.match_bindings.proofs.IsBindingLemmas.{lt_true}
 use Rattle.match_pruning.specs.Stores.{Store, level, levels, stores_under}
-use Rattle.match_stream.specs.PieceTree.{PieceTree, hold}
-use Rattle.match_stream.specs.LivePart.{HoldsLive, AreLive, IsLivePart, time_of}
+use Rattle.match_stream.specs.PartialMatchTree.{PartialMatchTree, hold}
+use Rattle.match_stream.specs.RetainedPart.{HoldsRetained, AreRetained, IsRetainedPart, time_of}
 use Rattle.match_stream.specs.RowNumbers.{any_has, is_kept}
-use Rattle.match_stream.specs.inner.Lives.{in_seconds, from_start, before_stop, is_ahead, lives}
+use Rattle.match_stream.specs.inner.Retains.{in_seconds, from_start, before_stop, is_ahead, retains}
 use Rattle.match_bindings.proofs.OnceLemmas.{same_self}
 use Rattle.match_stream.proofs.StoreLemmas.{bit_positive}
 use Rattle.match_stream.proofs.ShapeLemmas.{Rule, to_held}
 use Rattle.match_stream.proofs.CountLemmas.{may_hold, may_rule}
-use Rattle.match_stream.proofs.LivesLemmas.{le_self}
+use Rattle.match_stream.proofs.RetainsLemmas.{le_self}
 
 -- ---- all stores are that narrow
 
@@ -97,32 +97,32 @@ who_has o n (x ∷ xs) h = elim (or_cases (has n x) (any_has n (map (hold o) xs)
   | inr r ↦ (let rest = who_has o n xs r in (rest.0, omega (arith, rest.1), rest.2))
 ]
 
-store_recent : Rule → (o : Observed) (now : ℤ) (x n : ℕ) (store : Store) (held : List PieceTree) → IsNarrow x store.window.seconds → HoldsLive o now store held → any_has n held ≡ true →
+store_recent : Rule → (o : Observed) (now : ℤ) (x n : ℕ) (store : Store) (held : List PartialMatchTree) → IsNarrow x store.window.seconds → HoldsRetained o now store held → any_has n held ≡ true →
     now <ℤ later_by x (o.first n)
-store_recent rule o now x n store held narrow live h =
-    let all = to_held o now store (may_hold o store.part) (may_rule rule o store.part) held live in
-    let who = who_has o n all.0 (subst (λ (hs : List PieceTree). any_has n hs ≡ true) all.1 h) in
-    let passes = bit_positive (may_hold o store.part who.0 && lives store.window (earliest o.first who.0) now) (count who.0 all.0) (all.2 who.0) who.1 in
-    let alive = (and_parts (may_hold o store.part who.0) (lives store.window (earliest o.first who.0) now) passes).1 in
-    let rest = and_parts (is_ahead store.window.behind (earliest o.first who.0) now)
+store_recent rule o now x n store held narrow retained h =
+    let all = to_held o now store (may_hold o store.part) (may_rule rule o store.part) held retained in
+    let who = who_has o n all.0 (subst (λ (hs : List PartialMatchTree). any_has n hs ≡ true) all.1 h) in
+    let excludes = bit_positive (may_hold o store.part who.0 && retains store.window (earliest o.first who.0) now) (count who.0 all.0) (all.2 who.0) who.1 in
+    let alive = (and_parts (may_hold o store.part who.0) (retains store.window (earliest o.first who.0) now) excludes).1 in
+    let rest = and_parts (is_ahead store.window.after_left (earliest o.first who.0) now)
     (in_seconds store.window.seconds (earliest o.first who.0) now && (from_start store.window.start (earliest o.first who.0) && before_stop store.window.stop now)) alive in
     let soon = (and_parts (in_seconds store.window.seconds (earliest o.first who.0) now) (from_start store.window.start (earliest o.first who.0) && before_stop store.window.stop now) rest.1).0 in
     let within_least = subst (λ (s : Option ℕ). in_seconds s (earliest o.first who.0) now ≡ true) narrow.is soon in
     later_than now (earliest o.first who.0) (o.first n) narrow.least x
     (lt_true now (later_by narrow.least (earliest o.first who.0)) within_least) (earliest_has o.first n who.0 who.2) narrow.most
 
-all_recent : Rule → (o : Observed) (now : ℤ) (x n : ℕ) (stores : List Store) (contents : List (List PieceTree)) → AreNarrow x stores → AreLive o now stores contents → is_kept n contents ≡ true →
+all_recent : Rule → (o : Observed) (now : ℤ) (x n : ℕ) (stores : List Store) (contents : List (List PartialMatchTree)) → AreNarrow x stores → AreRetained o now stores contents → is_kept n contents ≡ true →
     now <ℤ later_by x (o.first n)
-all_recent rule o now x n [] [] narrow live h = absurd (cc)
-all_recent rule o now x n (store ∷ stores) (held ∷ contents) narrow live h = elim (or_cases (any_has n held) (is_kept n contents) h) [
-  | inl l ↦ store_recent rule o now x n store held narrow.0 live.0 l
-  | inr r ↦ all_recent rule o now x n stores contents narrow.1 live.1 r
+all_recent rule o now x n [] [] narrow retained h = absurd (cc)
+all_recent rule o now x n (store ∷ stores) (held ∷ contents) narrow retained h = elim (or_cases (any_has n held) (is_kept n contents) h) [
+  | inl l ↦ store_recent rule o now x n store held narrow.0 retained.0 l
+  | inr r ↦ all_recent rule o now x n stores contents narrow.1 retained.1 r
 ]
-all_recent rule o now x n [] (held ∷ contents) narrow live h = absurd live
-all_recent rule o now x n (store ∷ stores) [] narrow live h = absurd live
+all_recent rule o now x n [] (held ∷ contents) narrow retained h = absurd retained
+all_recent rule o now x n (store ∷ stores) [] narrow retained h = absurd retained
 
-pub kept_recent : Rule → (p : NumberedPattern) (x n : ℕ) (log : List LogEntry) (contents : List (List PieceTree)) → IsLivePart (Within p x) log contents → is_kept n contents ≡ true →
+pub kept_recent : Rule → (p : NumberedPattern) (x n : ℕ) (log : List LogEntry) (contents : List (List PartialMatchTree)) → IsRetainedPart (Within p x) log contents → is_kept n contents ≡ true →
     time_of log <ℤ later_by x ((observed_in log).first n)
-kept_recent rule p x n log contents live h =
+kept_recent rule p x n log contents retained h =
     all_recent rule (observed_in log) (time_of log) x n (stores_under (within no_bounds x) p) contents
-    (narrow_stores x p (within no_bounds x) (record { least = x; is = refl; most = (let k : x ≤ x = omega arith in k) })) live h
+    (narrow_stores x p (within no_bounds x) (record { least = x; is = refl; most = (let k : x ≤ x = omega arith in k) })) retained h

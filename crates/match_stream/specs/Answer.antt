@@ -6,10 +6,10 @@ use Rattle.match_bindings.specs.BindTree.{BindTree, greatest}
 use Rattle.match_bindings.specs.Log.{IsInOrder, observed_in}
 use Rattle.match_bindings.specs.Binding.{IsBinding}
 use Rattle.match_bindings.specs.Once.{count}
-use Rattle.match_bindings.specs.Flat.{Rises}
-use Rattle.match_stream.specs.PieceTree.{PieceTree}
-use Rattle.match_stream.specs.LivePart.{IsLivePart, held_count}
-use Rattle.match_stream.specs.MatcherState.{MatcherState, StandsFor}
+use Rattle.match_bindings.specs.Flat.{Ascends}
+use Rattle.match_stream.specs.PartialMatchTree.{PartialMatchTree}
+use Rattle.match_stream.specs.RetainedPart.{IsRetainedPart, held_count}
+use Rattle.match_stream.specs.MatcherState.{MatcherState, Represents}
 
 -- a binding whose greatest number is that of the last row
 abbrev pub EndsAtLast : NumberedPattern → List LogEntry → BindTree → Type 0
@@ -19,38 +19,38 @@ EndsAtLast p log x = IsBinding (observed_in log) p x × (greatest x ≡ length l
 pub record IsAnswer (p : NumberedPattern) (log : List LogEntry) (xs : List BindTree) : Type 0 where
   pub each_once : (x : BindTree) → EndsAtLast p log x → count x xs ≡ 1
   pub no_other : (x : BindTree) → ¬ (EndsAtLast p log x) → count x xs ≡ 0
-  pub rises : Rises xs
+  pub ascends : Ascends xs
 
--- the live count: so many things are in the live part, and so many bindings end at the last row
-pub record IsLiveCount (p : NumberedPattern) (log : List LogEntry) (n : ℕ) : Type 0 where
-  pub contents : List (List PieceTree)
+-- the retained count: so many things are in the retained part, and so many bindings end at the last row
+pub record IsRetainedCount (p : NumberedPattern) (log : List LogEntry) (n : ℕ) : Type 0 where
+  pub contents : List (List PartialMatchTree)
   pub answer : List BindTree
-  pub live : IsLivePart p log contents
+  pub retained : IsRetainedPart p log contents
   pub ending : IsAnswer p log answer
   pub sum : n ≡ held_count contents + length answer
 
--- the live count passes the cap
-abbrev pub IsCrowded : NumberedPattern → List LogEntry → ℕ → Type 0
-IsCrowded p log cap = (n : ℕ) × IsLiveCount p log n × (cap < n)
+-- the retained count passes the retained limit
+abbrev pub IsOverLimit : NumberedPattern → List LogEntry → ℕ → Type 0
+IsOverLimit p log retained_limit = (n : ℕ) × IsRetainedCount p log n × (retained_limit < n)
 
 -- it doesn't
-abbrev pub IsRoomy : NumberedPattern → List LogEntry → ℕ → Type 0
-IsRoomy p log cap = (n : ℕ) × IsLiveCount p log n × (n ≤ cap)
+abbrev pub IsWithinLimit : NumberedPattern → List LogEntry → ℕ → Type 0
+IsWithinLimit p log retained_limit = (n : ℕ) × IsRetainedCount p log n × (n ≤ retained_limit)
 
--- a matcher answers the last row of a log: it then stands for the log, whose rows are in order, and no more is live there than
--- its cap allows
+-- a matcher answers the last row of a log: it then stands for the log, whose rows are in order, and no more is retained there than
+-- its retained limit allows
 pub record AnswersRow (before after : MatcherState) (log : List LogEntry) (answer : List BindTree) : Type 0 where
-  pub stands : StandsFor after log
+  pub represents : Represents after log
   pub order : IsInOrder log
   pub answers : IsAnswer (numbered_pattern before.pattern) log answer
-  pub roomy : IsRoomy (numbered_pattern before.pattern) log before.cap
+  pub within_limit : IsWithinLimit (numbered_pattern before.pattern) log before.retained_limit
 
--- it is crowded at that row, whose number it names: more is live there than its cap allows
-pub record IsCrowdedAtRow (before : MatcherState) (log : List LogEntry) (number cap : ℕ) : Type 0 where
+-- it is over limit at that row, whose number it names: more is retained there than its retained limit allows
+pub record IsOverLimitAtRow (before : MatcherState) (log : List LogEntry) (number retained_limit : ℕ) : Type 0 where
   pub order : IsInOrder log
   pub numbered : number ≡ length log
-  pub cap_is : cap ≡ before.cap
-  pub crowded : IsCrowded (numbered_pattern before.pattern) log cap
+  pub retained_limit_is : retained_limit ≡ before.retained_limit
+  pub over_limit : IsOverLimit (numbered_pattern before.pattern) log retained_limit
 
 -- an answer for each row of a log, where these rows were taken before
 abbrev pub AnswersAfter : NumberedPattern → List LogEntry → List LogEntry → List (List BindTree) → Type 0

@@ -1,5 +1,5 @@
-pub mod PieceTree
-pub mod LivePart
+pub mod PartialMatchTree
+pub mod RetainedPart
 pub mod MatcherState
 pub mod Answer
 pub mod RowNumbers

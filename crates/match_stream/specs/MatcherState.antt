@@ -4,14 +4,14 @@ use Rattle.match_bindings.specs.declared.log_entry.LogEntry.{LogEntry}
 use Rattle.match_bindings.specs.NumberedPattern.{numbered_pattern}
 use Rattle.pattern_types.specs.declared.pattern.Pattern.{Pattern}
 use Rattle.match_stream.specs.declared.ending.Ending.{Ending}
-use Rattle.match_stream.specs.PieceTree.{PieceTree}
-use Rattle.match_stream.specs.LivePart.{IsLivePart}
+use Rattle.match_stream.specs.PartialMatchTree.{PartialMatchTree}
+use Rattle.match_stream.specs.RetainedPart.{IsRetainedPart}
 
 pub record MatcherState : Type 0 where
   -- what it was made for
   pub pattern : Pattern
-  -- how much may be live
-  pub cap : ℕ
+  -- how much may be retained
+  pub retained_limit : ℕ
   -- how it ended, where it did
   pub ended : Option Ending
   -- how many rows it took
@@ -19,7 +19,7 @@ pub record MatcherState : Type 0 where
   -- the last time of the last one
   pub last : Option ℤ
   -- what its stores hold, in the order of stores_of
-  pub contents : List (List PieceTree)
+  pub contents : List (List PartialMatchTree)
 
 -- the last time of the last row
 abbrev pub last_of : List LogEntry → Option ℤ
@@ -27,12 +27,12 @@ last_of [] = None
 last_of (row ∷ []) = Some row.last
 last_of (row ∷ next ∷ rows) = last_of (next ∷ rows)
 
--- a matcher that hasn't ended stands for a log where its stores hold exactly the live part
-pub record StandsFor (state : MatcherState) (log : List LogEntry) : Type 0 where
+-- a matcher that hasn't ended stands for a log where its stores hold exactly the retained part
+pub record Represents (state : MatcherState) (log : List LogEntry) : Type 0 where
   pub runs : state.ended ≡ None
   pub rows : state.rows ≡ length log
   pub last : state.last ≡ last_of log
-  pub live : IsLivePart (numbered_pattern state.pattern) log state.contents
+  pub retained : IsRetainedPart (numbered_pattern state.pattern) log state.contents
 
 -- a log and a row more
 abbrev pub with_row : List LogEntry → ℤ → ℤ → List Bool → List LogEntry

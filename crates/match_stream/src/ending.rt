@@ -6,9 +6,9 @@ use thiserror::Error;
 /// Why a matcher has ended.
 #[derive(Clone, Copy, Debug, Error)]
 pub enum Ending {
-    /// More is live after the row of this number than the cap allows.
-    #[error("more than {cap} are live after row {number}")]
-    Crowded { number: u64, cap: u64 },
+    /// More is retained after the row of this number than the retained limit allows.
+    #[error("more than {retained_limit} are live after row {number}")]
+    OverLimit { number: u64, retained_limit: u64 },
     /// A row whose last time is earlier than that of the row before.
     #[error("the row ends earlier than the one before")]
     OutOfOrder { last: Instant, now: Instant },
@@ -34,9 +34,9 @@ impl Ending {
         ensures { result ≡ self.now }
     {
         match self {
-            Ending::Crowded { number, cap } => Ending::Crowded {
+            Ending::OverLimit { number, retained_limit } => Ending::OverLimit {
                 number: *number,
-                cap: *cap,
+                retained_limit: *retained_limit,
             },
             Ending::OutOfOrder { last, now } => Ending::OutOfOrder {
                 last: *last,

@@ -3,7 +3,7 @@
 ghost use Rattle.std.specs.Prelude.{◌≡◌, map, length};
 ghost use Rattle.match_stream.specs.inner.Steps.{kept, all_levels, expired};
 ghost use Rattle.match_stream.specs.inner.Nodes.{store_lists, state_of};
-ghost use Rattle.match_stream.specs.inner.Arranged.{AreSameLevels, IsArranged};
+ghost use Rattle.match_stream.specs.inner.UpToOrder.{AreSameLevels, IsSameUpToOrder};
 
 use crate::levels::Levels;
 use crate::node::Node;
@@ -15,7 +15,7 @@ use stix_times::Instant;
 /// no memory. What is done to the stores of one node stands in functions of their own, so that little of
 /// the stack is taken at each of 1,024 brackets.
 pub(crate) fn clear(node: &mut Node, now: Instant)
-    ensures { IsArranged (expired now (state_of node.old)) (state_of node.new) }
+    ensures { IsSameUpToOrder (expired now (state_of node.old)) (state_of node.new) }
 {
     match node {
         Node::Leaves(_) => {}

@@ -1,22 +1,22 @@
 //! The order in which a store holds things: a heap, so that what expires first stands first.
 
 ghost use Rattle.std.specs.Prelude.{◌≡◌, ◌<◌, ◌≤◌, ◌+◌, ◌*◌, int_lt, length, IfSome, IfNone};
-ghost use Rattle.match_stream.specs.declared.piece.Piece.{Piece};
-ghost use Rattle.match_stream.specs.inner.Pieces.{piece_trees};
-ghost use Rattle.match_stream.specs.inner.Arranged.{AreSame};
+ghost use Rattle.match_stream.specs.declared.partial_match.PartialMatch.{PartialMatch};
+ghost use Rattle.match_stream.specs.inner.PartialMatches.{partial_match_trees};
+ghost use Rattle.match_stream.specs.inner.UpToOrder.{AreSameMultiset};
 ghost use Rattle.match_stream.specs.inner.Heaps.{IsHeap, IsHeapBelow, IsEarliestChild, time_at};
 
-use crate::piece::Piece;
+use crate::partial_match::PartialMatch;
 
 /// How many children a thing has.
 const WIDTH: usize = 4;
 
-/// Lets the thing at a place rise among those before it, which are a heap.
-pub(crate) fn rise(held: &mut [Piece], place: usize)
+/// Lets the thing at a place ascend among those before it, which are a heap.
+pub(crate) fn sift_up(held: &mut [PartialMatch], place: usize)
     requires inside { place < length held.old }
     requires heap { IsHeap held.old place }
     ensures heap { IsHeap held.new (place + 1) }
-    ensures same { AreSame (piece_trees held.old) (piece_trees held.new) }
+    ensures same { AreSameMultiset (partial_match_trees held.old) (partial_match_trees held.new) }
     ensures length { length held.new ≡ length held.old }
 {
     let mut at = place;
@@ -31,10 +31,10 @@ pub(crate) fn rise(held: &mut [Piece], place: usize)
 }
 
 /// Lets the first thing sink among the others, which are a heap but for it.
-pub(crate) fn sink(held: &mut [Piece])
+pub(crate) fn sift_down(held: &mut [PartialMatch])
     requires { IsHeapBelow held.old (length held.old) }
     ensures heap { IsHeap held.new (length held.new) }
-    ensures same { AreSame (piece_trees held.old) (piece_trees held.new) }
+    ensures same { AreSameMultiset (partial_match_trees held.old) (partial_match_trees held.new) }
     ensures length { length held.new ≡ length held.old }
 {
     let mut at = 0;
@@ -48,7 +48,7 @@ pub(crate) fn sink(held: &mut [Piece])
 }
 
 /// The earliest of the children of the thing at a place.
-fn earliest_child(held: &[Piece], at: usize) -> Option<usize>
+fn earliest_child(held: &[PartialMatch], at: usize) -> Option<usize>
     ensures some { IfSome result (λ child. IsEarliestChild held.now at child (length held.now)) }
     ensures none { IfNone result (length held.now ≤ 4 * at + 1) }
 {
@@ -70,10 +70,10 @@ fn earliest_child(held: &[Piece], at: usize) -> Option<usize>
 }
 
 /// Whether the thing at a place is earlier than that at another.
-fn is_earlier(held: &[Piece], place: usize, other: usize) -> bool
+fn is_earlier(held: &[PartialMatch], place: usize, other: usize) -> bool
     requires place { place < length held.now }
     requires other { other < length held.now }
-    ensures { (d : Piece) → result ≡ int_lt (time_at held.now d place) (time_at held.now d other) }
+    ensures { (d : PartialMatch) → result ≡ int_lt (time_at held.now d place) (time_at held.now d other) }
 {
     held[place].earliest < held[other].earliest
 }

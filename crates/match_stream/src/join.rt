@@ -1,16 +1,16 @@
 ghost use Rattle.std.specs.Prelude.{◌≡◌, ◌≤ℤ◌, true, false, IfOk, OnOk, Err};
 ghost use Rattle.std.specs.Int.{int_min, int_max};
 ghost use Rattle.match_bindings.specs.BindTree.{tree_of, disjoint};
-ghost use Rattle.match_stream.specs.PieceTree.{PieceTree};
+ghost use Rattle.match_stream.specs.PartialMatchTree.{PartialMatchTree};
 ghost use Rattle.match_stream.specs.inner.Demands.{AreAdded, AreTooMany};
-ghost use Rattle.match_stream.specs.inner.Pieces.{piece_tree, piece_trees};
+ghost use Rattle.match_stream.specs.inner.PartialMatches.{partial_match_tree, partial_match_trees};
 ghost use Rattle.match_stream.specs.inner.Steps.{joined_tree, joined, may_join, joins};
 ghost use Rattle.match_stream.specs.declared.stop.Stop.TheVariants as stop;
 
-use crate::demand::Demand;
+use crate::join_filter::JoinFilter;
 use crate::joining::Joining;
-use crate::piece::Piece;
-use crate::sieve::Sieve;
+use crate::partial_match::PartialMatch;
+use crate::skip_index::SkipIndex;
 use crate::stop::Stop;
 use flow_values::NoMemory;
 use match_bindings::{Bind, are_disjoint, with_part, with_sides};
@@ -40,8 +40,8 @@ impl Join {
     }
 
     /// Whether two things are joined.
-    pub fn may_join(self, first: &Piece, second: &Piece) -> bool
-        ensures { result ≡ may_join self (piece_tree first.now) (piece_tree second.now) }
+    pub fn may_join(self, first: &PartialMatch, second: &PartialMatch) -> bool
+        ensures { result ≡ may_join self (partial_match_tree first.now) (partial_match_tree second.now) }
     {
         match self {
             Join::Both | Join::Repeats => are_disjoint(&first.bind, &second.bind),
@@ -52,12 +52,12 @@ impl Join {
     }
 
     /// Two things as one, which share no observation.
-    pub fn joined(self, alloc: Global, first: &Piece, second: &Piece) -> Result<Piece, NoMemory>
+    pub fn joined(self, alloc: Global, first: &PartialMatch, second: &PartialMatch) -> Result<PartialMatch, NoMemory>
         requires { disjoint (tree_of first.now.bind) (tree_of second.now.bind) ≡ true }
-        ensures { IfOk result (λ held. piece_tree held ≡ joined self (piece_tree first.now) (piece_tree second.now)) }
+        ensures { IfOk result (λ held. partial_match_tree held ≡ joined self (partial_match_tree first.now) (partial_match_tree second.now)) }
     {
         let bind = self.bind(alloc, &first.bind, &second.bind)?;
-        Ok(Piece {
+        Ok(PartialMatch {
             bind,
             earliest: earlier(first.earliest, second.earliest),
             latest: later(first.latest, second.latest),
@@ -66,7 +66,7 @@ impl Join {
 
     /// Whether nothing that begins at this time or before is joined with what ends then, whatever they bind.
     pub fn is_late(self, end: Instant, begin: Instant) -> bool
-        ensures { result ≡ true → (first second : PieceTree) → first.latest ≡ end → second.earliest ≤ℤ begin
+        ensures { result ≡ true → (first second : PartialMatchTree) → first.latest ≡ end → second.earliest ≤ℤ begin
             → may_join self first second ≡ false }
     {
         match self {
@@ -76,18 +76,18 @@ impl Join {
     }
 
     /// Adds each of the first things joined with each of the second ones that it is joined with, as far as
-    /// what comes of it is wanted, up to the thing that there is no room for. Where there is nothing on a side
+    /// what comes of it is needed, up to the thing that there is no budget for. Where there is nothing on a side
     /// it doesn't look ahead.
     pub fn join(
         self,
         alloc: Global,
-        firsts: &[Piece],
-        seconds: &[Piece],
-        demand: &Demand<'_>,
-        out: &mut Vec<Piece>,
+        firsts: &[PartialMatch],
+        seconds: &[PartialMatch],
+        join_filter: &JoinFilter<'_>,
+        out: &mut Vec<PartialMatch>,
     ) -> Result<(), Stop>
-        ensures joined { OnOk result (AreAdded demand.now (joins self (piece_trees firsts.now) (piece_trees seconds.now)) out.old.items out.new.items) }
-        ensures crowded { result ≡ Err stop.Crowded → AreTooMany demand.now (joins self (piece_trees firsts.now) (piece_trees seconds.now)) out.old.items }
+        ensures joined { OnOk result (AreAdded join_filter.now (joins self (partial_match_trees firsts.now) (partial_match_trees seconds.now)) out.old.items out.new.items) }
+        ensures over_limit { result ≡ Err stop.OverLimit → AreTooMany join_filter.now (joins self (partial_match_trees firsts.now) (partial_match_trees seconds.now)) out.old.items }
     {
         if seconds.is_empty() {
             return Ok(());
@@ -95,10 +95,10 @@ impl Join {
         if firsts.is_empty() {
             return Ok(());
         }
-        let sieve = Sieve::new(alloc, firsts.len(), seconds)?;
-        let joining = Joining::new(self, demand);
-        let joined = joining.rows(alloc, firsts, seconds, &sieve, out);
-        drop(sieve);
+        let skip_index = SkipIndex::new(alloc, firsts.len(), seconds)?;
+        let joining = Joining::new(self, join_filter);
+        let joined = joining.rows(alloc, firsts, seconds, &skip_index, out);
+        drop(skip_index);
         joined
     }
 }

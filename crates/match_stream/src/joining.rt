@@ -3,63 +3,63 @@
 ghost use Rattle.std.proofs.Props.{props};
 ghost use Rattle.std.specs.Prelude.{◌≡◌, ◌∷◌, ◌<◌, ◌≤◌, [], true, length, IfOk, OnOk, Err};
 ghost use Rattle.match_stream.specs.inner.Demands.{AreAdded, AreTooMany};
-ghost use Rattle.match_stream.specs.inner.Leads.{leads_of};
-ghost use Rattle.match_stream.specs.inner.Pieces.{piece_tree, piece_trees};
-ghost use Rattle.match_stream.specs.inner.Reaches.{IsSince};
-ghost use Rattle.match_stream.specs.inner.Sieves.{AreTried, IsSieveOf};
+ghost use Rattle.match_stream.specs.inner.PendingLefts.{pending_lefts_of};
+ghost use Rattle.match_stream.specs.inner.PartialMatches.{partial_match_tree, partial_match_trees};
+ghost use Rattle.match_stream.specs.inner.CompletionBounds.{IsEarliestStart};
+ghost use Rattle.match_stream.specs.inner.Sieves.{AreTried, IsSkipIndexOf};
 ghost use Rattle.match_stream.specs.inner.Steps.{join_row, joins};
-ghost use Rattle.match_stream.specs.inner.Wanted.{is_wanted};
+ghost use Rattle.match_stream.specs.inner.Needed.{is_needed};
 ghost use Rattle.match_stream.specs.declared.stop.Stop.TheVariants as stop;
 
-use crate::demand::Demand;
+use crate::join_filter::JoinFilter;
 use crate::join::Join;
-use crate::piece::Piece;
-use crate::sieve::Sieve;
-use crate::since::Since;
+use crate::partial_match::PartialMatch;
+use crate::skip_index::SkipIndex;
+use crate::earliest_start::EarliestStart;
 use crate::stop::Stop;
-use crate::wanted::is_wanted;
+use crate::needed::is_needed;
 use std::alloc::Global;
 
 /// How things are joined, and what is asked of what they are joined to.
 #[derive(Drop)]
 pub(crate) struct Joining<'a> {
     pub how: Join,
-    pub demand: &'a Demand<'a>,
-    /// What begins earlier isn't wanted.
-    since: Since,
-    ghost told: { IsSince since demand.now.time (leads_of demand.now.leads.now) } by { Prim.hlevel props },
+    pub join_filter: &'a JoinFilter<'a>,
+    /// What begins earlier isn't needed.
+    earliest_start: EarliestStart,
+    ghost told: { IsEarliestStart earliest_start join_filter.now.time (pending_lefts_of join_filter.now.pending_lefts.now) } by { Prim.hlevel props },
 }
 
 impl<'a> Joining<'a> {
     /// Looks once at what is ahead.
-    pub fn new(how: Join, demand: &'a Demand<'a>) -> Joining<'a>
+    pub fn new(how: Join, join_filter: &'a JoinFilter<'a>) -> Joining<'a>
         ensures how { result.how ≡ how }
-        ensures demand { result.demand.now ≡ demand.now }
+        ensures join_filter { result.join_filter.now ≡ join_filter.now }
     {
         Joining {
             how,
-            demand,
-            since: Since::new(demand.time, demand.leads),
+            join_filter,
+            earliest_start: EarliestStart::new(join_filter.time, join_filter.pending_lefts),
         }
     }
 
     /// Adds each of the first things joined with each of the second ones that it is joined with, as far as
-    /// what comes of it is wanted, up to the thing that there is no room for.
+    /// what comes of it is needed, up to the thing that there is no budget for.
     pub fn rows(
         &self,
         alloc: Global,
-        firsts: &[Piece],
-        seconds: &[Piece],
-        sieve: &Sieve,
-        out: &mut Vec<Piece>,
+        firsts: &[PartialMatch],
+        seconds: &[PartialMatch],
+        skip_index: &SkipIndex,
+        out: &mut Vec<PartialMatch>,
     ) -> Result<(), Stop>
-        requires things { 0 < length sieve.now.keys.items → IsSieveOf seconds.now sieve.now }
-        ensures joined { OnOk result (AreAdded self.now.demand.now (joins self.now.how (piece_trees firsts.now) (piece_trees seconds.now)) out.old.items out.new.items) }
-        ensures crowded { result ≡ Err stop.Crowded → AreTooMany self.now.demand.now (joins self.now.how (piece_trees firsts.now) (piece_trees seconds.now)) out.old.items }
+        requires candidates { 0 < length skip_index.now.keys.items → IsSkipIndexOf seconds.now skip_index.now }
+        ensures joined { OnOk result (AreAdded self.now.join_filter.now (joins self.now.how (partial_match_trees firsts.now) (partial_match_trees seconds.now)) out.old.items out.new.items) }
+        ensures over_limit { result ≡ Err stop.OverLimit → AreTooMany self.now.join_filter.now (joins self.now.how (partial_match_trees firsts.now) (partial_match_trees seconds.now)) out.old.items }
     {
         for first in firsts {
-            if self.since.covers(first.earliest) {
-                self.row(alloc, first, seconds, sieve, out)?;
+            if self.earliest_start.covers(first.earliest) {
+                self.row(alloc, first, seconds, skip_index, out)?;
             }
         }
         Ok(())
@@ -69,19 +69,19 @@ impl<'a> Joining<'a> {
     fn row(
         &self,
         alloc: Global,
-        first: &Piece,
-        seconds: &[Piece],
-        sieve: &Sieve,
-        out: &mut Vec<Piece>,
+        first: &PartialMatch,
+        seconds: &[PartialMatch],
+        skip_index: &SkipIndex,
+        out: &mut Vec<PartialMatch>,
     ) -> Result<(), Stop>
-        requires things { 0 < length sieve.now.keys.items → IsSieveOf seconds.now sieve.now }
-        ensures joined { OnOk result (AreAdded self.now.demand.now (join_row self.now.how (piece_tree first.now) (piece_trees seconds.now)) out.old.items out.new.items) }
-        ensures crowded { result ≡ Err stop.Crowded → AreTooMany self.now.demand.now (join_row self.now.how (piece_tree first.now) (piece_trees seconds.now)) out.old.items }
+        requires candidates { 0 < length skip_index.now.keys.items → IsSkipIndexOf seconds.now skip_index.now }
+        ensures joined { OnOk result (AreAdded self.now.join_filter.now (join_row self.now.how (partial_match_tree first.now) (partial_match_trees seconds.now)) out.old.items out.new.items) }
+        ensures over_limit { result ≡ Err stop.OverLimit → AreTooMany self.now.join_filter.now (join_row self.now.how (partial_match_tree first.now) (partial_match_trees seconds.now)) out.old.items }
     {
-        if sieve.keys.is_empty() {
+        if skip_index.keys.is_empty() {
             return self.each(alloc, first, seconds, out);
         }
-        let places = sieve.places(alloc, self.how, &self.since, first)?;
+        let places = skip_index.places(alloc, self.how, &self.earliest_start, first)?;
         self.places(alloc, first, seconds, &places, out)
     }
 
@@ -89,12 +89,12 @@ impl<'a> Joining<'a> {
     fn each(
         &self,
         alloc: Global,
-        first: &Piece,
-        seconds: &[Piece],
-        out: &mut Vec<Piece>,
+        first: &PartialMatch,
+        seconds: &[PartialMatch],
+        out: &mut Vec<PartialMatch>,
     ) -> Result<(), Stop>
-        ensures joined { OnOk result (AreAdded self.now.demand.now (join_row self.now.how (piece_tree first.now) (piece_trees seconds.now)) out.old.items out.new.items) }
-        ensures crowded { result ≡ Err stop.Crowded → AreTooMany self.now.demand.now (join_row self.now.how (piece_tree first.now) (piece_trees seconds.now)) out.old.items }
+        ensures joined { OnOk result (AreAdded self.now.join_filter.now (join_row self.now.how (partial_match_tree first.now) (partial_match_trees seconds.now)) out.old.items out.new.items) }
+        ensures over_limit { result ≡ Err stop.OverLimit → AreTooMany self.now.join_filter.now (join_row self.now.how (partial_match_tree first.now) (partial_match_trees seconds.now)) out.old.items }
     {
         for second in seconds {
             self.pair(alloc, first, second, out)?;
@@ -106,14 +106,14 @@ impl<'a> Joining<'a> {
     fn places(
         &self,
         alloc: Global,
-        first: &Piece,
-        seconds: &[Piece],
+        first: &PartialMatch,
+        seconds: &[PartialMatch],
         places: &[usize],
-        out: &mut Vec<Piece>,
+        out: &mut Vec<PartialMatch>,
     ) -> Result<(), Stop>
-        requires tried { AreTried self.now.since.start self.now.how (piece_tree first.now) seconds.now places.now }
-        ensures joined { OnOk result (AreAdded self.now.demand.now (join_row self.now.how (piece_tree first.now) (piece_trees seconds.now)) out.old.items out.new.items) }
-        ensures crowded { result ≡ Err stop.Crowded → AreTooMany self.now.demand.now (join_row self.now.how (piece_tree first.now) (piece_trees seconds.now)) out.old.items }
+        requires tried { AreTried self.now.earliest_start.start self.now.how (partial_match_tree first.now) seconds.now places.now }
+        ensures joined { OnOk result (AreAdded self.now.join_filter.now (join_row self.now.how (partial_match_tree first.now) (partial_match_trees seconds.now)) out.old.items out.new.items) }
+        ensures over_limit { result ≡ Err stop.OverLimit → AreTooMany self.now.join_filter.now (join_row self.now.how (partial_match_tree first.now) (partial_match_trees seconds.now)) out.old.items }
     {
         let mut done = 0;
         for place in places {
@@ -129,53 +129,53 @@ impl<'a> Joining<'a> {
     fn pair(
         &self,
         alloc: Global,
-        first: &Piece,
-        second: &Piece,
-        out: &mut Vec<Piece>,
+        first: &PartialMatch,
+        second: &PartialMatch,
+        out: &mut Vec<PartialMatch>,
     ) -> Result<(), Stop>
-        ensures joined { OnOk result (AreAdded self.now.demand.now (join_row self.now.how (piece_tree first.now) (piece_tree second.now ∷ [])) out.old.items out.new.items) }
-        ensures crowded { result ≡ Err stop.Crowded → AreTooMany self.now.demand.now (join_row self.now.how (piece_tree first.now) (piece_tree second.now ∷ [])) out.old.items }
+        ensures joined { OnOk result (AreAdded self.now.join_filter.now (join_row self.now.how (partial_match_tree first.now) (partial_match_tree second.now ∷ [])) out.old.items out.new.items) }
+        ensures over_limit { result ≡ Err stop.OverLimit → AreTooMany self.now.join_filter.now (join_row self.now.how (partial_match_tree first.now) (partial_match_tree second.now ∷ [])) out.old.items }
     {
-        if self.since.covers(second.earliest) && self.how.may_join(first, second) {
-            let piece = self.how.joined(alloc, first, second)?;
-            self.push(alloc, piece, out)?;
+        if self.earliest_start.covers(second.earliest) && self.how.may_join(first, second) {
+            let partial_match = self.how.joined(alloc, first, second)?;
+            self.push(alloc, partial_match, out)?;
         }
         Ok(())
     }
 
-    /// Adds a new thing where it is wanted, unless there is no room for it.
-    fn push(&self, alloc: Global, piece: Piece, out: &mut Vec<Piece>) -> Result<(), Stop>
-        ensures pushed { OnOk result (AreAdded self.now.demand.now (piece_tree piece ∷ []) out.old.items out.new.items) }
-        ensures crowded { result ≡ Err stop.Crowded → AreTooMany self.now.demand.now (piece_tree piece ∷ []) out.old.items }
+    /// Adds a new thing where it is needed, unless there is no budget for it.
+    fn push(&self, alloc: Global, partial_match: PartialMatch, out: &mut Vec<PartialMatch>) -> Result<(), Stop>
+        ensures pushed { OnOk result (AreAdded self.now.join_filter.now (partial_match_tree partial_match ∷ []) out.old.items out.new.items) }
+        ensures over_limit { result ≡ Err stop.OverLimit → AreTooMany self.now.join_filter.now (partial_match_tree partial_match ∷ []) out.old.items }
     {
-        match self.takes(alloc, &piece, out) {
+        match self.takes(alloc, &partial_match, out) {
             Ok(true) => {
-                out.push(piece)?;
+                out.push(partial_match)?;
                 Ok(())
             }
             Ok(false) => {
-                drop(piece);
+                drop(partial_match);
                 Ok(())
             }
             Err(stop) => {
-                drop(piece);
+                drop(partial_match);
                 Err(stop)
             }
         }
     }
 
-    /// Whether a new thing is wanted; it stops where there is no room for it beside others.
-    fn takes(&self, alloc: Global, piece: &Piece, others: &[Piece]) -> Result<bool, Stop>
-        ensures taken { IfOk result (λ taken. taken ≡ is_wanted self.now.demand.now.time (leads_of self.now.demand.now.leads.now) (piece_tree piece.now)) }
-        ensures crowded { result ≡ Err stop.Crowded
-            → (is_wanted self.now.demand.now.time (leads_of self.now.demand.now.leads.now) (piece_tree piece.now) ≡ true) × (self.now.demand.now.room ≤ length others.now) }
+    /// Whether a new thing is needed; it stops where there is no budget for it beside others.
+    fn takes(&self, alloc: Global, partial_match: &PartialMatch, others: &[PartialMatch]) -> Result<bool, Stop>
+        ensures taken { IfOk result (λ taken. taken ≡ is_needed self.now.join_filter.now.time (pending_lefts_of self.now.join_filter.now.pending_lefts.now) (partial_match_tree partial_match.now)) }
+        ensures over_limit { result ≡ Err stop.OverLimit
+            → (is_needed self.now.join_filter.now.time (pending_lefts_of self.now.join_filter.now.pending_lefts.now) (partial_match_tree partial_match.now) ≡ true) × (self.now.join_filter.now.budget ≤ length others.now) }
     {
-        if !self.since.may_begin(piece) {
+        if !self.earliest_start.may_begin(partial_match) {
             return Ok(false);
         }
-        let is = is_wanted(alloc, piece, self.demand.time, self.demand.leads)?;
-        if is && others.len() as u64 >= self.demand.room {
-            return Err(Stop::Crowded);
+        let is = is_needed(alloc, partial_match, self.join_filter.time, self.join_filter.pending_lefts)?;
+        if is && others.len() as u64 >= self.join_filter.budget {
+            return Err(Stop::OverLimit);
         }
         Ok(is)
     }

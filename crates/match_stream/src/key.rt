@@ -1,9 +1,9 @@
 ghost use Rattle.std.specs.Prelude.{◌≡◌, IfOk};
-ghost use Rattle.match_stream.specs.inner.Pieces.{piece_tree};
+ghost use Rattle.match_stream.specs.inner.PartialMatches.{partial_match_tree};
 ghost use Rattle.match_stream.specs.inner.Sieves.{HasCommon};
 
 use crate::numbers::numbers_of;
-use crate::piece::Piece;
+use crate::partial_match::PartialMatch;
 use flow_values::NoMemory;
 use std::alloc::Global;
 use stix_times::Instant;
@@ -11,7 +11,7 @@ use stix_times::Instant;
 /// What a thing of a side is looked at by.
 #[derive(Drop)]
 pub(crate) struct Key {
-    /// What it binds, rising.
+    /// What it binds, ascending.
     pub numbers: Vec<u64>,
     /// When it begins.
     pub begin: Instant,
@@ -21,15 +21,15 @@ pub(crate) struct Key {
 
 impl Key {
     /// That of the thing at a place.
-    pub fn new(alloc: Global, piece: &Piece, place: usize) -> Result<Key, NoMemory>
+    pub fn new(alloc: Global, partial_match: &PartialMatch, place: usize) -> Result<Key, NoMemory>
         ensures place { IfOk result (λ key. key.place ≡ place) }
-        ensures thing { IfOk result (λ key. HasCommon key.numbers.items key.begin (piece_tree piece.now)) }
+        ensures candidate { IfOk result (λ key. HasCommon key.numbers.items key.begin (partial_match_tree partial_match.now)) }
     {
-        let mut numbers = numbers_of(alloc, &piece.bind)?;
+        let mut numbers = numbers_of(alloc, &partial_match.bind)?;
         numbers.sort_unstable();
         Ok(Key {
             numbers,
-            begin: piece.earliest,
+            begin: partial_match.earliest,
             place,
         })
     }

@@ -7,14 +7,14 @@ ghost use Rattle.match_bindings.specs.Span.{later_by};
 ghost use Rattle.match_bindings.specs.BindTree.{BindTree};
 ghost use Rattle.match_bindings.specs.Log.{observed_in};
 ghost use Rattle.match_bindings.specs.Listing.{IsListing};
-ghost use Rattle.match_stream.specs.PieceTree.{PieceTree};
+ghost use Rattle.match_stream.specs.PartialMatchTree.{PartialMatchTree};
 ghost use Rattle.match_stream.specs.RowNumbers.{is_kept};
-ghost use Rattle.match_stream.specs.LivePart.{IsLivePart, time_of};
-ghost use Rattle.match_stream.specs.Answer.{IsLiveCount, AreAnswers, joined_answers};
+ghost use Rattle.match_stream.specs.RetainedPart.{IsRetainedPart, time_of};
+ghost use Rattle.match_stream.specs.Answer.{IsRetainedCount, AreAnswers, joined_answers};
 
-/// A pattern has one live count over a log.
-pub fn one_live_count()
-    ensures { (p : NumberedPattern) (log : List LogEntry) (m n : ℕ) → IsLiveCount p log m → IsLiveCount p log n → m ≡ n }
+/// A pattern has one retained count over a log.
+pub fn one_retained_count()
+    ensures { (p : NumberedPattern) (log : List LogEntry) (m n : ℕ) → IsRetainedCount p log m → IsRetainedCount p log n → m ≡ n }
 {
     match_bindings::laws::test_is_the_rule();
 }
@@ -29,19 +29,19 @@ pub fn answers_are_the_listing()
 }
 
 /// The listing of a longer log begins with that of the log.
-pub fn listings_go_on()
+pub fn listings_continue()
     ensures { (p : NumberedPattern) (log more : List LogEntry) (xs ys : List BindTree) → IsListing (observed_in log) p xs
         → IsListing (observed_in (log ++ more)) p ys → (zs : List BindTree) × (ys ≡ xs ++ zs) }
 {
     match_bindings::laws::listing_is_by_the_test();
     match_bindings::laws::one_listing();
-    match_bindings::laws::rising_lists_are_ordered();
+    match_bindings::laws::ascending_lists_are_ordered();
 }
 
 /// Under an outermost `WITHIN` each row that is kept began less than its seconds before the time of the
 /// log.
 pub fn kept_rows_are_recent()
-    ensures { (p : NumberedPattern) (seconds number : ℕ) (log : List LogEntry) (contents : List (List PieceTree)) → IsLivePart (Within p seconds) log contents
+    ensures { (p : NumberedPattern) (seconds number : ℕ) (log : List LogEntry) (contents : List (List PartialMatchTree)) → IsRetainedPart (Within p seconds) log contents
         → is_kept number contents ≡ true → time_of log <ℤ later_by seconds ((observed_in log).first number) }
 {
     match_bindings::laws::test_is_the_rule();

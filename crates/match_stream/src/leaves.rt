@@ -3,18 +3,18 @@
 ghost use Rattle.std.specs.Prelude.{◌≡◌, ◌+◌, ◌<◌, ◌≤ℤ◌, ◌≤◌, ◌^◌, ◌++◌, ◌∷◌, [], ℕ, true, false, IsTrue, IfOk, IfSome, OnOk, nat_eq};
 ghost use Rattle.std.specs.List.{IsDistinct};
 ghost use Rattle.match_bindings.specs.BindTree.{Second, firsts, tree_of};
-ghost use Rattle.match_stream.specs.inner.Pieces.{piece_tree, piece_trees};
-ghost use Rattle.match_stream.specs.inner.Lives.{lives};
-ghost use Rattle.match_stream.specs.inner.Steps.{held_with, a_leaf, a_choice, row_alone, truth_at, IsQuiet, step_new};
-ghost use Rattle.match_stream.specs.inner.Wanted.{is_wanted, wanted};
-ghost use Rattle.match_stream.specs.inner.Leads.{leads_of};
+ghost use Rattle.match_stream.specs.inner.PartialMatches.{partial_match_tree, partial_match_trees};
+ghost use Rattle.match_stream.specs.inner.Retains.{retains};
+ghost use Rattle.match_stream.specs.inner.Steps.{held_with, a_leaf, a_choice, row_alone, truth_at, IsNonmatching, step_new};
+ghost use Rattle.match_stream.specs.inner.Needed.{is_needed, needed};
+ghost use Rattle.match_stream.specs.inner.PendingLefts.{pending_lefts_of};
 ghost use Rattle.match_stream.specs.inner.Numbers.{numbers};
 
-use crate::lead::Lead;
-use crate::piece::Piece;
+use crate::pending_left::PendingLeft;
+use crate::partial_match::PartialMatch;
 use crate::row::Row;
-use crate::store::is_live;
-use crate::wanted::is_wanted;
+use crate::store::is_retained;
+use crate::needed::is_needed;
 use flow_values::NoMemory;
 use match_bindings::Bind;
 use match_pruning::Window;
@@ -27,7 +27,7 @@ pub(crate) struct Leaves {
     pub first: u32,
     /// How many follow it.
     pub more: u32,
-    /// When what matches one of them lives.
+    /// When what matches one of them retains.
     pub window: Window,
     ghost few: { first + more < 2 ^ 32 },
 }
@@ -46,7 +46,7 @@ impl Leaves {
         }
     }
 
-    /// These with one more, where it follows them and lives when they do.
+    /// These with one more, where it follows them and retains when they do.
     pub fn with(&self, next: &Leaves) -> Option<Leaves>
         ensures { IfSome result (λ longer. leaves_of longer ≡ a_choice (leaves_of self.now) (leaves_of next.now)) }
     {
@@ -67,7 +67,7 @@ impl Leaves {
 
     /// Whether one of them holds.
     pub fn any_holds(&self, truths: &[bool]) -> bool
-        ensures { result ≡ false → IsQuiet truths.now (leaves_of self.now) }
+        ensures { result ≡ false → IsNonmatching truths.now (leaves_of self.now) }
     {
         if holds(truths, self.first) {
             return true;
@@ -80,53 +80,53 @@ impl Leaves {
         false
     }
 
-    /// One row: what is new at one of them, and wanted.
+    /// One row: what is new at one of them, and needed.
     #[inline(never)]
-    pub fn wanted(
+    pub fn needed(
         &self,
         alloc: Global,
         row: &Row,
         truths: &[bool],
-        leads: &[Lead],
-    ) -> Result<Vec<Piece>, NoMemory>
+        pending_lefts: &[PendingLeft],
+    ) -> Result<Vec<PartialMatch>, NoMemory>
         requires span { row.now.first ≤ℤ row.now.last }
-        ensures { IfOk result (λ new. piece_trees new.items ≡ wanted row.now.last (leads_of leads.now) (step_new row.now truths.now (leaves_of self.now))) }
+        ensures { IfOk result (λ new. partial_match_trees new.items ≡ needed row.now.last (pending_lefts_of pending_lefts.now) (step_new row.now truths.now (leaves_of self.now))) }
     {
-        if self.any_is_wanted(alloc, row, truths, leads)? {
+        if self.any_is_needed(alloc, row, truths, pending_lefts)? {
             let new = self.all_new(alloc, row, truths)?;
             return Ok(new);
         }
         Ok(Vec::new(alloc))
     }
 
-    /// Whether what is new at one of them is wanted: all of it, or none, since it is the row alone.
-    fn any_is_wanted(
+    /// Whether what is new at one of them is needed: all of it, or none, earliest start it is the row alone.
+    fn any_is_needed(
         &self,
         alloc: Global,
         row: &Row,
         truths: &[bool],
-        leads: &[Lead],
+        pending_lefts: &[PendingLeft],
     ) -> Result<bool, NoMemory>
         requires span { row.now.first ≤ℤ row.now.last }
         ensures all { IfOk result (λ is. is ≡ true
-            → wanted row.now.last (leads_of leads.now) (step_new row.now truths.now (leaves_of self.now)) ≡ step_new row.now truths.now (leaves_of self.now)) }
+            → needed row.now.last (pending_lefts_of pending_lefts.now) (step_new row.now truths.now (leaves_of self.now)) ≡ step_new row.now truths.now (leaves_of self.now)) }
         ensures none { IfOk result (λ is. is ≡ false
-            → wanted row.now.last (leads_of leads.now) (step_new row.now truths.now (leaves_of self.now)) ≡ []) }
-        ensures live { IfOk result (λ is. is ≡ true → lives self.now.window row.now.first row.now.last ≡ true) }
+            → needed row.now.last (pending_lefts_of pending_lefts.now) (step_new row.now truths.now (leaves_of self.now)) ≡ []) }
+        ensures retained { IfOk result (λ is. is ≡ true → retains self.now.window row.now.first row.now.last ≡ true) }
     {
-        if !self.any_holds(truths) || !is_live(&self.window, row.first, row.last) {
+        if !self.any_holds(truths) || !is_retained(&self.window, row.first, row.last) {
             return Ok(false);
         }
-        let is = alone_is_wanted(alloc, row, leads)?;
+        let is = alone_is_needed(alloc, row, pending_lefts)?;
         Ok(is)
     }
 
     /// What is new at one of them.
     #[tactic(auto, using(crate::proofs::PicksLemmas::once_one))]
-    fn all_new(&self, alloc: Global, row: &Row, truths: &[bool]) -> Result<Vec<Piece>, NoMemory>
+    fn all_new(&self, alloc: Global, row: &Row, truths: &[bool]) -> Result<Vec<PartialMatch>, NoMemory>
         requires span { row.now.first ≤ℤ row.now.last }
-        requires live { lives self.now.window row.now.first row.now.last ≡ true }
-        ensures { IfOk result (λ new. piece_trees new.items ≡ step_new row.now truths.now (leaves_of self.now)) }
+        requires retained { retains self.now.window row.now.first row.now.last ≡ true }
+        ensures { IfOk result (λ new. partial_match_trees new.items ≡ step_new row.now truths.now (leaves_of self.now)) }
     {
         let mut new = Vec::new(alloc);
         if holds(truths, self.first) {
@@ -150,31 +150,31 @@ fn holds(truths: &[bool], leaf: u32) -> bool
 
 /// A row alone.
 #[tactic(auto, using(crate::proofs::PicksLemmas::once_one))]
-fn alone(row: &Row) -> Piece
+fn singleton(row: &Row) -> PartialMatch
     requires span { row.now.first ≤ℤ row.now.last }
-    ensures { piece_tree result ≡ row_alone row.now }
+    ensures { partial_match_tree result ≡ row_alone row.now }
 {
-    piece(Bind::One(row.number), row)
+    partial_match(Bind::One(row.number), row)
 }
 
-/// Whether a row alone is wanted.
-fn alone_is_wanted(alloc: Global, row: &Row, leads: &[Lead]) -> Result<bool, NoMemory>
+/// Whether a row alone is needed.
+fn alone_is_needed(alloc: Global, row: &Row, pending_lefts: &[PendingLeft]) -> Result<bool, NoMemory>
     requires span { row.now.first ≤ℤ row.now.last }
-    ensures { IfOk result (λ is. is ≡ is_wanted row.now.last (leads_of leads.now) (row_alone row.now)) }
+    ensures { IfOk result (λ is. is ≡ is_needed row.now.last (pending_lefts_of pending_lefts.now) (row_alone row.now)) }
 {
-    let piece = alone(row);
-    let is = is_wanted(alloc, &piece, row.last, leads);
-    drop(piece);
+    let partial_match = singleton(row);
+    let is = is_needed(alloc, &partial_match, row.last, pending_lefts);
+    drop(partial_match);
     is
 }
 
 /// A bind of a row alone.
-fn piece(bind: Bind, row: &Row) -> Piece
+fn partial_match(bind: Bind, row: &Row) -> PartialMatch
     requires span { row.now.first ≤ℤ row.now.last }
     requires once { IsDistinct nat_eq (numbers (tree_of bind)) }
-    ensures { piece_tree result ≡ record { tree = tree_of bind; earliest = row.now.first; latest = row.now.last } }
+    ensures { partial_match_tree result ≡ record { tree = tree_of bind; earliest = row.now.first; latest = row.now.last } }
 {
-    Piece {
+    PartialMatch {
         bind,
         earliest: row.first,
         latest: row.last,
@@ -183,9 +183,9 @@ fn piece(bind: Bind, row: &Row) -> Piece
 
 /// Adds a row alone, under a `Second` and so many `First`s.
 #[tactic(auto, using(crate::proofs::PicksLemmas::once_second, crate::proofs::PicksLemmas::once_one))]
-fn push_second(alloc: Global, above: u32, row: &Row, new: &mut Vec<Piece>) -> Result<(), NoMemory>
+fn push_second(alloc: Global, above: u32, row: &Row, new: &mut Vec<PartialMatch>) -> Result<(), NoMemory>
     requires span { row.now.first ≤ℤ row.now.last }
-    ensures { OnOk result (piece_trees new.new.items ≡ piece_trees new.old.items ++ held_with (firsts above) (held_with Second (row_alone row.now)) ∷ []) }
+    ensures { OnOk result (partial_match_trees new.new.items ≡ partial_match_trees new.old.items ++ held_with (firsts above) (held_with Second (row_alone row.now)) ∷ []) }
 {
     let second = Bind::under_second(alloc, Bind::One(row.number))?;
     push_under(alloc, above, second, row, new)
@@ -198,14 +198,14 @@ fn push_under(
     above: u32,
     bind: Bind,
     row: &Row,
-    new: &mut Vec<Piece>,
+    new: &mut Vec<PartialMatch>,
 ) -> Result<(), NoMemory>
     requires span { row.now.first ≤ℤ row.now.last }
     requires once { IsDistinct nat_eq (numbers (tree_of bind)) }
-    ensures { OnOk result (piece_trees new.new.items ≡ piece_trees new.old.items
+    ensures { OnOk result (partial_match_trees new.new.items ≡ partial_match_trees new.old.items
         ++ held_with (firsts above) (record { tree = tree_of bind; earliest = row.now.first; latest = row.now.last }) ∷ []) }
 {
     let longer = Bind::under_firsts(alloc, above, bind)?;
-    new.push(piece(longer, row))?;
+    new.push(partial_match(longer, row))?;
     Ok(())
 }

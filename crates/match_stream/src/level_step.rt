@@ -4,100 +4,100 @@ ghost use Rattle.std.specs.Prelude.{◌≡◌, ◌∷◌, ◌++◌, ◌+◌, ◌
 ghost use Rattle.match_bindings.specs.BindTree.{Single};
 ghost use Rattle.match_stream.specs.declared.join.Join.TheVariants as join;
 ghost use Rattle.match_stream.specs.declared.stop.Stop.TheVariants as stop;
-ghost use Rattle.match_stream.specs.LivePart.{held_count};
-ghost use Rattle.match_stream.specs.inner.Pieces.{piece_tree, piece_trees};
+ghost use Rattle.match_stream.specs.RetainedPart.{held_count};
+ghost use Rattle.match_stream.specs.inner.PartialMatches.{partial_match_tree, partial_match_trees};
 ghost use Rattle.match_stream.specs.inner.Steps.{held_with, kept, stored, joins, levels_new, levels_after, levels_above, all_levels, risen, raised, counted};
-ghost use Rattle.match_stream.specs.inner.Wanted.{wanted, chosen};
-ghost use Rattle.match_stream.specs.inner.Leads.{leads_of};
+ghost use Rattle.match_stream.specs.inner.Needed.{needed, chosen};
+ghost use Rattle.match_stream.specs.inner.PendingLefts.{pending_lefts_of};
 ghost use Rattle.match_stream.specs.inner.Totals.{AdmitLevels};
 ghost use Rattle.match_stream.specs.inner.Nodes.{store_list, store_lists};
 
-use crate::demand::Demand;
+use crate::join_filter::JoinFilter;
 use crate::join::Join;
-use crate::lead::Lead;
+use crate::pending_left::PendingLeft;
 use crate::levels::Levels;
-use crate::piece::Piece;
-use crate::room::Room;
+use crate::partial_match::PartialMatch;
+use crate::budget::Budget;
 use crate::stop::Stop;
 use crate::store::Store;
 use flow_values::NoMemory;
-use match_bindings::alone;
+use match_bindings::singleton;
 use match_pruning::Window;
 use std::alloc::Global;
 use std::mem;
 use stix_times::Instant;
 
 impl Levels {
-    /// One row, given what is new at what is repeated: what is new at the last level, and wanted.
+    /// One row, given what is new at what is repeated: what is new at the last level, and needed.
     pub fn step(
         &mut self,
         alloc: Global,
         now: Instant,
-        new: &[Piece],
-        leads: &[Lead],
-        room: &mut Room,
-    ) -> Result<Vec<Piece>, Stop>
-        ensures new { IfOk result (λ sets. piece_trees sets.items ≡ chosen self.old.count now (leads_of leads.now)
-            (levels_new self.old.window now (map (held_with Single) (piece_trees new.now)) (piece_trees new.now)
+        new: &[PartialMatch],
+        pending_lefts: &[PendingLeft],
+        budget: &mut Budget,
+    ) -> Result<Vec<PartialMatch>, Stop>
+        ensures new { IfOk result (λ sets. partial_match_trees sets.items ≡ chosen self.old.count now (pending_lefts_of pending_lefts.now)
+            (levels_new self.old.window now (map (held_with Single) (partial_match_trees new.now)) (partial_match_trees new.now)
             (all_levels self.old.count (store_lists self.old.stores.items)))) }
         ensures kept { OnOk result (all_levels self.new.count (store_lists self.new.stores.items)
-            ≡ levels_after self.old.window now (map (held_with Single) (piece_trees new.now)) (piece_trees new.now)
+            ≡ levels_after self.old.window now (map (held_with Single) (partial_match_trees new.now)) (partial_match_trees new.now)
             (all_levels self.old.count (store_lists self.old.stores.items))) }
         ensures count { OnOk result (self.new.count ≡ self.old.count) }
         ensures window { OnOk result (self.new.window ≡ self.old.window) }
-        ensures counted { OnOk result (room.new.left
-            + held_count (levels_after self.old.window now (map (held_with Single) (piece_trees new.now)) (piece_trees new.now)
-            (all_levels self.old.count (store_lists self.old.stores.items))) ≡ room.old.left) }
-        ensures crowded { result ≡ Err stop.Crowded
-            → AdmitLevels self.old.window now (map (held_with Single) (piece_trees new.now)) (piece_trees new.now)
+        ensures counted { OnOk result (budget.new.left
+            + held_count (levels_after self.old.window now (map (held_with Single) (partial_match_trees new.now)) (partial_match_trees new.now)
+            (all_levels self.old.count (store_lists self.old.stores.items))) ≡ budget.old.left) }
+        ensures over_limit { result ≡ Err stop.OverLimit
+            → AdmitLevels self.old.window now (map (held_with Single) (partial_match_trees new.now)) (partial_match_trees new.now)
             (all_levels self.old.count (store_lists self.old.stores.items))
-            → room.old.left < held_count (levels_after self.old.window now (map (held_with Single) (piece_trees new.now)) (piece_trees new.now)
+            → budget.old.left < held_count (levels_after self.old.window now (map (held_with Single) (partial_match_trees new.now)) (partial_match_trees new.now)
             (all_levels self.old.count (store_lists self.old.stores.items)))
-            + length (chosen self.old.count now (leads_of leads.now)
-            (levels_new self.old.window now (map (held_with Single) (piece_trees new.now)) (piece_trees new.now)
+            + length (chosen self.old.count now (pending_lefts_of pending_lefts.now)
+            (levels_new self.old.window now (map (held_with Single) (partial_match_trees new.now)) (partial_match_trees new.now)
             (all_levels self.old.count (store_lists self.old.stores.items)))) }
     {
         let first = singles(alloc, new)?;
         let mut stores = mem::replace(&mut self.stores, Vec::new(alloc));
         let last = last_made(&mut stores, self.count);
-        let (made, sets) = step_made(alloc, stores, &self.window, now, first, new, room)?;
+        let (made, sets) = step_made(alloc, stores, &self.window, now, first, new, budget)?;
         self.stores = made;
         match last {
             Some(store) => {
-                let answer = self.step_last(alloc, store, now, sets, new, leads, room)?;
+                let answer = self.step_last(alloc, store, now, sets, new, pending_lefts, budget)?;
                 Ok(answer)
             }
             None => {
-                let answer = self.raise(alloc, sets, now, room)?;
+                let answer = self.raise(alloc, sets, now, budget)?;
                 Ok(answer)
             }
         }
     }
 
-    /// The last level, given what is new there and at what is repeated: what is new and wanted above it.
+    /// The last level, given what is new there and at what is repeated: what is new and needed above it.
     fn step_last(
         &mut self,
         alloc: Global,
         level: Store,
         now: Instant,
-        sets: Vec<Piece>,
-        new: &[Piece],
-        leads: &[Lead],
-        room: &mut Room,
-    ) -> Result<Vec<Piece>, Stop>
+        sets: Vec<PartialMatch>,
+        new: &[PartialMatch],
+        pending_lefts: &[PendingLeft],
+        budget: &mut Budget,
+    ) -> Result<Vec<PartialMatch>, Stop>
         requires { length self.old.stores.items + 1 ≤ self.old.count - 1 }
-        ensures new { IfOk result (λ answer. piece_trees answer.items
-            ≡ wanted now (leads_of leads.now) (joins join.Repeats (kept self.old.window now (store_list level)) (piece_trees new.now))) }
+        ensures new { IfOk result (λ answer. partial_match_trees answer.items
+            ≡ needed now (pending_lefts_of pending_lefts.now) (joins join.Repeats (kept self.old.window now (store_list level)) (partial_match_trees new.now))) }
         ensures kept { OnOk result (store_lists self.new.stores.items
-            ≡ store_lists self.old.stores.items ++ stored self.old.window now (store_list level) (piece_trees sets.items) ∷ []) }
+            ≡ store_lists self.old.stores.items ++ stored self.old.window now (store_list level) (partial_match_trees sets.items) ∷ []) }
         ensures count { OnOk result (self.new.count ≡ self.old.count) }
         ensures window { OnOk result (self.new.window ≡ self.old.window) }
-        ensures counted { OnOk result (room.new.left + length (stored self.old.window now (store_list level) (piece_trees sets.items)) ≡ room.old.left) }
-        ensures crowded { result ≡ Err stop.Crowded → room.old.left < length (stored self.old.window now (store_list level) (piece_trees sets.items))
-            + length (wanted now (leads_of leads.now) (joins join.Repeats (kept self.old.window now (store_list level)) (piece_trees new.now))) }
+        ensures counted { OnOk result (budget.new.left + length (stored self.old.window now (store_list level) (partial_match_trees sets.items)) ≡ budget.old.left) }
+        ensures over_limit { result ≡ Err stop.OverLimit → budget.old.left < length (stored self.old.window now (store_list level) (partial_match_trees sets.items))
+            + length (needed now (pending_lefts_of pending_lefts.now) (joins join.Repeats (kept self.old.window now (store_list level)) (partial_match_trees new.now))) }
     {
         let mut store = level;
-        let answer = step_level(alloc, &mut store, &self.window, now, sets, new, leads, room)?;
+        let answer = step_level(alloc, &mut store, &self.window, now, sets, new, pending_lefts, budget)?;
         self.stores.push(store)?;
         Ok(answer)
     }
@@ -107,21 +107,21 @@ impl Levels {
     fn raise(
         &mut self,
         alloc: Global,
-        sets: Vec<Piece>,
+        sets: Vec<PartialMatch>,
         now: Instant,
-        room: &mut Room,
-    ) -> Result<Vec<Piece>, Stop>
-        ensures new { IfOk result (λ answer. piece_trees answer.items
-            ≡ counted self.old.count (risen (levels_above self.old.count (store_lists self.old.stores.items)) (piece_trees sets.items))) }
+        budget: &mut Budget,
+    ) -> Result<Vec<PartialMatch>, Stop>
+        ensures new { IfOk result (λ answer. partial_match_trees answer.items
+            ≡ counted self.old.count (risen (levels_above self.old.count (store_lists self.old.stores.items)) (partial_match_trees sets.items))) }
         ensures kept { OnOk result (all_levels self.new.count (store_lists self.new.stores.items)
             ≡ store_lists self.old.stores.items
-            ++ raised self.old.window now (levels_above self.old.count (store_lists self.old.stores.items)) (piece_trees sets.items)) }
+            ++ raised self.old.window now (levels_above self.old.count (store_lists self.old.stores.items)) (partial_match_trees sets.items)) }
         ensures count { OnOk result (self.new.count ≡ self.old.count) }
         ensures window { OnOk result (self.new.window ≡ self.old.window) }
-        ensures counted { OnOk result (room.new.left
-            + held_count (raised self.old.window now (levels_above self.old.count (store_lists self.old.stores.items)) (piece_trees sets.items)) ≡ room.old.left) }
-        ensures crowded { result ≡ Err stop.Crowded → room.old.left
-            < held_count (raised self.old.window now (levels_above self.old.count (store_lists self.old.stores.items)) (piece_trees sets.items)) }
+        ensures counted { OnOk result (budget.new.left
+            + held_count (raised self.old.window now (levels_above self.old.count (store_lists self.old.stores.items)) (partial_match_trees sets.items)) ≡ budget.old.left) }
+        ensures over_limit { result ≡ Err stop.OverLimit → budget.old.left
+            < held_count (raised self.old.window now (levels_above self.old.count (store_lists self.old.stores.items)) (partial_match_trees sets.items)) }
     {
         if self.count == 0 {
             return Ok(Vec::new(alloc));
@@ -132,7 +132,7 @@ impl Levels {
         if sets.is_empty() {
             return Ok(sets);
         }
-        room.take_admitted(&sets, &self.window, now)?;
+        budget.take_admitted(&sets, &self.window, now)?;
         let mut store = Store::new(alloc);
         store.admit(sets, &self.window, now)?;
         self.stores.push(store)?;
@@ -159,27 +159,27 @@ fn step_made(
     stores: Vec<Store>,
     window: &Window,
     now: Instant,
-    first: Vec<Piece>,
-    new: &[Piece],
-    room: &mut Room,
-) -> Result<(Vec<Store>, Vec<Piece>), Stop>
+    first: Vec<PartialMatch>,
+    new: &[PartialMatch],
+    budget: &mut Budget,
+) -> Result<(Vec<Store>, Vec<PartialMatch>), Stop>
     ensures kept { IfOk result (λ after. store_lists after.0.items
-        ≡ levels_after window.now now (piece_trees first.items) (piece_trees new.now) (store_lists stores.items)) }
-    ensures new { IfOk result (λ after. piece_trees after.1.items
-        ≡ levels_new window.now now (piece_trees first.items) (piece_trees new.now) (store_lists stores.items)) }
-    ensures counted { OnOk result (room.new.left
-        + held_count (levels_after window.now now (piece_trees first.items) (piece_trees new.now) (store_lists stores.items)) ≡ room.old.left) }
-    ensures crowded { result ≡ Err stop.Crowded
-        → AdmitLevels window.now now (piece_trees first.items) (piece_trees new.now) (store_lists stores.items)
-        → room.old.left < held_count (levels_after window.now now (piece_trees first.items) (piece_trees new.now) (store_lists stores.items))
-        + length (levels_new window.now now (piece_trees first.items) (piece_trees new.now) (store_lists stores.items)) }
-    ensures some { result ≡ Err stop.Crowded → 0 < length stores.items }
+        ≡ levels_after window.now now (partial_match_trees first.items) (partial_match_trees new.now) (store_lists stores.items)) }
+    ensures new { IfOk result (λ after. partial_match_trees after.1.items
+        ≡ levels_new window.now now (partial_match_trees first.items) (partial_match_trees new.now) (store_lists stores.items)) }
+    ensures counted { OnOk result (budget.new.left
+        + held_count (levels_after window.now now (partial_match_trees first.items) (partial_match_trees new.now) (store_lists stores.items)) ≡ budget.old.left) }
+    ensures over_limit { result ≡ Err stop.OverLimit
+        → AdmitLevels window.now now (partial_match_trees first.items) (partial_match_trees new.now) (store_lists stores.items)
+        → budget.old.left < held_count (levels_after window.now now (partial_match_trees first.items) (partial_match_trees new.now) (store_lists stores.items))
+        + length (levels_new window.now now (partial_match_trees first.items) (partial_match_trees new.now) (store_lists stores.items)) }
+    ensures some { result ≡ Err stop.OverLimit → 0 < length stores.items }
 {
     let mut made = Vec::new(alloc);
     let mut sets = first;
     for store in stores {
         let mut level = store;
-        let above = step_level(alloc, &mut level, window, now, sets, new, &[], room)?;
+        let above = step_level(alloc, &mut level, window, now, sets, new, &[], budget)?;
         made.push(level)?;
         sets = above;
     }
@@ -187,41 +187,41 @@ fn step_made(
 }
 
 /// One row at one level, given what is new there and at what is repeated: what is new at the level above,
-/// and wanted.
+/// and needed.
 fn step_level(
     alloc: Global,
     level: &mut Store,
     window: &Window,
     now: Instant,
-    sets: Vec<Piece>,
-    new: &[Piece],
-    leads: &[Lead],
-    room: &mut Room,
-) -> Result<Vec<Piece>, Stop>
-    ensures new { IfOk result (λ above. piece_trees above.items
-        ≡ wanted now (leads_of leads.now) (joins join.Repeats (kept window.now now (store_list level.old)) (piece_trees new.now))) }
-    ensures kept { OnOk result (store_list level.new ≡ stored window.now now (store_list level.old) (piece_trees sets.items)) }
-    ensures counted { OnOk result (room.new.left + length (stored window.now now (store_list level.old) (piece_trees sets.items)) ≡ room.old.left) }
-    ensures crowded { result ≡ Err stop.Crowded → room.old.left < length (stored window.now now (store_list level.old) (piece_trees sets.items))
-        + length (wanted now (leads_of leads.now) (joins join.Repeats (kept window.now now (store_list level.old)) (piece_trees new.now))) }
+    sets: Vec<PartialMatch>,
+    new: &[PartialMatch],
+    pending_lefts: &[PendingLeft],
+    budget: &mut Budget,
+) -> Result<Vec<PartialMatch>, Stop>
+    ensures new { IfOk result (λ above. partial_match_trees above.items
+        ≡ needed now (pending_lefts_of pending_lefts.now) (joins join.Repeats (kept window.now now (store_list level.old)) (partial_match_trees new.now))) }
+    ensures kept { OnOk result (store_list level.new ≡ stored window.now now (store_list level.old) (partial_match_trees sets.items)) }
+    ensures counted { OnOk result (budget.new.left + length (stored window.now now (store_list level.old) (partial_match_trees sets.items)) ≡ budget.old.left) }
+    ensures over_limit { result ≡ Err stop.OverLimit → budget.old.left < length (stored window.now now (store_list level.old) (partial_match_trees sets.items))
+        + length (needed now (pending_lefts_of pending_lefts.now) (joins join.Repeats (kept window.now now (store_list level.old)) (partial_match_trees new.now))) }
 {
     level.expire(window, now);
-    room.take(level.held.len())?;
-    room.take_admitted(&sets, window, now)?;
+    budget.take(level.held.len())?;
+    budget.take_admitted(&sets, window, now)?;
     let mut above = Vec::new(alloc);
-    let demand = Demand {
+    let join_filter = JoinFilter {
         time: now,
-        leads,
-        room: room.left,
+        pending_lefts,
+        budget: budget.left,
     };
-    Join::Repeats.join(alloc, &level.held, new, &demand, &mut above)?;
+    Join::Repeats.join(alloc, &level.held, new, &join_filter, &mut above)?;
     level.admit(sets, window, now)?;
     Ok(above)
 }
 
 /// Each thing alone in a set.
-fn singles(alloc: Global, new: &[Piece]) -> Result<Vec<Piece>, NoMemory>
-    ensures { IfOk result (λ sets. piece_trees sets.items ≡ map (held_with Single) (piece_trees new.now)) }
+fn singles(alloc: Global, new: &[PartialMatch]) -> Result<Vec<PartialMatch>, NoMemory>
+    ensures { IfOk result (λ sets. partial_match_trees sets.items ≡ map (held_with Single) (partial_match_trees new.now)) }
 {
     let mut sets = Vec::new(alloc);
     for part in new {
@@ -232,11 +232,11 @@ fn singles(alloc: Global, new: &[Piece]) -> Result<Vec<Piece>, NoMemory>
 }
 
 /// A thing alone in a set.
-fn single(alloc: Global, part: &Piece) -> Result<Piece, NoMemory>
-    ensures { IfOk result (λ set. piece_tree set ≡ held_with Single (piece_tree part.now)) }
+fn single(alloc: Global, part: &PartialMatch) -> Result<PartialMatch, NoMemory>
+    ensures { IfOk result (λ set. partial_match_tree set ≡ held_with Single (partial_match_tree part.now)) }
 {
-    let bind = alone(alloc, &part.bind)?;
-    Ok(Piece {
+    let bind = singleton(alloc, &part.bind)?;
+    Ok(PartialMatch {
         bind,
         earliest: part.earliest,
         latest: part.latest,

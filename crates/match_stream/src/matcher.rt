@@ -6,9 +6,9 @@ ghost use Rattle.match_bindings.specs.Log.{IsInOrder};
 ghost use Rattle.match_stream.specs.declared.ending.Ending.{Ending};
 ghost use Rattle.match_stream.specs.declared.ending.Ending.TheVariants as ending;
 ghost use Rattle.match_stream.specs.declared.ending.MatchRefusal.TheVariants as refusal;
-ghost use Rattle.match_stream.specs.MatcherState.{StandsFor, with_row};
-ghost use Rattle.match_stream.specs.Answer.{AnswersRow, IsCrowdedAtRow, AnswersAfter};
-ghost use Rattle.match_stream.specs.Passing.{GoesOnQuietly, no_answers};
+ghost use Rattle.match_stream.specs.MatcherState.{Represents, with_row};
+ghost use Rattle.match_stream.specs.Answer.{AnswersRow, IsOverLimitAtRow, AnswersAfter};
+ghost use Rattle.match_stream.specs.Passing.{ContinuesWithoutMatch, no_answers};
 ghost use Rattle.match_bindings.specs.NumberedPattern.{numbered_pattern};
 ghost use Rattle.match_stream.specs.RowNumbers.{AreKept};
 
@@ -23,7 +23,7 @@ use std::alloc::Global;
 use std::marker::Model;
 use stix_times::Instant;
 
-/// A matcher of a pattern, which it borrows. Contracts see its pattern, its cap, how it ended, how many rows it took,
+/// A matcher of a pattern, which it borrows. Contracts see its pattern, its retained limit, how it ended, how many rows it took,
 /// the last time of the last of them, and what its stores hold.
 #[derive(Drop)]
 pub struct Matcher<'p> {
@@ -42,28 +42,28 @@ impl<'p> Model for Matcher<'p> {
 
     ghost coded = { Prim.hlevel (codes, held.the_row.coded, tree_code) };
 
-    ghost use Rattle.match_stream.specs.inner.Seen.{seen, IsMade};
+    ghost use Rattle.match_stream.specs.inner.ObservableState.{observable_state, IsMade};
 
-    ghost view = { seen };
+    ghost view = { observable_state };
 
     ghost invariant = { IsMade };
 }
 
 impl<'p> Matcher<'p> {
-    /// A matcher of a pattern that took no row yet. More than `cap` may never be live: so much, held or
+    /// A matcher of a pattern that took no row yet. More than `retained_limit` may never be retained: so much, held or
     /// ending at the last row, is kept in memory at once.
-    pub fn new(alloc: Global, pattern: &'p Pattern, cap: u64) -> Result<Matcher<'p>, NoMemory>
+    pub fn new(alloc: Global, pattern: &'p Pattern, retained_limit: u64) -> Result<Matcher<'p>, NoMemory>
         requires { leaves pattern.now < 2 ^ 32 }
-        ensures stands { IfOk result (λ matcher. StandsFor matcher []) }
+        ensures represents { IfOk result (λ matcher. Represents matcher []) }
         ensures pattern { IfOk result (λ matcher. matcher.pattern ≡ pattern.now) }
-        ensures cap { IfOk result (λ matcher. matcher.cap ≡ cap) }
+        ensures retained_limit { IfOk result (λ matcher. matcher.retained_limit ≡ retained_limit) }
     {
         laws::test_is_the_rule();
         let boxed = empty_node(alloc, pattern, 0, &Bounds::open())?;
         let node = Box::into_inner(boxed);
         let run = Run {
             alloc,
-            cap,
+            retained_limit,
             rows: 0,
             last: None,
             node,
@@ -84,22 +84,22 @@ impl<'p> Matcher<'p> {
         truths: &[bool],
     ) -> Result<Items<Bind>, MatchRefusal>
         requires span { first ≤ℤ last }
-        requires room { self.old.ended ≡ None → self.old.rows + 1 < 2 ^ 64 }
-        ensures answers { (log : List LogEntry) → StandsFor self.old log → IsInOrder log
+        requires budget { self.old.ended ≡ None → self.old.rows + 1 < 2 ^ 64 }
+        ensures answers { (log : List LogEntry) → Represents self.old log → IsInOrder log
             → IfOk result (λ binds. AnswersRow self.old self.new (with_row log first last truths.now) (map tree_of binds)) }
-        ensures crowded { (log : List LogEntry) → StandsFor self.old log → IsInOrder log → (number cap : ℕ)
-            → result ≡ Err (refusal.Stopped (ending.Crowded number cap)) → IsCrowdedAtRow self.old (with_row log first last truths.now) number cap }
+        ensures over_limit { (log : List LogEntry) → Represents self.old log → IsInOrder log → (number retained_limit : ℕ)
+            → result ≡ Err (refusal.Stopped (ending.OverLimit number retained_limit)) → IsOverLimitAtRow self.old (with_row log first last truths.now) number retained_limit }
         ensures out_of_order { (before now : ℤ) → (result ≡ Err (refusal.Stopped (ending.OutOfOrder before now)))
             ↔ ((self.old.ended ≡ None) × (self.old.last ≡ Some before) × (now ≡ last) × (now <ℤ before)) }
         ensures stopped { (ending : Ending) → result ≡ Err (refusal.Stopped ending) → (self.old.ended ≡ None) × (self.new.ended ≡ Some ending) }
         ensures ended { (ending : Ending) → (result ≡ Err (refusal.Ended ending)) ↔ (self.old.ended ≡ Some ending) }
         ensures unchanged { (ending : Ending) → self.old.ended ≡ Some ending → self.new ≡ self.old }
-        ensures kept { (self.new.pattern ≡ self.old.pattern) × (self.new.cap ≡ self.old.cap) }
+        ensures kept { (self.new.pattern ≡ self.old.pattern) × (self.new.retained_limit ≡ self.old.retained_limit) }
     {
         laws::test_is_the_rule();
-        laws::sorted_bindings_rise();
+        laws::sorted_bindings_ascend();
         laws::listing_is_by_the_test();
-        laws::rising_lists_are_ordered();
+        laws::ascending_lists_are_ordered();
         laws::listings_exist();
         if let Some(ending) = &self.ended {
             return Err(MatchRefusal::Ended(ending.copied()));
@@ -122,20 +122,20 @@ impl<'p> Matcher<'p> {
     /// at these rows. It costs one look at each store, and takes no memory.
     pub fn pass(&mut self, rows: u64, last: Instant) -> Result<(), MatchRefusal>
         requires some { 1 ≤ rows }
-        requires room { self.old.ended ≡ None → self.old.rows + rows < 2 ^ 64 }
-        ensures stands { (log quiet : List LogEntry) → StandsFor self.old log → GoesOnQuietly log quiet rows last
-            → OnOk result (StandsFor self.new (log ++ quiet)) }
-        ensures nothing_ends { (log quiet : List LogEntry) → StandsFor self.old log → GoesOnQuietly log quiet rows last
-            → OnOk result (AnswersAfter (numbered_pattern self.old.pattern) log quiet (no_answers quiet)) }
+        requires budget { self.old.ended ≡ None → self.old.rows + rows < 2 ^ 64 }
+        ensures represents { (log nonmatching : List LogEntry) → Represents self.old log → ContinuesWithoutMatch log nonmatching rows last
+            → OnOk result (Represents self.new (log ++ nonmatching)) }
+        ensures nothing_ends { (log nonmatching : List LogEntry) → Represents self.old log → ContinuesWithoutMatch log nonmatching rows last
+            → OnOk result (AnswersAfter (numbered_pattern self.old.pattern) log nonmatching (no_answers nonmatching)) }
         ensures out_of_order { (before now : ℤ) → (result ≡ Err (refusal.Stopped (ending.OutOfOrder before now)))
             ↔ ((self.old.ended ≡ None) × (self.old.last ≡ Some before) × (now ≡ last) × (now <ℤ before)) }
         ensures stopped { (ending : Ending) → result ≡ Err (refusal.Stopped ending) → (self.old.ended ≡ None) × (self.new.ended ≡ Some ending) }
         ensures ended { (ending : Ending) → (result ≡ Err (refusal.Ended ending)) ↔ (self.old.ended ≡ Some ending) }
         ensures unchanged { (ending : Ending) → self.old.ended ≡ Some ending → self.new ≡ self.old }
-        ensures kept { (self.new.pattern ≡ self.old.pattern) × (self.new.cap ≡ self.old.cap) }
+        ensures kept { (self.new.pattern ≡ self.old.pattern) × (self.new.retained_limit ≡ self.old.retained_limit) }
     {
         laws::test_is_the_rule();
-        laws::sorted_bindings_rise();
+        laws::sorted_bindings_ascend();
         if let Some(ending) = &self.ended {
             return Err(MatchRefusal::Ended(ending.copied()));
         }
@@ -148,7 +148,7 @@ impl<'p> Matcher<'p> {
         }
     }
 
-    /// The numbers of the rows that the stores hold, rising, each once; none where the matcher ended.
+    /// The numbers of the rows that the stores hold, ascending, each once; none where the matcher ended.
     pub fn kept(&self) -> Result<Items<u64>, NoMemory>
         ensures kept { IfOk result (λ numbers. self.now.ended ≡ None → AreKept self.now.contents numbers) }
         ensures ended { IfOk result (λ numbers. (ending : Ending) → self.now.ended ≡ Some ending → numbers ≡ []) }

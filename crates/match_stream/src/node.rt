@@ -3,22 +3,22 @@ ghost use Rattle.std.specs.Box.{box_value};
 ghost use Rattle.pattern_types.specs.Leaves.{leaves};
 ghost use Rattle.match_bindings.specs.NumberedPattern.{numbered_from};
 ghost use Rattle.match_bindings.specs.BindTree.{One, Second, firsts};
-ghost use Rattle.match_stream.specs.inner.Pieces.{piece_tree, piece_trees};
+ghost use Rattle.match_stream.specs.inner.PartialMatches.{partial_match_tree, partial_match_trees};
 ghost use Rattle.match_pruning.specs.Stores.{window_of};
-ghost use Rattle.match_stream.specs.inner.Steps.{held_with, a_leaf, a_join, a_choice, a_limit, a_chain, all_levels, empty_sides, step_new, step_state, empty_state, IsQuiet};
-ghost use Rattle.match_stream.specs.inner.Wanted.{wanted, closed, leads_right, leads_part};
-ghost use Rattle.match_stream.specs.inner.Leads.{ahead_of, leads_of};
-ghost use Rattle.match_stream.specs.inner.Totals.{held_after, live_at, Admits, IsOverAt};
+ghost use Rattle.match_stream.specs.inner.Steps.{held_with, a_leaf, a_join, a_choice, a_limit, a_chain, all_levels, empty_sides, step_new, step_state, empty_state, IsNonmatching};
+ghost use Rattle.match_stream.specs.inner.Needed.{needed, closed, pending_lefts_right, pending_lefts_part};
+ghost use Rattle.match_stream.specs.inner.PendingLefts.{pending_left_trees, pending_lefts_of};
+ghost use Rattle.match_stream.specs.inner.Totals.{held_after, retained_at, Admits, IsOverAt};
 ghost use Rattle.match_stream.specs.inner.Nodes.{side_stores, leaves_of, levels_state, state_of};
 ghost use Rattle.match_stream.specs.declared.stop.Stop.TheVariants as stop;
 
-use crate::demand::Demand;
+use crate::join_filter::JoinFilter;
 use crate::join::Join;
-use crate::lead::Lead;
+use crate::pending_left::PendingLeft;
 use crate::leaves::Leaves;
 use crate::levels::Levels;
-use crate::piece::Piece;
-use crate::room::Room;
+use crate::partial_match::PartialMatch;
+use crate::budget::Budget;
 use crate::row::Row;
 use crate::sides::Sides;
 use crate::stop::Stop;
@@ -84,7 +84,7 @@ pub(crate) fn empty_node(
     }
 }
 
-/// The same of a pattern that joins two sides, the right one behind the left where this is asked.
+/// The same of a pattern that joins two sides, the right one after left the left where this is asked.
 #[cycle(empty_node)]
 fn empty_sides(
     alloc: Global,
@@ -93,15 +93,15 @@ fn empty_sides(
     right: &Pattern,
     leaf: u32,
     above: &Bounds,
-    behind: bool,
+    after_left: bool,
 ) -> Result<Box<Node>, NoMemory>
     requires { leaf + (leaves left.now + leaves right.now) < 2 ^ 32 }
     ensures { IfOk result (λ node. state_of (box_value node) ≡ a_join join (empty_state above.now (numbered_from leaf left.now))
-        (empty_state above.now (numbered_from (leaf + leaves left.now) right.now)) (empty_sides (window_of above.now false) (window_of above.now behind))) }
+        (empty_state above.now (numbered_from (leaf + leaves left.now) right.now)) (empty_sides (window_of above.now false) (window_of above.now after_left))) }
 {
     let left_node = empty_node(alloc, left, leaf, above)?;
     let right_node = empty_node(alloc, right, leaf + leaf_count(left), above)?;
-    sides_node(alloc, join, left_node, right_node, above, behind)
+    sides_node(alloc, join, left_node, right_node, above, after_left)
 }
 
 /// The same of an `OR`.
@@ -131,7 +131,7 @@ fn leaf_node(alloc: Global, leaf: u32, above: &Bounds) -> Result<Box<Node>, NoMe
     Ok(Box::new(alloc, Node::Leaves(leaves))?)
 }
 
-/// A node that joins two sides, the right one behind the left where this is asked.
+/// A node that joins two sides, the right one after left the left where this is asked.
 #[inline(never)]
 fn sides_node(
     alloc: Global,
@@ -139,12 +139,12 @@ fn sides_node(
     left: Box<Node>,
     right: Box<Node>,
     above: &Bounds,
-    behind: bool,
+    after_left: bool,
 ) -> Result<Box<Node>, NoMemory>
     ensures { IfOk result (λ node. state_of (box_value node) ≡ a_join join (state_of (box_value left)) (state_of (box_value right))
-        (empty_sides (window_of above.now false) (window_of above.now behind))) }
+        (empty_sides (window_of above.now false) (window_of above.now after_left))) }
 {
-    let sides = Box::new(alloc, Sides::new(alloc, above, behind))?;
+    let sides = Box::new(alloc, Sides::new(alloc, above, after_left))?;
     Ok(Box::new(alloc, Node::Sides(join, left, right, sides))?)
 }
 
@@ -192,57 +192,57 @@ fn repeats_node(
     Ok(Box::new(alloc, Node::Repeats(part, levels))?)
 }
 
-/// One row: what ends at it and is wanted, and what is kept after it. What the stores then hold is
-/// counted; it stops at the piece by which more would be live than there is room for.
+/// One row: what ends at it and is needed, and what is kept after it. What the stores then hold is
+/// counted; it stops at the partial match by which more would be retained than there is budget for.
 #[cycle(step)]
 fn step(
     alloc: Global,
     node: &mut Node,
     row: &Row,
     truths: &[bool],
-    leads: &mut Vec<Lead>,
-    room: &mut Room,
-) -> Result<Vec<Piece>, Stop>
+    pending_lefts: &mut Vec<PendingLeft>,
+    budget: &mut Budget,
+) -> Result<Vec<PartialMatch>, Stop>
     requires span { row.now.first ≤ℤ row.now.last }
-    ensures new { IfOk result (λ new. piece_trees new.items ≡ wanted row.now.last (leads_of leads.old.items) (step_new row.now truths.now (state_of node.old))) }
+    ensures new { IfOk result (λ new. partial_match_trees new.items ≡ needed row.now.last (pending_lefts_of pending_lefts.old.items) (step_new row.now truths.now (state_of node.old))) }
     ensures kept { OnOk result (state_of node.new ≡ step_state row.now truths.now (state_of node.old)) }
-    ensures leads { OnOk result (leads.new.items ≡ leads.old.items) }
-    ensures counted { OnOk result (room.new.left + held_after row.now truths.now (state_of node.old) ≡ room.old.left) }
-    ensures crowded { result ≡ Err stop.Crowded → IsOverAt row.now truths.now (leads_of leads.old.items) (state_of node.old) room.old.left }
+    ensures pending_lefts { OnOk result (pending_lefts.new.items ≡ pending_lefts.old.items) }
+    ensures counted { OnOk result (budget.new.left + held_after row.now truths.now (state_of node.old) ≡ budget.old.left) }
+    ensures over_limit { result ≡ Err stop.OverLimit → IsOverAt row.now truths.now (pending_lefts_of pending_lefts.old.items) (state_of node.old) budget.old.left }
 {
     match node {
         Node::Leaves(leaves) => {
-            let new = leaves.wanted(alloc, row, truths, leads)?;
+            let new = leaves.needed(alloc, row, truths, pending_lefts)?;
             Ok(new)
         }
         Node::Sides(join, left, right, sides) => {
-            step_sides(alloc, *join, left, right, sides, row, truths, leads, room)
+            step_sides(alloc, *join, left, right, sides, row, truths, pending_lefts, budget)
         }
-        Node::Either(left, right) => step_either(alloc, left, right, row, truths, leads, room),
-        Node::Under(part) => step(alloc, part, row, truths, leads, room),
+        Node::Either(left, right) => step_either(alloc, left, right, row, truths, pending_lefts, budget),
+        Node::Under(part) => step(alloc, part, row, truths, pending_lefts, budget),
         Node::Repeats(part, levels) => {
-            step_repeats(alloc, part, levels, row, truths, leads, room)
+            step_repeats(alloc, part, levels, row, truths, pending_lefts, budget)
         }
     }
 }
 
-/// One row at a node with nothing ahead of it, where all that ends is wanted.
+/// One row at a node with nothing ahead of it, where all that ends is needed.
 #[cycle(step)]
 pub(crate) fn step_alone(
     alloc: Global,
     node: &mut Node,
     row: &Row,
     truths: &[bool],
-    room: &mut Room,
-) -> Result<Vec<Piece>, Stop>
+    budget: &mut Budget,
+) -> Result<Vec<PartialMatch>, Stop>
     requires span { row.now.first ≤ℤ row.now.last }
-    ensures new { IfOk result (λ new. piece_trees new.items ≡ wanted row.now.last [] (step_new row.now truths.now (state_of node.old))) }
+    ensures new { IfOk result (λ new. partial_match_trees new.items ≡ needed row.now.last [] (step_new row.now truths.now (state_of node.old))) }
     ensures kept { OnOk result (state_of node.new ≡ step_state row.now truths.now (state_of node.old)) }
-    ensures counted { OnOk result (room.new.left + held_after row.now truths.now (state_of node.old) ≡ room.old.left) }
-    ensures crowded { result ≡ Err stop.Crowded → IsOverAt row.now truths.now [] (state_of node.old) room.old.left }
+    ensures counted { OnOk result (budget.new.left + held_after row.now truths.now (state_of node.old) ≡ budget.old.left) }
+    ensures over_limit { result ≡ Err stop.OverLimit → IsOverAt row.now truths.now [] (state_of node.old) budget.old.left }
 {
     let mut none = Vec::new(alloc);
-    let new = step(alloc, node, row, truths, &mut none, room)?;
+    let new = step(alloc, node, row, truths, &mut none, budget)?;
     Ok(new)
 }
 
@@ -256,31 +256,31 @@ fn step_sides(
     sides: &mut Sides,
     row: &Row,
     truths: &[bool],
-    leads: &mut Vec<Lead>,
-    room: &mut Room,
-) -> Result<Vec<Piece>, Stop>
+    pending_lefts: &mut Vec<PendingLeft>,
+    budget: &mut Budget,
+) -> Result<Vec<PartialMatch>, Stop>
     requires span { row.now.first ≤ℤ row.now.last }
-    ensures new { IfOk result (λ new. piece_trees new.items
-        ≡ wanted row.now.last (leads_of leads.old.items) (step_new row.now truths.now (a_join join (state_of left.old) (state_of right.old) (side_stores sides.old)))) }
+    ensures new { IfOk result (λ new. partial_match_trees new.items
+        ≡ needed row.now.last (pending_lefts_of pending_lefts.old.items) (step_new row.now truths.now (a_join join (state_of left.old) (state_of right.old) (side_stores sides.old)))) }
     ensures kept { OnOk result (a_join join (state_of left.new) (state_of right.new) (side_stores sides.new)
         ≡ step_state row.now truths.now (a_join join (state_of left.old) (state_of right.old) (side_stores sides.old))) }
-    ensures leads { OnOk result (leads.new.items ≡ leads.old.items) }
-    ensures counted { OnOk result (room.new.left
-        + held_after row.now truths.now (a_join join (state_of left.old) (state_of right.old) (side_stores sides.old)) ≡ room.old.left) }
-    ensures crowded { result ≡ Err stop.Crowded → IsOverAt row.now truths.now (leads_of leads.old.items)
-        (a_join join (state_of left.old) (state_of right.old) (side_stores sides.old)) room.old.left }
+    ensures pending_lefts { OnOk result (pending_lefts.new.items ≡ pending_lefts.old.items) }
+    ensures counted { OnOk result (budget.new.left
+        + held_after row.now truths.now (a_join join (state_of left.old) (state_of right.old) (side_stores sides.old)) ≡ budget.old.left) }
+    ensures over_limit { result ≡ Err stop.OverLimit → IsOverAt row.now truths.now (pending_lefts_of pending_lefts.old.items)
+        (a_join join (state_of left.old) (state_of right.old) (side_stores sides.old)) budget.old.left }
 {
-    sides.expire(row.last, room)?;
-    let new_left = step_alone(alloc, left, row, truths, room)?;
-    room.take_admitted(&new_left, &sides.left_window, row.last)?;
-    let new_right = step_right(alloc, join, right, sides, row, truths, leads, room)?;
-    room.take_admitted(&new_right, &sides.right_window, row.last)?;
-    let demand = Demand {
+    sides.expire(row.last, budget)?;
+    let new_left = step_alone(alloc, left, row, truths, budget)?;
+    budget.take_admitted(&new_left, &sides.left_window, row.last)?;
+    let new_right = step_right(alloc, join, right, sides, row, truths, pending_lefts, budget)?;
+    budget.take_admitted(&new_right, &sides.right_window, row.last)?;
+    let join_filter = JoinFilter {
         time: row.last,
-        leads,
-        room: room.left,
+        pending_lefts,
+        budget: budget.left,
     };
-    let new = sides.join(alloc, join, new_left, new_right, &demand)?;
+    let new = sides.join(alloc, join, new_left, new_right, &join_filter)?;
     Ok(new)
 }
 
@@ -292,22 +292,22 @@ fn step_either(
     right: &mut Node,
     row: &Row,
     truths: &[bool],
-    leads: &mut Vec<Lead>,
-    room: &mut Room,
-) -> Result<Vec<Piece>, Stop>
+    pending_lefts: &mut Vec<PendingLeft>,
+    budget: &mut Budget,
+) -> Result<Vec<PartialMatch>, Stop>
     requires span { row.now.first ≤ℤ row.now.last }
-    ensures new { IfOk result (λ new. piece_trees new.items
-        ≡ wanted row.now.last (leads_of leads.old.items) (step_new row.now truths.now (a_choice (state_of left.old) (state_of right.old)))) }
+    ensures new { IfOk result (λ new. partial_match_trees new.items
+        ≡ needed row.now.last (pending_lefts_of pending_lefts.old.items) (step_new row.now truths.now (a_choice (state_of left.old) (state_of right.old)))) }
     ensures kept { OnOk result (a_choice (state_of left.new) (state_of right.new)
         ≡ step_state row.now truths.now (a_choice (state_of left.old) (state_of right.old))) }
-    ensures leads { OnOk result (leads.new.items ≡ leads.old.items) }
-    ensures counted { OnOk result (room.new.left + held_after row.now truths.now (a_choice (state_of left.old) (state_of right.old)) ≡ room.old.left) }
-    ensures crowded { result ≡ Err stop.Crowded
-        → IsOverAt row.now truths.now (leads_of leads.old.items) (a_choice (state_of left.old) (state_of right.old)) room.old.left }
+    ensures pending_lefts { OnOk result (pending_lefts.new.items ≡ pending_lefts.old.items) }
+    ensures counted { OnOk result (budget.new.left + held_after row.now truths.now (a_choice (state_of left.old) (state_of right.old)) ≡ budget.old.left) }
+    ensures over_limit { result ≡ Err stop.OverLimit
+        → IsOverAt row.now truths.now (pending_lefts_of pending_lefts.old.items) (a_choice (state_of left.old) (state_of right.old)) budget.old.left }
 {
     let mut new = Vec::new(alloc);
-    step_first(alloc, 1, left, row, truths, leads, room, &mut new)?;
-    step_second(alloc, 0, right, row, truths, leads, room, &mut new)?;
+    step_first(alloc, 1, left, row, truths, pending_lefts, budget, &mut new)?;
+    step_second(alloc, 0, right, row, truths, pending_lefts, budget, &mut new)?;
     Ok(new)
 }
 
@@ -319,20 +319,20 @@ fn step_repeats(
     levels: &mut Levels,
     row: &Row,
     truths: &[bool],
-    leads: &mut Vec<Lead>,
-    room: &mut Room,
-) -> Result<Vec<Piece>, Stop>
+    pending_lefts: &mut Vec<PendingLeft>,
+    budget: &mut Budget,
+) -> Result<Vec<PartialMatch>, Stop>
     requires span { row.now.first ≤ℤ row.now.last }
-    ensures new { IfOk result (λ new. piece_trees new.items
-        ≡ wanted row.now.last (leads_of leads.old.items) (step_new row.now truths.now (levels_state (state_of part.old) levels.old))) }
+    ensures new { IfOk result (λ new. partial_match_trees new.items
+        ≡ needed row.now.last (pending_lefts_of pending_lefts.old.items) (step_new row.now truths.now (levels_state (state_of part.old) levels.old))) }
     ensures kept { OnOk result (levels_state (state_of part.new) levels.new ≡ step_state row.now truths.now (levels_state (state_of part.old) levels.old)) }
-    ensures leads { OnOk result (leads.new.items ≡ leads.old.items) }
-    ensures counted { OnOk result (room.new.left + held_after row.now truths.now (levels_state (state_of part.old) levels.old) ≡ room.old.left) }
-    ensures crowded { result ≡ Err stop.Crowded
-        → IsOverAt row.now truths.now (leads_of leads.old.items) (levels_state (state_of part.old) levels.old) room.old.left }
+    ensures pending_lefts { OnOk result (pending_lefts.new.items ≡ pending_lefts.old.items) }
+    ensures counted { OnOk result (budget.new.left + held_after row.now truths.now (levels_state (state_of part.old) levels.old) ≡ budget.old.left) }
+    ensures over_limit { result ≡ Err stop.OverLimit
+        → IsOverAt row.now truths.now (pending_lefts_of pending_lefts.old.items) (levels_state (state_of part.old) levels.old) budget.old.left }
 {
-    let new = step_part(alloc, part, levels, row, truths, leads, room)?;
-    let answer = levels.step(alloc, row.last, &new, leads, room)?;
+    let new = step_part(alloc, part, levels, row, truths, pending_lefts, budget)?;
+    let answer = levels.step(alloc, row.last, &new, pending_lefts, budget)?;
     Ok(answer)
 }
 
@@ -345,27 +345,27 @@ fn step_first(
     node: &mut Node,
     row: &Row,
     truths: &[bool],
-    leads: &mut Vec<Lead>,
-    room: &mut Room,
-    out: &mut Vec<Piece>,
+    pending_lefts: &mut Vec<PendingLeft>,
+    budget: &mut Budget,
+    out: &mut Vec<PartialMatch>,
 ) -> Result<(), Stop>
     requires span { row.now.first ≤ℤ row.now.last }
-    ensures new { OnOk result (piece_trees out.new.items ≡ piece_trees out.old.items ++ map (held_with (firsts count))
-        (wanted row.now.last (leads_of leads.old.items) (step_new row.now truths.now (state_of node.old)))) }
+    ensures new { OnOk result (partial_match_trees out.new.items ≡ partial_match_trees out.old.items ++ map (held_with (firsts count))
+        (needed row.now.last (pending_lefts_of pending_lefts.old.items) (step_new row.now truths.now (state_of node.old)))) }
     ensures kept { OnOk result (state_of node.new ≡ step_state row.now truths.now (state_of node.old)) }
-    ensures leads { OnOk result (leads.new.items ≡ leads.old.items) }
-    ensures counted { OnOk result (room.new.left + held_after row.now truths.now (state_of node.old) ≡ room.old.left) }
-    ensures crowded { result ≡ Err stop.Crowded → Admits row.now truths.now (state_of node.old)
-        → room.old.left < length out.old.items + live_at row.now truths.now (leads_of leads.old.items) (state_of node.old) }
+    ensures pending_lefts { OnOk result (pending_lefts.new.items ≡ pending_lefts.old.items) }
+    ensures counted { OnOk result (budget.new.left + held_after row.now truths.now (state_of node.old) ≡ budget.old.left) }
+    ensures over_limit { result ≡ Err stop.OverLimit → Admits row.now truths.now (state_of node.old)
+        → budget.old.left < length out.old.items + retained_at row.now truths.now (pending_lefts_of pending_lefts.old.items) (state_of node.old) }
 {
     if count < u32::MAX {
         if let Node::Either(left, right) = node {
-            step_first(alloc, count + 1, left, row, truths, leads, room, out)?;
-            step_second(alloc, count, right, row, truths, leads, room, out)?;
+            step_first(alloc, count + 1, left, row, truths, pending_lefts, budget, out)?;
+            step_second(alloc, count, right, row, truths, pending_lefts, budget, out)?;
             return Ok(());
         }
     }
-    let mut new = step(alloc, node, row, truths, leads, room)?;
+    let mut new = step(alloc, node, row, truths, pending_lefts, budget)?;
     wrap_firsts(alloc, count, &mut new)?;
     out.append(&mut new)?;
     Ok(())
@@ -380,27 +380,27 @@ fn step_second(
     node: &mut Node,
     row: &Row,
     truths: &[bool],
-    leads: &mut Vec<Lead>,
-    room: &mut Room,
-    out: &mut Vec<Piece>,
+    pending_lefts: &mut Vec<PendingLeft>,
+    budget: &mut Budget,
+    out: &mut Vec<PartialMatch>,
 ) -> Result<(), Stop>
     requires span { row.now.first ≤ℤ row.now.last }
-    ensures new { OnOk result (piece_trees out.new.items ≡ piece_trees out.old.items ++ map (held_with (firsts count))
-        (map (held_with Second) (wanted row.now.last (leads_of leads.old.items) (step_new row.now truths.now (state_of node.old))))) }
+    ensures new { OnOk result (partial_match_trees out.new.items ≡ partial_match_trees out.old.items ++ map (held_with (firsts count))
+        (map (held_with Second) (needed row.now.last (pending_lefts_of pending_lefts.old.items) (step_new row.now truths.now (state_of node.old))))) }
     ensures kept { OnOk result (state_of node.new ≡ step_state row.now truths.now (state_of node.old)) }
-    ensures leads { OnOk result (leads.new.items ≡ leads.old.items) }
-    ensures counted { OnOk result (room.new.left + held_after row.now truths.now (state_of node.old) ≡ room.old.left) }
-    ensures crowded { result ≡ Err stop.Crowded → Admits row.now truths.now (state_of node.old)
-        → room.old.left < length out.old.items + live_at row.now truths.now (leads_of leads.old.items) (state_of node.old) }
+    ensures pending_lefts { OnOk result (pending_lefts.new.items ≡ pending_lefts.old.items) }
+    ensures counted { OnOk result (budget.new.left + held_after row.now truths.now (state_of node.old) ≡ budget.old.left) }
+    ensures over_limit { result ≡ Err stop.OverLimit → Admits row.now truths.now (state_of node.old)
+        → budget.old.left < length out.old.items + retained_at row.now truths.now (pending_lefts_of pending_lefts.old.items) (state_of node.old) }
 {
-    if is_quiet(node, truths) {
+    if is_nonmatching(node, truths) {
         return Ok(());
     }
     // Read, so that it is known to fit.
-    let _left = room.left;
-    room.take(out.len())?;
-    let new = step(alloc, node, row, truths, leads, room)?;
-    room.give_back(out.len());
+    let _left = budget.left;
+    budget.take(out.len())?;
+    let new = step(alloc, node, row, truths, pending_lefts, budget)?;
+    budget.give_back(out.len());
     add_seconds(alloc, count, new, out)?;
     Ok(())
 }
@@ -414,33 +414,33 @@ fn step_right(
     sides: &mut Sides,
     row: &Row,
     truths: &[bool],
-    leads: &mut Vec<Lead>,
-    room: &mut Room,
-) -> Result<Vec<Piece>, Stop>
+    pending_lefts: &mut Vec<PendingLeft>,
+    budget: &mut Budget,
+) -> Result<Vec<PartialMatch>, Stop>
     requires span { row.now.first ≤ℤ row.now.last }
-    ensures new { IfOk result (λ new. piece_trees new.items
-        ≡ wanted row.now.last (leads_right join (side_stores sides.old) (leads_of leads.old.items)) (step_new row.now truths.now (state_of right.old))) }
+    ensures new { IfOk result (λ new. partial_match_trees new.items
+        ≡ needed row.now.last (pending_lefts_right join (side_stores sides.old) (pending_lefts_of pending_lefts.old.items)) (step_new row.now truths.now (state_of right.old))) }
     ensures kept { OnOk result (state_of right.new ≡ step_state row.now truths.now (state_of right.old)) }
     ensures sides { OnOk result (side_stores sides.new ≡ side_stores sides.old) }
-    ensures leads { OnOk result (leads.new.items ≡ leads.old.items) }
-    ensures counted { OnOk result (room.new.left + held_after row.now truths.now (state_of right.old) ≡ room.old.left) }
-    ensures crowded { result ≡ Err stop.Crowded
-        → IsOverAt row.now truths.now (leads_right join (side_stores sides.old) (leads_of leads.old.items)) (state_of right.old) room.old.left }
+    ensures pending_lefts { OnOk result (pending_lefts.new.items ≡ pending_lefts.old.items) }
+    ensures counted { OnOk result (budget.new.left + held_after row.now truths.now (state_of right.old) ≡ budget.old.left) }
+    ensures over_limit { result ≡ Err stop.OverLimit
+        → IsOverAt row.now truths.now (pending_lefts_right join (side_stores sides.old) (pending_lefts_of pending_lefts.old.items)) (state_of right.old) budget.old.left }
 {
     match join {
         Join::Then => {
             let left = mem::replace(&mut sides.left, Store::new(alloc));
-            leads.push(Lead {
+            pending_lefts.push(PendingLeft {
                 left,
                 window: sides.right_window,
             })?;
-            let new = step(alloc, right, row, truths, leads, room)?;
-            if let Some(lead) = leads.pop() {
-                sides.left = lead.left;
+            let new = step(alloc, right, row, truths, pending_lefts, budget)?;
+            if let Some(pending_left) = pending_lefts.pop() {
+                sides.left = pending_left.left;
             }
             Ok(new)
         }
-        Join::Both | Join::Repeats => step_alone(alloc, right, row, truths, room),
+        Join::Both | Join::Repeats => step_alone(alloc, right, row, truths, budget),
     }
 }
 
@@ -452,49 +452,49 @@ fn step_part(
     levels: &Levels,
     row: &Row,
     truths: &[bool],
-    leads: &mut Vec<Lead>,
-    room: &mut Room,
-) -> Result<Vec<Piece>, Stop>
+    pending_lefts: &mut Vec<PendingLeft>,
+    budget: &mut Budget,
+) -> Result<Vec<PartialMatch>, Stop>
     requires span { row.now.first ≤ℤ row.now.last }
-    ensures new { IfOk result (λ new. piece_trees new.items
-        ≡ wanted row.now.last (leads_part levels.now.count levels.now.window row.now.last (leads_of leads.old.items)) (step_new row.now truths.now (state_of part.old))) }
+    ensures new { IfOk result (λ new. partial_match_trees new.items
+        ≡ needed row.now.last (pending_lefts_part levels.now.count levels.now.window row.now.last (pending_lefts_of pending_lefts.old.items)) (step_new row.now truths.now (state_of part.old))) }
     ensures kept { OnOk result (state_of part.new ≡ step_state row.now truths.now (state_of part.old)) }
-    ensures leads { OnOk result (leads.new.items ≡ leads.old.items) }
-    ensures counted { OnOk result (room.new.left + held_after row.now truths.now (state_of part.old) ≡ room.old.left) }
-    ensures crowded { result ≡ Err stop.Crowded
-        → IsOverAt row.now truths.now (leads_part levels.now.count levels.now.window row.now.last (leads_of leads.old.items)) (state_of part.old) room.old.left }
+    ensures pending_lefts { OnOk result (pending_lefts.new.items ≡ pending_lefts.old.items) }
+    ensures counted { OnOk result (budget.new.left + held_after row.now truths.now (state_of part.old) ≡ budget.old.left) }
+    ensures over_limit { result ≡ Err stop.OverLimit
+        → IsOverAt row.now truths.now (pending_lefts_part levels.now.count levels.now.window row.now.last (pending_lefts_of pending_lefts.old.items)) (state_of part.old) budget.old.left }
 {
     match levels.count {
         0 => {
-            leads.push(nothing_ahead(alloc, &levels.window, row.last))?;
-            let new = step(alloc, part, row, truths, leads, room)?;
-            leads.pop();
+            pending_lefts.push(no_pending_left(alloc, &levels.window, row.last))?;
+            let new = step(alloc, part, row, truths, pending_lefts, budget)?;
+            pending_lefts.pop();
             Ok(new)
         }
-        1 => step(alloc, part, row, truths, leads, room),
-        _ => step_alone(alloc, part, row, truths, room),
+        1 => step(alloc, part, row, truths, pending_lefts, budget),
+        _ => step_alone(alloc, part, row, truths, budget),
     }
 }
 
-/// Nothing ahead of a window that is closed: so nothing is wanted.
-fn nothing_ahead(alloc: Global, window: &Window, now: Instant) -> Lead
-    ensures { ahead_of result ≡ record { left = []; window = closed window.now now } }
+/// Nothing ahead of a window that is closed: so nothing is needed.
+fn no_pending_left(alloc: Global, window: &Window, now: Instant) -> PendingLeft
+    ensures { pending_left_trees result ≡ record { left = []; window = closed window.now now } }
 {
     let window = Window {
         seconds: window.seconds,
         start: window.start,
         stop: Some(now),
-        behind: window.behind,
+        after_left: window.after_left,
     };
-    Lead {
+    PendingLeft {
         left: Store::new(alloc),
         window,
     }
 }
 
 /// Whether a node is leaves of which none holds.
-fn is_quiet(node: &Node, truths: &[bool]) -> bool
-    ensures { IsTrue result → IsQuiet truths.now (state_of node.now) }
+fn is_nonmatching(node: &Node, truths: &[bool]) -> bool
+    ensures { IsTrue result → IsNonmatching truths.now (state_of node.now) }
 {
     match node {
         Node::Leaves(leaves) => !leaves.any_holds(truths),
@@ -509,11 +509,11 @@ fn is_quiet(node: &Node, truths: &[bool]) -> bool
 fn add_seconds(
     alloc: Global,
     count: u32,
-    new: Vec<Piece>,
-    out: &mut Vec<Piece>,
+    new: Vec<PartialMatch>,
+    out: &mut Vec<PartialMatch>,
 ) -> Result<(), NoMemory>
-    ensures { OnOk result (piece_trees out.new.items
-        ≡ piece_trees out.old.items ++ map (held_with (firsts count)) (map (held_with Second) (piece_trees new.items))) }
+    ensures { OnOk result (partial_match_trees out.new.items
+        ≡ partial_match_trees out.old.items ++ map (held_with (firsts count)) (map (held_with Second) (partial_match_trees new.items))) }
 {
     let mut seconds = new;
     wrap_seconds(alloc, &mut seconds)?;
@@ -528,26 +528,26 @@ fn add_seconds(
 
 /// Makes things those of the left sides of so many `OR`s, one above another.
 #[tactic(auto, using(crate::proofs::InPlaceLemmas::once_only, crate::proofs::PicksLemmas::once_firsts))]
-fn wrap_firsts(alloc: Global, count: u32, held: &mut Vec<Piece>) -> Result<(), NoMemory>
-    ensures { OnOk result (piece_trees held.new.items ≡ map (held_with (firsts count)) (piece_trees held.old.items)) }
+fn wrap_firsts(alloc: Global, count: u32, held: &mut Vec<PartialMatch>) -> Result<(), NoMemory>
+    ensures { OnOk result (partial_match_trees held.new.items ≡ map (held_with (firsts count)) (partial_match_trees held.old.items)) }
 {
-    for piece in held.iter_mut() {
-        let bind = mem::replace(&mut piece.bind, Bind::One(0));
+    for partial_match in held.iter_mut() {
+        let bind = mem::replace(&mut partial_match.bind, Bind::One(0));
         let above = Bind::under_firsts(alloc, count, bind)?;
-        piece.bind = above;
+        partial_match.bind = above;
     }
     Ok(())
 }
 
 /// Makes things those of the right side of an `OR`.
 #[tactic(auto, using(crate::proofs::InPlaceLemmas::once_only, crate::proofs::PicksLemmas::once_second))]
-fn wrap_seconds(alloc: Global, held: &mut Vec<Piece>) -> Result<(), NoMemory>
-    ensures { OnOk result (piece_trees held.new.items ≡ map (held_with Second) (piece_trees held.old.items)) }
+fn wrap_seconds(alloc: Global, held: &mut Vec<PartialMatch>) -> Result<(), NoMemory>
+    ensures { OnOk result (partial_match_trees held.new.items ≡ map (held_with Second) (partial_match_trees held.old.items)) }
 {
-    for piece in held.iter_mut() {
-        let bind = mem::replace(&mut piece.bind, Bind::One(0));
+    for partial_match in held.iter_mut() {
+        let bind = mem::replace(&mut partial_match.bind, Bind::One(0));
         let above = Bind::under_second(alloc, bind)?;
-        piece.bind = above;
+        partial_match.bind = above;
     }
     Ok(())
 }

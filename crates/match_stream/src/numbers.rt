@@ -60,7 +60,7 @@ pub(crate) fn share_number(numbers: &[u64], others: &[u64]) -> bool
 }
 
 /// Puts numbers in order, each once.
-pub(crate) fn tidy(numbers: &mut Vec<u64>)
+pub(crate) fn sort_dedup(numbers: &mut Vec<u64>)
     ensures { (n : ℕ) → Contains numbers.old.items n → Contains numbers.new.items n }
 {
     numbers.sort_unstable();

@@ -13,7 +13,7 @@ use crate::store::Store;
 use flow_values::NoMemory;
 use std::alloc::Global;
 
-/// The numbers in the stores of a node, rising, each once.
+/// The numbers in the stores of a node, ascending, each once.
 pub(crate) fn kept_numbers(alloc: Global, node: &Node) -> Result<Vec<u64>, NoMemory>
     ensures { IfOk result (λ kept. AreKept (contents_of (state_of node.now)) kept.items) }
 {

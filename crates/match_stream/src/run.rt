@@ -1,15 +1,15 @@
 ghost use Rattle.std.specs.Prelude.{◌≡◌, ◌<◌, ◌+◌, ◌^◌, ◌↔◌, ℕ, ℤ, ◌≤ℤ◌, ◌<ℤ◌, Err, Some, map, IfOk, OnOk};
 ghost use Rattle.match_bindings.specs.BindTree.{tree_of};
 ghost use Rattle.match_stream.specs.declared.ending.Ending.TheVariants as ending;
-ghost use Rattle.match_stream.specs.PieceTree.{trees_in};
-ghost use Rattle.match_stream.specs.inner.Pieces.{piece_trees};
+ghost use Rattle.match_stream.specs.PartialMatchTree.{trees_in};
+ghost use Rattle.match_stream.specs.inner.PartialMatches.{partial_match_trees};
 ghost use Rattle.match_stream.specs.declared.stop.Stop.TheVariants as stop;
 
 use crate::Ending;
 use crate::expired::clear;
 use crate::node::{Node, step_alone};
-use crate::piece::Piece;
-use crate::room::Room;
+use crate::partial_match::PartialMatch;
+use crate::budget::Budget;
 use crate::row::Row;
 use crate::stop::Stop;
 use flow_values::{Items, NoMemory};
@@ -21,7 +21,7 @@ use stix_times::Instant;
 #[derive(Drop)]
 pub(crate) struct Run {
     pub alloc: Global,
-    pub cap: u64,
+    pub retained_limit: u64,
     pub rows: u64,
     pub last: Option<Instant>,
     pub node: Node,
@@ -34,9 +34,9 @@ impl Run {
     pub fn clear(&mut self, now: Instant) -> Result<(), Ending>
         ensures out_of_order { (before time : ℤ) → (result ≡ Err (ending.OutOfOrder before time))
             ↔ ((self.old.last ≡ Some before) × (time ≡ now) × (time <ℤ before)) }
-        ensures not_crowded { (number cap : ℕ) → ¬ (result ≡ Err (ending.Crowded number cap)) }
+        ensures not_over_limit { (number retained_limit : ℕ) → ¬ (result ≡ Err (ending.OverLimit number retained_limit)) }
         ensures cleared { OnOk result (IsCleared self.old self.new now) }
-        ensures cap { self.new.cap ≡ self.old.cap }
+        ensures retained_limit { self.new.retained_limit ≡ self.old.retained_limit }
     {
         if let Some(before) = self.last {
             if now < before {
@@ -55,13 +55,13 @@ impl Run {
         truths: &[bool],
     ) -> Result<Items<Bind>, Ending>
         requires span { first ≤ℤ last }
-        requires room { self.old.rows + 1 < 2 ^ 64 }
+        requires budget { self.old.rows + 1 < 2 ^ 64 }
         ensures in_order { (before now : ℤ) → ¬ (result ≡ Err (ending.OutOfOrder before now)) }
-        ensures crowded { (number cap : ℕ) → result ≡ Err (ending.Crowded number cap)
-            → (number ≡ self.old.rows + 1) × (cap ≡ self.old.cap) × IsOver self.old (next_row self.old.rows first last) truths.now }
+        ensures over_limit { (number retained_limit : ℕ) → result ≡ Err (ending.OverLimit number retained_limit)
+            → (number ≡ self.old.rows + 1) × (retained_limit ≡ self.old.retained_limit) × IsOver self.old (next_row self.old.rows first last) truths.now }
         ensures took { OnOk result (TookRow self.old self.new (next_row self.old.rows first last) truths.now) }
         ensures binds { IfOk result (λ binds. AreSteps self.old (next_row self.old.rows first last) truths.now (map tree_of binds)) }
-        ensures cap { self.new.cap ≡ self.old.cap }
+        ensures retained_limit { self.new.retained_limit ≡ self.old.retained_limit }
     {
         let number = self.rows + 1;
         let row = Row {
@@ -71,9 +71,9 @@ impl Run {
         };
         match self.answer(&row, truths) {
             Ok(binds) => Ok(binds),
-            Err(Stop::Crowded) => Err(Ending::Crowded {
+            Err(Stop::OverLimit) => Err(Ending::OverLimit {
                 number,
-                cap: self.cap,
+                retained_limit: self.retained_limit,
             }),
             Err(Stop::OutOfMemory) => Err(Ending::NoMemory),
         }
@@ -85,7 +85,7 @@ impl Run {
         ensures out_of_order { (before now : ℤ) → (result ≡ Err (ending.OutOfOrder before now))
             ↔ ((self.old.last ≡ Some before) × (now ≡ last) × (now <ℤ before)) }
         ensures passed { OnOk result (Passed self.old self.new rows last) }
-        ensures cap { self.new.cap ≡ self.old.cap }
+        ensures retained_limit { self.new.retained_limit ≡ self.old.retained_limit }
     {
         match self.clear(last) {
             Ok(()) => {
@@ -97,17 +97,17 @@ impl Run {
         }
     }
 
-    /// The binds that end at a row, unless more is live after it than the cap allows.
+    /// The binds that end at a row, unless more is retained after it than the retained limit allows.
     fn answer(&mut self, row: &Row, truths: &[bool]) -> Result<Items<Bind>, Stop>
         requires span { row.now.first ≤ℤ row.now.last }
         ensures took { OnOk result (TookRow self.old self.new row.now truths.now) }
         ensures binds { IfOk result (λ binds. AreSteps self.old row.now truths.now (map tree_of binds)) }
-        ensures crowded { result ≡ Err stop.Crowded → IsOver self.old row.now truths.now }
-        ensures cap { self.new.cap ≡ self.old.cap }
+        ensures over_limit { result ≡ Err stop.OverLimit → IsOver self.old row.now truths.now }
+        ensures retained_limit { self.new.retained_limit ≡ self.old.retained_limit }
     {
-        let mut room = Room { left: self.cap };
-        let new = step_alone(self.alloc, &mut self.node, row, truths, &mut room)?;
-        room.take(new.len())?;
+        let mut budget = Budget { left: self.retained_limit };
+        let new = step_alone(self.alloc, &mut self.node, row, truths, &mut budget)?;
+        budget.take(new.len())?;
         let binds = binds_of(self.alloc, new)?;
         let sorted = in_order(self.alloc, binds)?;
         self.rows = row.number;
@@ -117,8 +117,8 @@ impl Run {
 }
 
 /// The binds alone.
-fn binds_of(alloc: Global, held: Vec<Piece>) -> Result<Vec<Bind>, NoMemory>
-    ensures { IfOk result (λ binds. map tree_of binds.items ≡ trees_in (piece_trees held.items)) }
+fn binds_of(alloc: Global, held: Vec<PartialMatch>) -> Result<Vec<Bind>, NoMemory>
+    ensures { IfOk result (λ binds. map tree_of binds.items ≡ trees_in (partial_match_trees held.items)) }
 {
     let mut binds = Vec::with_capacity(alloc, held.len())?;
     for one in held {

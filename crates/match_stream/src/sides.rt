@@ -1,16 +1,16 @@
 ghost use Rattle.std.specs.Prelude.{◌≡◌, ◌+◌, ◌<◌, false, length, IfOk, OnOk, Err};
 ghost use Rattle.match_pruning.specs.Stores.{window_of};
-ghost use Rattle.match_stream.specs.inner.Pieces.{piece_trees};
+ghost use Rattle.match_stream.specs.inner.PartialMatches.{partial_match_trees};
 ghost use Rattle.match_stream.specs.inner.Steps.{joins_both, sides_kept, sides_stored, sides_count, empty_sides};
-ghost use Rattle.match_stream.specs.inner.Demands.{demanded};
+ghost use Rattle.match_stream.specs.inner.Demands.{join_filtered};
 ghost use Rattle.match_stream.specs.declared.stop.Stop.TheVariants as stop;
 ghost use Rattle.match_stream.specs.inner.Nodes.{side_stores};
-ghost use Rattle.match_stream.specs.inner.Arranged.{AreSameSides};
+ghost use Rattle.match_stream.specs.inner.UpToOrder.{AreSameSides};
 
-use crate::demand::Demand;
+use crate::join_filter::JoinFilter;
 use crate::join::Join;
-use crate::piece::Piece;
-use crate::room::Room;
+use crate::partial_match::PartialMatch;
+use crate::budget::Budget;
 use crate::stop::Stop;
 use crate::store::{Store, store_window};
 use flow_values::NoMemory;
@@ -29,16 +29,16 @@ pub(crate) struct Sides {
 }
 
 impl Sides {
-    /// Stores under these bounds that hold nothing, the right one behind the left where this is asked.
+    /// Stores under these bounds that hold nothing, the right one after left the left where this is asked.
     /// Takes no memory.
-    pub fn new(alloc: Global, above: &Bounds, behind: bool) -> Sides
-        ensures { side_stores result ≡ empty_sides (window_of above.now false) (window_of above.now behind) }
+    pub fn new(alloc: Global, above: &Bounds, after_left: bool) -> Sides
+        ensures { side_stores result ≡ empty_sides (window_of above.now false) (window_of above.now after_left) }
     {
         Sides {
             left: Store::new(alloc),
             right: Store::new(alloc),
             left_window: store_window(above, false),
-            right_window: store_window(above, behind),
+            right_window: store_window(above, after_left),
         }
     }
 
@@ -53,40 +53,40 @@ impl Sides {
 
     /// Takes out what has expired, and counts what is left.
     #[inline(never)]
-    pub fn expire(&mut self, now: Instant, room: &mut Room) -> Result<(), Stop>
+    pub fn expire(&mut self, now: Instant, budget: &mut Budget) -> Result<(), Stop>
         ensures kept { OnOk result (side_stores self.new ≡ sides_kept now (side_stores self.old)) }
-        ensures counted { OnOk result (room.new.left + sides_count (sides_kept now (side_stores self.old)) ≡ room.old.left) }
-        ensures crowded { result ≡ Err stop.Crowded → room.old.left < sides_count (sides_kept now (side_stores self.old)) }
+        ensures counted { OnOk result (budget.new.left + sides_count (sides_kept now (side_stores self.old)) ≡ budget.old.left) }
+        ensures over_limit { result ≡ Err stop.OverLimit → budget.old.left < sides_count (sides_kept now (side_stores self.old)) }
     {
         self.left.expire(&self.left_window, now);
         self.right.expire(&self.right_window, now);
-        room.take(self.left.held.len())?;
-        room.take(self.right.held.len())?;
+        budget.take(self.left.held.len())?;
+        budget.take(self.right.held.len())?;
         Ok(())
     }
 
-    /// What is new where the sides are joined, and wanted, given what is new on each; this is held then.
+    /// What is new where the sides are joined, and needed, given what is new on each; this is held then.
     pub fn join(
         &mut self,
         alloc: Global,
         join: Join,
-        new_left: Vec<Piece>,
-        new_right: Vec<Piece>,
-        demand: &Demand<'_>,
-    ) -> Result<Vec<Piece>, Stop>
-        ensures new { IfOk result (λ new. piece_trees new.items
-            ≡ demanded demand.now (joins_both join (side_stores self.old) (piece_trees new_left.items) (piece_trees new_right.items))) }
+        new_left: Vec<PartialMatch>,
+        new_right: Vec<PartialMatch>,
+        join_filter: &JoinFilter<'_>,
+    ) -> Result<Vec<PartialMatch>, Stop>
+        ensures new { IfOk result (λ new. partial_match_trees new.items
+            ≡ join_filtered join_filter.now (joins_both join (side_stores self.old) (partial_match_trees new_left.items) (partial_match_trees new_right.items))) }
         ensures kept { OnOk result (side_stores self.new
-            ≡ sides_stored demand.now.time (side_stores self.old) (piece_trees new_left.items) (piece_trees new_right.items)) }
-        ensures crowded { result ≡ Err stop.Crowded → demand.now.room
-            < length (demanded demand.now (joins_both join (side_stores self.old) (piece_trees new_left.items) (piece_trees new_right.items))) }
+            ≡ sides_stored join_filter.now.time (side_stores self.old) (partial_match_trees new_left.items) (partial_match_trees new_right.items)) }
+        ensures over_limit { result ≡ Err stop.OverLimit → join_filter.now.budget
+            < length (join_filtered join_filter.now (joins_both join (side_stores self.old) (partial_match_trees new_left.items) (partial_match_trees new_right.items))) }
     {
         let mut new = Vec::new(alloc);
-        join.join(alloc, &new_left, &self.right.held, demand, &mut new)?;
-        join.join(alloc, &self.left.held, &new_right, demand, &mut new)?;
-        self.left.admit(new_left, &self.left_window, demand.time)?;
+        join.join(alloc, &new_left, &self.right.held, join_filter, &mut new)?;
+        join.join(alloc, &self.left.held, &new_right, join_filter, &mut new)?;
+        self.left.admit(new_left, &self.left_window, join_filter.time)?;
         self.right
-            .admit(new_right, &self.right_window, demand.time)?;
+            .admit(new_right, &self.right_window, join_filter.time)?;
         Ok(new)
     }
 }

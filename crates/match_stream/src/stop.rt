@@ -7,8 +7,8 @@ use std::alloc::{AllocError, AllocFailed};
 /// Why a row isn't taken to its end.
 #[derive(Clone, Copy, Debug)]
 pub(crate) enum Stop {
-    /// More would be live than the cap allows.
-    Crowded,
+    /// More would be retained than the retained limit allows.
+    OverLimit,
     /// There was no memory.
     OutOfMemory,
 }

@@ -1,15 +1,15 @@
 ghost use Rattle.std.specs.Prelude.{◌≡◌, ◌++◌, ◌∷◌, ◌≤◌, ◌<◌, [], true, length, not, slice_index_or, OnOk};
 ghost use Rattle.std.proofs.Props.{props};
 ghost use Rattle.match_pruning.specs.Stores.{window_of};
-ghost use Rattle.match_stream.specs.inner.Lives.{lives};
-ghost use Rattle.match_stream.specs.inner.Pieces.{piece_tree, piece_trees};
-ghost use Rattle.match_stream.specs.declared.piece.Piece.{Piece};
+ghost use Rattle.match_stream.specs.inner.Retains.{retains};
+ghost use Rattle.match_stream.specs.inner.PartialMatches.{partial_match_tree, partial_match_trees};
+ghost use Rattle.match_stream.specs.declared.partial_match.PartialMatch.{PartialMatch};
 ghost use Rattle.match_stream.specs.inner.Heaps.{IsHeap};
 ghost use Rattle.match_stream.specs.inner.Steps.{kept};
-ghost use Rattle.match_stream.specs.inner.Arranged.{AreSame};
+ghost use Rattle.match_stream.specs.inner.UpToOrder.{AreSameMultiset};
 
-use crate::heap::{rise, sink};
-use crate::piece::Piece;
+use crate::heap::{sift_up, sift_down};
+use crate::partial_match::PartialMatch;
 use flow_values::NoMemory;
 use match_bindings::Bounds;
 use match_pruning::{Window, expired};
@@ -19,7 +19,7 @@ use stix_times::Instant;
 /// What is held for a side of a node, or at a level of a `REPEATS`.
 #[derive(Drop)]
 pub(crate) struct Store {
-    pub held: Vec<Piece>,
+    pub held: Vec<PartialMatch>,
     /// So many of the first things are a heap, in which what expires first stands first. The others came
     /// after the last time that something could expire.
     pub heaped: usize,
@@ -30,7 +30,7 @@ pub(crate) struct Store {
 impl Store {
     /// A store without things. Takes no memory.
     pub fn new(alloc: Global) -> Store
-        ensures { piece_trees result.held.items ≡ [] }
+        ensures { partial_match_trees result.held.items ≡ [] }
     {
         Store {
             held: Vec::new(alloc),
@@ -41,11 +41,11 @@ impl Store {
     /// Takes out what has expired, and leaves the rest in any order. What stays costs nothing, and what
     /// goes no more than the logarithm of what is held. Takes no memory.
     pub fn clear(&mut self, window: &Window, now: Instant)
-        ensures { AreSame (kept window.now now (piece_trees self.old.held.items)) (piece_trees self.new.held.items) }
+        ensures { AreSameMultiset (kept window.now now (partial_match_trees self.old.held.items)) (partial_match_trees self.new.held.items) }
     {
-        self.settle();
+        self.augment();
         while let Some(first) = self.held.first() {
-            if is_live(window, first.earliest, now) {
+            if is_retained(window, first.earliest, now) {
                 return;
             }
             self.drop_first();
@@ -53,12 +53,12 @@ impl Store {
     }
 
     /// Makes one heap of all things.
-    fn settle(&mut self)
-        ensures same { AreSame (piece_trees self.old.held.items) (piece_trees self.new.held.items) }
+    fn augment(&mut self)
+        ensures same { AreSameMultiset (partial_match_trees self.old.held.items) (partial_match_trees self.new.held.items) }
         ensures heaped { self.new.heaped ≡ length self.new.held.items }
     {
         while self.heaped < self.held.len() {
-            rise(&mut self.held, self.heaped);
+            sift_up(&mut self.held, self.heaped);
             self.heaped += 1;
         }
     }
@@ -67,72 +67,72 @@ impl Store {
     fn drop_first(&mut self)
         requires some { 0 < length self.old.held.items }
         requires heaped { self.old.heaped ≡ length self.old.held.items }
-        ensures others { (d : Piece) → AreSame (piece_trees self.old.held.items) (piece_tree (slice_index_or self.old.held.items 0 d) ∷ piece_trees self.new.held.items) }
+        ensures others { (d : PartialMatch) → AreSameMultiset (partial_match_trees self.old.held.items) (partial_match_tree (slice_index_or self.old.held.items 0 d) ∷ partial_match_trees self.new.held.items) }
         ensures heaped { self.new.heaped ≡ length self.new.held.items }
         ensures fewer { length self.new.held.items < length self.old.held.items }
     {
         drop(self.held.swap_remove(0));
-        sink(&mut self.held);
+        sift_down(&mut self.held);
         self.heaped = self.held.len();
     }
 
     /// Takes out what has expired. The rest stays in its order.
     pub fn expire(&mut self, window: &Window, now: Instant)
-        ensures { piece_trees self.new.held.items ≡ kept window.now now (piece_trees self.old.held.items) }
+        ensures { partial_match_trees self.new.held.items ≡ kept window.now now (partial_match_trees self.old.held.items) }
     {
         if self.is_cleared(window, now) {
             return;
         }
         self.heaped = 0;
-        keep_live(&mut self.held, window, now);
+        keep_retained(&mut self.held, window, now);
     }
 
     /// Whether it is seen at once that nothing has expired.
     fn is_cleared(&self, window: &Window, now: Instant) -> bool
-        ensures { result ≡ true → piece_trees self.now.held.items ≡ kept window.now now (piece_trees self.now.held.items) }
+        ensures { result ≡ true → partial_match_trees self.now.held.items ≡ kept window.now now (partial_match_trees self.now.held.items) }
     {
         if self.heaped < self.held.len() {
             return false;
         }
         match self.held.first() {
-            Some(first) => is_live(window, first.earliest, now),
+            Some(first) => is_retained(window, first.earliest, now),
             None => true,
         }
     }
 
     /// Adds what hasn't expired.
-    pub fn admit(&mut self, new: Vec<Piece>, window: &Window, now: Instant) -> Result<(), NoMemory>
-        ensures { OnOk result (piece_trees self.new.held.items ≡ piece_trees self.old.held.items ++ kept window.now now (piece_trees new.items)) }
+    pub fn admit(&mut self, new: Vec<PartialMatch>, window: &Window, now: Instant) -> Result<(), NoMemory>
+        ensures { OnOk result (partial_match_trees self.new.held.items ≡ partial_match_trees self.old.held.items ++ kept window.now now (partial_match_trees new.items)) }
     {
-        let mut live = new;
-        keep_live(&mut live, window, now);
-        self.held.append(&mut live)?;
+        let mut retained = new;
+        keep_retained(&mut retained, window, now);
+        self.held.append(&mut retained)?;
         Ok(())
     }
 }
 
 /// Takes out of some things those that have expired. The rest stays in its order.
-fn keep_live(held: &mut Vec<Piece>, window: &Window, now: Instant)
-    ensures { piece_trees held.new.items ≡ kept window.now now (piece_trees held.old.items) }
+fn keep_retained(held: &mut Vec<PartialMatch>, window: &Window, now: Instant)
+    ensures { partial_match_trees held.new.items ≡ kept window.now now (partial_match_trees held.old.items) }
 {
-    held.retain(|piece| is_live(window, piece.earliest, now));
+    held.retain(|partial_match| is_retained(window, partial_match.earliest, now));
 }
 
 /// The window of a store under these bounds.
-pub(crate) fn store_window(above: &Bounds, behind: bool) -> Window
-    ensures { result ≡ window_of above.now behind }
+pub(crate) fn store_window(above: &Bounds, after_left: bool) -> Window
+    ensures { result ≡ window_of above.now after_left }
 {
     Window {
         seconds: above.seconds,
         start: above.start,
         stop: above.stop,
-        behind,
+        after_left,
     }
 }
 
 /// Whether a thing with this earliest time hasn't expired.
-pub(crate) fn is_live(window: &Window, earliest: Instant, now: Instant) -> bool
-    ensures { result ≡ lives window.now earliest now }
+pub(crate) fn is_retained(window: &Window, earliest: Instant, now: Instant) -> bool
+    ensures { result ≡ retains window.now earliest now }
 {
     !expired(window, earliest, now)
 }

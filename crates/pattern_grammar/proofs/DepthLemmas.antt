@@ -6,12 +6,12 @@ use Rattle.pattern_grammar.specs.declared.stop.Stop.{Stop}
 use Rattle.pattern_grammar.specs.declared.stop.Stop.TheVariants.{Syntax}
 use Rattle.pattern_grammar.specs.Tree.{Tree}
 use Rattle.pattern_grammar.specs.Grammar.{IsPattern}
-use Rattle.pattern_grammar.specs.Answer.{BeginsPattern, MisfitAt, Misfit}
+use Rattle.pattern_grammar.specs.Answer.{BeginsPattern, SyntaxErrorAt, SyntaxError}
 use Rattle.pattern_grammar.specs.Depth.{IsTooMany, NoneTooMany, FirstTooMany, IsShallow}
-use Rattle.pattern_grammar.specs.Answer.{place, SyntaxAt, DeepAt}
+use Rattle.pattern_grammar.specs.Answer.{offset, SyntaxAt, DeepAt}
 use Rattle.pattern_grammar.specs.inner.Machine.{IsFirstAt}
-use Rattle.pattern_grammar.proofs.CompletionLemmas.{front_whole}
-use Rattle.pattern_grammar.proofs.DerivesLemmas.{completes_front}
+use Rattle.pattern_grammar.proofs.CompletionLemmas.{prefix_whole}
+use Rattle.pattern_grammar.proofs.DerivesLemmas.{completes_prefix}
 
 -- where a token stands in a list with one more behind it: it is that one, or stands before it
 pub data Standing (ts : List Token) (last : Token) (before : List Token) (token : Token) (after : List Token) : Type 0 where
@@ -59,61 +59,61 @@ split_through first = first.spelled ∙ sym (append_assoc first.before (first.to
 pub take_through : (ts : List Token) (n : ℕ) → (first : IsFirstAt ts n) → take (n + 1) ts ≡ first.0.before ++ first.0.token ∷ []
 take_through ts n (first, size) = ap (take (n + 1)) (split_through first) ∙ take_at (first.before ++ first.token ∷ []) first.after (n + 1) (omega (arith, length-append first.before (first.token ∷ []), size))
 
-front_shallow : {ts : List Token} (first : FirstTooMany ts) (read rest : List Token) (t : Token) → first.before ++ first.token ∷ [] ≡ read ++ t ∷ rest → NoneTooMany read
-front_shallow first read rest t e = less (standing first.before first.token read t rest e)
+prefix_shallow : {ts : List Token} (first : FirstTooMany ts) (read rest : List Token) (t : Token) → first.before ++ first.token ∷ [] ≡ read ++ t ∷ rest → NoneTooMany read
+prefix_shallow first read rest t e = less (standing first.before first.token read t rest e)
   where
     less : Standing first.before first.token read t rest → NoneTooMany read
     less (behind p q r) = subst NoneTooMany p first.none_before
     less (within between p) = none_less read (t ∷ between) (subst NoneTooMany p first.none_before)
 
 -- what ends before the cut ends there without it
-syntax_cut : {ts rest : List Token} {t : Token} (first : FirstTooMany ts) (end : ℕ) → MisfitAt (first.before ++ first.token ∷ []) (t ∷ rest) → SyntaxAt ts end t.from
+syntax_cut : {ts rest : List Token} {t : Token} (first : FirstTooMany ts) (end : ℕ) → SyntaxErrorAt (first.before ++ first.token ∷ []) (t ∷ rest) → SyntaxAt ts end t.from
 syntax_cut {ts} {rest} {t} first end m = record {
   rest = t ∷ rest ++ first.after;
-  misfit = record {
+  syntax_error = record {
     read = m.read;
     all_are = split_through first ∙ ap (λ x. x ++ first.after) m.all_are ∙ append_assoc m.read (t ∷ rest) first.after;
-    front = m.front;
+    prefix = m.prefix;
     ends = m.ends;
   };
-  shallow = front_shallow first m.read rest t m.all_are;
+  shallow = prefix_shallow first m.read rest t m.all_are;
   here = refl;
 }
 
 -- where reading stops before the cut, and where it doesn't
-at_syntax : {ts : List Token} (e : Stop) (r : Bor (List Token)) → Misfit ts e → e ≡ Syntax r → MisfitAt ts r.now
+at_syntax : {ts : List Token} (e : Stop) (r : Bor (List Token)) → SyntaxError ts e → e ≡ Syntax r → SyntaxErrorAt ts r.now
 at_syntax e r m h = rw h at m
 
-pub syntax_none : {ts : List Token} (e : Stop) (r : Bor (List Token)) (end at : ℕ) → Misfit ts e → e ≡ Syntax r → NoneTooMany ts → at ≡ place r.now end → SyntaxAt ts end at
+pub syntax_none : {ts : List Token} (e : Stop) (r : Bor (List Token)) (end at : ℕ) → SyntaxError ts e → e ≡ Syntax r → NoneTooMany ts → at ≡ offset r.now end → SyntaxAt ts end at
 syntax_none {ts} e r end at m h none here =
     let f = at_syntax e r m h in
-    record { rest = r.now; misfit = f; shallow = none_less f.read r.now (subst NoneTooMany f.all_are none); here = here }
+    record { rest = r.now; syntax_error = f; shallow = none_less f.read r.now (subst NoneTooMany f.all_are none); here = here }
 
-pub syntax_at : (ts : List Token) (n : ℕ) (e : Stop) (r : Bor (List Token)) (d : Token) → IsFirstAt ts n → Misfit (take (n + 1) ts) e → e ≡ Syntax r → 1 ≤ length r.now → (end : ℕ) → SyntaxAt ts end (get_or r.now 0 d).from
+pub syntax_at : (ts : List Token) (n : ℕ) (e : Stop) (r : Bor (List Token)) (d : Token) → IsFirstAt ts n → SyntaxError (take (n + 1) ts) e → e ≡ Syntax r → 1 ≤ length r.now → (end : ℕ) → SyntaxAt ts end (get_or r.now 0 d).from
 syntax_at ts n e r d f m h k end = some_there r.now (rw (take_through ts n f) at (at_syntax e r m h)) k
   where
-    some_there : (us : List Token) → MisfitAt (f.0.before ++ f.0.token ∷ []) us → 1 ≤ length us → SyntaxAt ts end (get_or us 0 d).from
+    some_there : (us : List Token) → SyntaxErrorAt (f.0.before ++ f.0.token ∷ []) us → 1 ≤ length us → SyntaxAt ts end (get_or us 0 d).from
     some_there [] g i = absurd (omega arith)
     some_there (u ∷ us) g i = syntax_cut f.0 end g
 
 deep_from : (ts : List Token) (n : ℕ) (d : Token) → IsFirstAt ts n → BeginsPattern (take (n + 1) ts) → DeepAt ts (get_or ts n d).from
 deep_from ts n d (first, size) begins = record {
   first = first;
-  front = subst BeginsPattern (take_through ts n (first, size)) begins;
+  prefix = subst BeginsPattern (take_through ts n (first, size)) begins;
   here = ap (λ t. t.from) (ap (λ x. get_or x n d) first.spelled ∙ get_or_at first.before first.token first.after d n (sym size));
 }
 
 pub deep_spelled : (ts : List Token) (n : ℕ) (d : Token) (q : Tree) → IsFirstAt ts n → IsPattern (take (n + 1) ts) q → DeepAt ts (get_or ts n d).from
-deep_spelled ts n d q f x = deep_from ts n d f (completes_front (front_whole q x))
+deep_spelled ts n d q f x = deep_from ts n d f (completes_prefix (prefix_whole q x))
 
 none_there : (ts : List Token) → length ts < 1 → ts ≡ []
 none_there [] h = refl
 none_there (t ∷ ts) h = absurd (omega arith)
 
-pub deep_empty : (ts : List Token) (n : ℕ) (d : Token) (e : Stop) (r : Bor (List Token)) → IsFirstAt ts n → Misfit (take (n + 1) ts) e → e ≡ Syntax r → length r.now < 1 → DeepAt ts (get_or ts n d).from
+pub deep_empty : (ts : List Token) (n : ℕ) (d : Token) (e : Stop) (r : Bor (List Token)) → IsFirstAt ts n → SyntaxError (take (n + 1) ts) e → e ≡ Syntax r → length r.now < 1 → DeepAt ts (get_or ts n d).from
 deep_empty ts n d e r f m h k =
-    let g : MisfitAt (take (n + 1) ts) [] = rw (none_there r.now k) at (at_syntax e r m h) in
-    deep_from ts n d f (subst BeginsPattern (sym (g.all_are ∙ append-nil g.read)) g.front)
+    let g : SyntaxErrorAt (take (n + 1) ts) [] = rw (none_there r.now k) at (at_syntax e r m h) in
+    deep_from ts n d f (subst BeginsPattern (sym (g.all_are ∙ append-nil g.read)) g.prefix)
 
 -- one token more
 pub first_at : (ts : List Token) (n : ℕ) (d : Token) → n < length ts → NoneTooMany (take n ts) → IsTooMany (take n ts) (get_or ts n d) → IsFirstAt ts n

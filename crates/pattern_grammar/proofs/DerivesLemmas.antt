@@ -11,9 +11,9 @@ use Rattle.pattern_grammar.specs.declared.qualifier.Qualifier.{Qualifier}
 use Rattle.pattern_grammar.specs.Tree.{Comparison, test as test_tree, group, Tree}
 use Rattle.pattern_grammar.specs.TokenClass.{IsA}
 use Rattle.pattern_grammar.specs.Grammar.{IsStep, step_name, step_index, IsPath, path_first, path_further, AreConstants, constants_one, constants_more, IsCheck, check_equality, check_order, check_among, check_textual, IsTest, test_group, test_exists, test_not_exists, test_compare, test_not_compare, IsCand, cand_one, cand_more, IsCor, cor_one, cor_more, IsQualifier, qualifier_within, qualifier_repeats, qualifier_between, IsStart, start_leaf, start_group, IsUnit, unit_one, unit_more, IsAnds, ands_one, ands_more, IsOrs, ors_one, ors_more, IsPattern, pattern_one, pattern_more}
-use Rattle.pattern_grammar.specs.Fronts.{GrammarLine, pattern, ors, ands, unit, qualifier, cor, cand, test, compare, path, Part, one, line, token, ◌then◌, ◌or◌, many, rule, Derives, is_one, is_line, is_both, is_left, is_right, no_more, one_more, absent, present, FrontOf}
-use Rattle.pattern_grammar.specs.inner.Machine.{Front}
-use Rattle.pattern_grammar.proofs.FrontOfLemmas.{complete, front}
+use Rattle.pattern_grammar.specs.Prefixes.{Nonterminal, pattern, ors, ands, unit, qualifier, cor, cand, test, compare, path, Part, one, line, token, ◌then◌, ◌or◌, many, rule, Derives, is_one, is_line, is_both, is_left, is_right, no_more, one_more, absent, present, PrefixOf}
+use Rattle.pattern_grammar.specs.inner.Machine.{Prefix}
+use Rattle.pattern_grammar.proofs.PrefixOfLemmas.{complete, prefix}
 
 -- one more at the end
 many_more : {a : Part} {ts us : List Token} → Derives (many a) ts → Derives a us → Derives (many a) (ts ++ us)
@@ -24,7 +24,7 @@ many_more {us = ws} (one_more {ts = ts} {us = us} x z) y = rw (append_assoc ts u
 further_part : {a b : Part} {ts us : List Token} → Derives (a then many b) ts → Derives b us → Derives (a then many b) (ts ++ us)
 further_part {us = ws} (is_both {ts = ts} {us = us} x z) y = rw (append_assoc ts us ws) (is_both x (many_more z y))
 
-further_line : {l : GrammarLine} {a b : Part} (e : rule l ≡ (a then many b)) {ts us : List Token} → Derives (line l) ts → Derives b us → Derives (line l) (ts ++ us)
+further_line : {l : Nonterminal} {a b : Part} (e : rule l ≡ (a then many b)) {ts us : List Token} → Derives (line l) ts → Derives b us → Derives (line l) (ts ++ us)
 further_line e (is_line x) y = is_line (rw e (further_part (rw e at x) y))
 
 derive_step : {ts : List Token} {v : StepTree} → IsStep ts v → Derives ((token kind.Dot then one Name) or (token kind.SquareOpen then one Index then token kind.SquareClose)) ts
@@ -190,9 +190,9 @@ mutual
   spell_patterns no_more a v x = nothing_onto a v x
   spell_patterns (one_more {us = c} (is_both {us = b} (is_one o n) y) z) a v x = onto a (o ∷ b) c (spell_patterns z _ _ (pattern_more o x n (spell_ors y).spells))
 
--- tokens are a front exactly where some longer list, or they themselves, spell a pattern
-pub front_completes : {ts : List Token} → FrontOf (line pattern) ts → Front IsPattern ts
-front_completes x = let h = complete x in let g = spell_pattern h.derived in record { more = h.more; value = g.value; spells = g.spells }
+-- tokens are a prefix exactly where some longer list, or they themselves, spell a pattern
+pub prefix_completes : {ts : List Token} → PrefixOf (line pattern) ts → Prefix IsPattern ts
+prefix_completes x = let h = complete x in let g = spell_pattern h.derived in record { more = h.more; value = g.value; spells = g.spells }
 
-pub completes_front : {ts : List Token} → Front IsPattern ts → FrontOf (line pattern) ts
-completes_front {ts} f = front (derive_pattern f.spells) ts f.more refl
+pub completes_prefix : {ts : List Token} → Prefix IsPattern ts → PrefixOf (line pattern) ts
+completes_prefix {ts} f = prefix (derive_pattern f.spells) ts f.more refl

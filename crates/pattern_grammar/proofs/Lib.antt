@@ -12,7 +12,7 @@ mod MachineLemmas
 mod EndsAtLemmas
 mod TreeBuilderLemmas
 mod OneTreeLemmas
-mod FrontOfLemmas
+mod PrefixOfLemmas
 mod DerivesLemmas
 mod DepthLemmas
 mod OneAnswerLemmas

@@ -6,97 +6,97 @@ use Rattle.pattern_grammar.specs.declared.class.TokenClass.TheVariants.{Only, Ro
 use Rattle.pattern_grammar.specs.declared.path.StepTree.{StepTree}
 use Rattle.pattern_grammar.specs.declared.path.StepTree.TheVariants as step_tree
 use Rattle.pattern_grammar.specs.Grammar.{IsStep, step_name, step_index, IsPath, path_first, path_further, further}
-use Rattle.pattern_grammar.specs.inner.Machine.{Want, one, line, tail, step, steps, wants_step, wants_path, go}
+use Rattle.pattern_grammar.specs.inner.Machine.{Expected, one, line, tail, step, steps, expects_step, expects_path, go}
 use Rattle.pattern_grammar.specs.inner.Machine.{BeginsLine, Lacks, Found, Stuck, done, open_for}
 use Rattle.pattern_grammar.proofs.SameKindLemmas.{only}
 use Rattle.pattern_grammar.proofs.LeadsLemmas.{halts_one}
-use Rattle.pattern_grammar.proofs.CompletionLemmas.{some, front_path}
+use Rattle.pattern_grammar.proofs.CompletionLemmas.{some, prefix_path}
 use Rattle.pattern_grammar.proofs.ChainLemmas.{Repeat}
 
 -- step
-pub step_none : {ts : List Token} → Lacks (Only kind.Dot) ts → Lacks (Only kind.SquareOpen) ts → Stuck IsStep wants_step ts ts
+pub step_none : {ts : List Token} → Lacks (Only kind.Dot) ts → Lacks (Only kind.SquareOpen) ts → Stuck IsStep expects_step ts ts
 step_none {ts} a b = record {
   read = [];
   all_are = refl;
-  front = record { more = some kind.Dot ∷ some kind.Word ∷ []; value = _; spells = step_name (some kind.Dot) (some kind.Word) refl refl };
+  prefix = record { more = some kind.Dot ∷ some kind.Word ∷ []; value = _; spells = step_name (some kind.Dot) (some kind.Word) refl refl };
   halts = record { stop = none ts a b };
 }
   where
-    none : (us : List Token) → Lacks (Only kind.Dot) us → Lacks (Only kind.SquareOpen) us → (k : List Want) → go (Some (line step ∷ k)) us ≡ None
+    none : (us : List Token) → Lacks (Only kind.Dot) us → Lacks (Only kind.SquareOpen) us → (k : List Expected) → go (Some (line step ∷ k)) us ≡ None
     none [] a b k = refl
     none (t ∷ us) a b k = rw (a, b) refl
 
-pub step_dot : {ts r1 : List Token} (a : Token) → BeginsLine (Only kind.Dot) a ts r1 → Lacks Name r1 → Stuck IsStep wants_step ts r1
+pub step_dot : {ts r1 : List Token} (a : Token) → BeginsLine (Only kind.Dot) a ts r1 → Lacks Name r1 → Stuck IsStep expects_step ts r1
 step_dot {r1 = r1} a x h = record {
   read = a ∷ [];
   all_are = x.all_are;
-  front = record { more = some kind.Word ∷ []; value = _; spells = step_name a (some kind.Word) x.of_class refl };
+  prefix = record { more = some kind.Word ∷ []; value = _; spells = step_name a (some kind.Word) x.of_class refl };
   halts = record { stop = λ k. rw x.of_class ((halts_one Name r1 h).stop k) };
 }
 
-pub step_named : {ts r1 r2 : List Token} (a b : Token) → BeginsLine (Only kind.Dot) a ts r1 → BeginsLine Name b r1 r2 → Found IsStep wants_step done ts (step_tree.Name b) r2
+pub step_named : {ts r1 r2 : List Token} (a b : Token) → BeginsLine (Only kind.Dot) a ts r1 → BeginsLine Name b r1 r2 → Found IsStep expects_step done ts (step_tree.Name b) r2
 step_named a b x y = record {
   read = a ∷ b ∷ [];
   all_are = x.all_are ∙ ap (λ r. a ∷ r) y.all_are;
   spells = step_name a b x.of_class y.of_class;
-  leads = record { go_on = λ k. rw (x.of_class, y.of_class) refl };
+  leads = record { proceed = λ k. rw (x.of_class, y.of_class) refl };
 }
 
-pub step_square : {ts r1 : List Token} (a : Token) → BeginsLine (Only kind.SquareOpen) a ts r1 → Lacks Index r1 → Stuck IsStep wants_step ts r1
+pub step_square : {ts r1 : List Token} (a : Token) → BeginsLine (Only kind.SquareOpen) a ts r1 → Lacks Index r1 → Stuck IsStep expects_step ts r1
 step_square {r1 = r1} a x h = record {
   read = a ∷ [];
   all_are = x.all_are;
-  front = record { more = some kind.Number ∷ some kind.SquareClose ∷ []; value = _; spells = step_index a (some kind.Number) (some kind.SquareClose) x.of_class refl refl };
+  prefix = record { more = some kind.Number ∷ some kind.SquareClose ∷ []; value = _; spells = step_index a (some kind.Number) (some kind.SquareClose) x.of_class refl refl };
   halts = record { stop = λ k. rw (only kind.SquareOpen a x.of_class) ((halts_one Index r1 h).stop (one (Only kind.SquareClose) ∷ k)) };
 }
 
-pub step_unclosed : {ts r1 r2 : List Token} (a b : Token) → BeginsLine (Only kind.SquareOpen) a ts r1 → BeginsLine Index b r1 r2 → Lacks (Only kind.SquareClose) r2 → Stuck IsStep wants_step ts r2
+pub step_unclosed : {ts r1 r2 : List Token} (a b : Token) → BeginsLine (Only kind.SquareOpen) a ts r1 → BeginsLine Index b r1 r2 → Lacks (Only kind.SquareClose) r2 → Stuck IsStep expects_step ts r2
 step_unclosed {r2 = r2} a b x y h = record {
   read = a ∷ b ∷ [];
   all_are = x.all_are ∙ ap (λ r. a ∷ r) y.all_are;
-  front = record { more = some kind.SquareClose ∷ []; value = _; spells = step_index a b (some kind.SquareClose) x.of_class y.of_class refl };
+  prefix = record { more = some kind.SquareClose ∷ []; value = _; spells = step_index a b (some kind.SquareClose) x.of_class y.of_class refl };
   halts = record { stop = λ k. rw (only kind.SquareOpen a x.of_class, y.of_class) ((halts_one (Only kind.SquareClose) r2 h).stop k) };
 }
 
-pub step_indexed : {ts r1 r2 r3 : List Token} (a b c : Token) → BeginsLine (Only kind.SquareOpen) a ts r1 → BeginsLine Index b r1 r2 → BeginsLine (Only kind.SquareClose) c r2 r3 → Found IsStep wants_step done ts (step_tree.Index b) r3
+pub step_indexed : {ts r1 r2 r3 : List Token} (a b c : Token) → BeginsLine (Only kind.SquareOpen) a ts r1 → BeginsLine Index b r1 r2 → BeginsLine (Only kind.SquareClose) c r2 r3 → Found IsStep expects_step done ts (step_tree.Index b) r3
 step_indexed a b c x y z = record {
   read = a ∷ b ∷ c ∷ [];
   all_are = x.all_are ∙ ap (λ r. a ∷ r) (y.all_are ∙ ap (λ r. b ∷ r) z.all_are);
   spells = step_index a b c x.of_class y.of_class z.of_class;
-  leads = record { go_on = λ k. rw (only kind.SquareOpen a x.of_class, y.of_class, only kind.SquareClose c z.of_class) refl };
+  leads = record { proceed = λ k. rw (only kind.SquareOpen a x.of_class, y.of_class, only kind.SquareClose c z.of_class) refl };
 }
 
 -- path
-pub path_none : {ts : List Token} → Lacks Root ts → Stuck IsPath wants_path ts ts
+pub path_none : {ts : List Token} → Lacks Root ts → Stuck IsPath expects_path ts ts
 path_none {ts} h = record {
   read = [];
   all_are = refl;
-  front = front_path;
+  prefix = prefix_path;
   halts = record { stop = λ k. (halts_one Root ts h).stop (one (Only kind.Colon) ∷ one Name ∷ tail steps ∷ k) };
 }
 
-pub path_root : {ts r1 : List Token} (a : Token) → BeginsLine Root a ts r1 → Lacks (Only kind.Colon) r1 → Stuck IsPath wants_path ts r1
+pub path_root : {ts r1 : List Token} (a : Token) → BeginsLine Root a ts r1 → Lacks (Only kind.Colon) r1 → Stuck IsPath expects_path ts r1
 path_root {r1 = r1} a x h = record {
   read = a ∷ [];
   all_are = x.all_are;
-  front = record { more = some kind.Colon ∷ some kind.Word ∷ []; value = _; spells = path_first a (some kind.Colon) (some kind.Word) x.of_class refl refl };
+  prefix = record { more = some kind.Colon ∷ some kind.Word ∷ []; value = _; spells = path_first a (some kind.Colon) (some kind.Word) x.of_class refl refl };
   halts = record { stop = λ k. rw x.of_class ((halts_one (Only kind.Colon) r1 h).stop (one Name ∷ tail steps ∷ k)) };
 }
 
-pub path_colon : {ts r1 r2 : List Token} (a b : Token) → BeginsLine Root a ts r1 → BeginsLine (Only kind.Colon) b r1 r2 → Lacks Name r2 → Stuck IsPath wants_path ts r2
+pub path_colon : {ts r1 r2 : List Token} (a b : Token) → BeginsLine Root a ts r1 → BeginsLine (Only kind.Colon) b r1 r2 → Lacks Name r2 → Stuck IsPath expects_path ts r2
 path_colon {r2 = r2} a b x y h = record {
   read = a ∷ b ∷ [];
   all_are = x.all_are ∙ ap (λ r. a ∷ r) y.all_are;
-  front = record { more = some kind.Word ∷ []; value = _; spells = path_first a b (some kind.Word) x.of_class y.of_class refl };
+  prefix = record { more = some kind.Word ∷ []; value = _; spells = path_first a b (some kind.Word) x.of_class y.of_class refl };
   halts = record { stop = λ k. rw (x.of_class, y.of_class) ((halts_one Name r2 h).stop (tail steps ∷ k)) };
 }
 
-pub path_begun : {ts r1 r2 r3 : List Token} (a b c : Token) → BeginsLine Root a ts r1 → BeginsLine (Only kind.Colon) b r1 r2 → BeginsLine Name c r2 r3 → Found IsPath wants_path (open_for steps) ts (record { root = a; steps = step_tree.Name c ∷ [] }) r3
+pub path_begun : {ts r1 r2 r3 : List Token} (a b c : Token) → BeginsLine Root a ts r1 → BeginsLine (Only kind.Colon) b r1 r2 → BeginsLine Name c r2 r3 → Found IsPath expects_path (open_for steps) ts (record { root = a; steps = step_tree.Name c ∷ [] }) r3
 path_begun a b c x y z = record {
   read = a ∷ b ∷ c ∷ [];
   all_are = x.all_are ∙ ap (λ r. a ∷ r) (y.all_are ∙ ap (λ r. b ∷ r) z.all_are);
   spells = path_first a b c x.of_class y.of_class z.of_class;
-  leads = record { go_on = λ k. rw (x.of_class, y.of_class, z.of_class) refl };
+  leads = record { proceed = λ k. rw (x.of_class, y.of_class, z.of_class) refl };
 }
 
 pub path_steps : Repeat IsPath IsStep step steps further
@@ -107,5 +107,5 @@ read_step : {ts : List Token} {v : StepTree} → IsStep ts v → 0 < length ts
 read_step (step_name a b x y) = omega arith
 read_step (step_index a b c x y z) = omega arith
 
-pub step_shorter : {ts rest : List Token} {v : StepTree} {before : List Want → List Want} → Found IsStep before done ts v rest → length rest < length ts
+pub step_shorter : {ts rest : List Token} {v : StepTree} {before : List Expected → List Expected} → Found IsStep before done ts v rest → length rest < length ts
 step_shorter {rest = rest} f = omega (arith, read_step f.spells, ap length f.all_are, length-append f.read rest)

@@ -1,5 +1,5 @@
--- A machine that builds the tree from left to right: beside the stack of what is wanted it has a stack
--- of what was built, and wants that work on it.
+-- A machine that builds the tree from left to right: beside the stack of what is expected it has a stack
+-- of what was built, and expects that work on it.
 use Rattle.std.proofs.Common.{◌≡◌, Bool, true, false, List, [], ◌∷◌, ◌++◌, Option, Some, None, refl, sym, ap, ◌∙◌, if◌then◌else◌}
 use Rattle.pattern_lexer.specs.declared.token.Token.{Token}
 use Rattle.pattern_lexer.specs.declared.token.TokenKind.{TokenKind}
@@ -16,7 +16,7 @@ use Rattle.pattern_grammar.specs.declared.qualifier.Qualifier.TheVariants as qua
 use Rattle.pattern_grammar.specs.TokenClass.{is_in}
 use Rattle.pattern_grammar.specs.Tree.{Comparison, test as test_of, group, all, any, Tree, leaf, both, either, followed, qualified}
 use Rattle.pattern_grammar.specs.Grammar.{further}
-use Rattle.pattern_grammar.specs.inner.Machine.{WantedLine, start, qualifier, test, turn, check, step, Tail, qualifiers, ands, ors, thens, cands, cors, steps, commas, opening}
+use Rattle.pattern_grammar.specs.inner.Machine.{ExpectedLine, start, qualifier, test, turn, check, step, Tail, qualifiers, ands, ors, thens, cands, cors, steps, commas, opening}
 use Rattle.pattern_grammar.specs.inner.Machine.{Lacks}
 
 -- what was built
@@ -32,7 +32,7 @@ pub data Built : Type 0 where
 
 pub data Job : Type 0 where
   one : TokenClass → Job
-  line : WantedLine → Job
+  line : ExpectedLine → Job
   tail : Tail → Job
   act : (List Built → List Built) → Job
 
@@ -151,7 +151,7 @@ begin_check k s =
     (choose k Textual (one (Only kind.String) ∷ act textual_check ∷ s)
     (choose k (Only kind.Among) (one (Only kind.RoundOpen) ∷ jobs_constants (one (Only kind.RoundClose) ∷ act among_check ∷ s)) None)))
 
-abbrev begin : WantedLine → TokenKind → List Job → Option (List Job)
+abbrev begin : ExpectedLine → TokenKind → List Job → Option (List Job)
 begin start k s =
     choose k (Only kind.RoundOpen) (jobs_pattern (one (Only kind.RoundClose) ∷ act group_tree ∷ s))
     (choose k (Only kind.SquareOpen) (jobs_cor (one (Only kind.SquareClose) ∷ act leaf_tree ∷ s)) None)
@@ -219,7 +219,7 @@ go (at s vs) (t ∷ rest) = next s vs t
 
 -- the tokens lead from these jobs to those, and change what was built so
 pub record Builds (before after : List Job → List Job) (change : List Built → List Built) (read rest : List Token) : Type 0 where
-  pub go_on : (k : List Job) (vs : List Built) → go (moves (at (before k) vs) read) rest ≡ go (at (after k) (change vs)) rest
+  pub proceed : (k : List Job) (vs : List Built) → go (moves (at (before k) vs) read) rest ≡ go (at (after k) (change vs)) rest
 
 abbrev pub done : List Job → List Job
 done k = k
@@ -246,19 +246,19 @@ resume s u [] r e = e
 resume s u (t ∷ y) r e = ap (λ x. go (moves x y) r) (sym (go_is s t (y ++ r)) ∙ e ∙ go_is u t (y ++ r))
 
 pub builds_then : {f g h : List Job → List Job} (c d : List Built → List Built) (x y r : List Token) → Builds f g c x (y ++ r) → Builds g h d y r → Builds f h (λ vs. d (c vs)) (x ++ y) r
-builds_then {f} {g} {h} c d x y r a b = record { go_on = λ k vs. ap (λ s. go s r) (moves-append (at (f k) vs) x y) ∙ resume (moves (at (f k) vs) x) (at (g k) (c vs)) y r (a.go_on k vs) ∙ b.go_on k (c vs) }
+builds_then {f} {g} {h} c d x y r a b = record { proceed = λ k vs. ap (λ s. go s r) (moves-append (at (f k) vs) x y) ∙ resume (moves (at (f k) vs) x) (at (g k) (c vs)) y r (a.proceed k vs) ∙ b.proceed k (c vs) }
 
 pub builds_before : {f g : List Job → List Job} {c : List Built → List Built} {x r : List Token} (m : List Job → List Job) → Builds f g c x r → Builds (λ k. f (m k)) (λ k. g (m k)) c x r
-builds_before m a = record { go_on = λ k vs. a.go_on (m k) vs }
+builds_before m a = record { proceed = λ k vs. a.proceed (m k) vs }
 
 pub builds_act : (d : List Built → List Built) (r : List Token) → Builds (λ k. act d ∷ k) done d [] r
-builds_act d [] = record { go_on = λ k vs. refl }
-builds_act d (t ∷ r) = record { go_on = λ k vs. refl }
+builds_act d [] = record { proceed = λ k vs. refl }
+builds_act d (t ∷ r) = record { proceed = λ k vs. refl }
 
 -- and then the act
 pub builds_up : {f g : List Job → List Job} (c d : List Built → List Built) (x r : List Token) → Builds f (λ k. act d ∷ g k) c x r → Builds f g (λ vs. d (c vs)) x r
-builds_up {g = g} c d x r a = record { go_on = λ k vs. a.go_on k vs ∙ (builds_act d r).go_on (g k) (c vs) }
+builds_up {g = g} c d x r a = record { proceed = λ k vs. a.proceed k vs ∙ (builds_act d r).proceed (g k) (c vs) }
 
 pub builds_past : {f : List Job → List Job} {c : List Built → List Built} (t : Tail) {x r : List Token} → Builds f (open_for t) c x r → Lacks (opening t) r → Builds f done c x r
-builds_past t {r = []} a h = record { go_on = λ k vs. a.go_on k vs }
-builds_past t {r = o ∷ r} a h = record { go_on = λ k vs. a.go_on k vs ∙ rw h refl }
+builds_past t {r = []} a h = record { proceed = λ k vs. a.proceed k vs }
+builds_past t {r = o ∷ r} a h = record { proceed = λ k vs. a.proceed k vs ∙ rw h refl }

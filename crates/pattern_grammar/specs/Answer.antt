@@ -2,18 +2,18 @@
 use Rattle.std.specs.Prelude.{◌≡◌, List, [], ◌∷◌, ◌++◌, ℕ, Result, Ok, Err}
 use Rattle.pattern_lexer.specs.declared.token.Token.{Token}
 use Rattle.pattern_grammar.specs.declared.stop.Stop.{Stop, TheVariants.Memory, TheVariants.Syntax}
-use Rattle.pattern_grammar.specs.{Tree.Tree, Tree.shape, Grammar.IsPattern, inner.Machine.Front, declared.pattern.PatternTree.PatternTree}
-use Rattle.pattern_grammar.specs.{Fronts.FrontOf, Fronts.line, Fronts.pattern, declared.refusal.SyntaxRefusal.SyntaxRefusal}
+use Rattle.pattern_grammar.specs.{Tree.Tree, Tree.shape, Grammar.IsPattern, inner.Machine.Prefix, declared.pattern.PatternTree.PatternTree}
+use Rattle.pattern_grammar.specs.{Prefixes.PrefixOf, Prefixes.line, Prefixes.pattern, declared.refusal.SyntaxRefusal.SyntaxRefusal}
 use Rattle.pattern_grammar.specs.declared.refusal.SyntaxRefusal.TheVariants as refused
 use Rattle.pattern_grammar.specs.Depth.{NoneTooMany, FirstTooMany}
 
--- the tokens begin a pattern: they are a front of its line
+-- the tokens begin a pattern: they are a prefix of its line
 abbrev pub BeginsPattern : List Token → Type 0
-BeginsPattern = FrontOf (line pattern)
+BeginsPattern = PrefixOf (line pattern)
 
 -- some longer list, or the tokens themselves, spell a pattern
 abbrev pub Completes : List Token → Type 0
-Completes = Front IsPattern
+Completes = Prefix IsPattern
 
 -- the tokens before the rest begin a pattern, and with the first of the rest they don't; with no rest
 -- they spell none
@@ -21,33 +21,33 @@ abbrev pub EndsAt : List Token → List Token → Type 0
 EndsAt read [] = (p : Tree) → ¬ IsPattern read p
 EndsAt read (t ∷ rest) = ¬ BeginsPattern (read ++ t ∷ [])
 
-pub record MisfitAt (ts rest : List Token) : Type 0 where
+pub record SyntaxErrorAt (ts rest : List Token) : Type 0 where
   pub read : List Token
   pub all_are : ts ≡ read ++ rest
-  pub front : BeginsPattern read
+  pub prefix : BeginsPattern read
   pub ends : EndsAt read rest
 
-abbrev pub Misfit : List Token → Stop → Type 0
-Misfit ts Memory = Unit {0}
-Misfit ts (Syntax rest) = MisfitAt ts rest.now
+abbrev pub SyntaxError : List Token → Stop → Type 0
+SyntaxError ts Memory = Unit {0}
+SyntaxError ts (Syntax rest) = SyntaxErrorAt ts rest.now
 
 -- where the rest begins in a text of this length
-abbrev pub place : List Token → ℕ → ℕ
-place [] end = end
-place (t ∷ ts) end = t.from
+abbrev pub offset : List Token → ℕ → ℕ
+offset [] end = end
+offset (t ∷ ts) end = t.from
 
 -- the tokens before the rest begin a pattern, with its first they don't, and none of them is one too
 -- many
 pub record SyntaxAt (ts : List Token) (end at : ℕ) : Type 0 where
   pub rest : List Token
-  pub misfit : MisfitAt ts rest
-  pub shallow : NoneTooMany misfit.read
-  pub here : at ≡ place rest end
+  pub syntax_error : SyntaxErrorAt ts rest
+  pub shallow : NoneTooMany syntax_error.read
+  pub here : at ≡ offset rest end
 
 -- the tokens through the first that is one too many begin a pattern
 pub record DeepAt (ts : List Token) (at : ℕ) : Type 0 where
   pub first : FirstTooMany ts
-  pub front : BeginsPattern (first.before ++ first.token ∷ [])
+  pub prefix : BeginsPattern (first.before ++ first.token ∷ [])
   pub here : at ≡ first.token.from
 
 -- why the tokens of a text of this length are no pattern's

@@ -12,9 +12,9 @@ how_many class ts = count_by (λ t. is_in class t.kind) ts
 
 -- the last of the tokens is IN
 pub record EndsWithIn (ts : List Token) : Type 0 where
-  pub front : List Token
+  pub prefix : List Token
   pub last : Token
-  pub spelled : ts ≡ front ++ last ∷ []
+  pub spelled : ts ≡ prefix ++ last ∷ []
   pub among : IsA (Only Among) last
 
 -- a `(` while so many more `(` than `)` stand before it, but not the one directly behind IN

@@ -1,7 +1,7 @@
 pub mod TokenClass
 pub mod Tree
 pub mod Grammar
-pub mod Fronts
+pub mod Prefixes
 pub mod Answer
 pub mod Depth
 pub mod SyntaxRefusal

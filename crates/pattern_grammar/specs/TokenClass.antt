@@ -17,7 +17,7 @@ is_ordered kind = same Number kind || same String kind || same Hex kind || same 
 -- the kind is one of the class: of the types of objects, of properties, of what stands in the brackets of a
 -- path, of operators, of constants, of what a qualifier begins with, of what a further step of a path does
 abbrev pub is_in : TokenClass → TokenKind → Bool
-is_in (Only wanted) kind = same wanted kind
+is_in (Only expected) kind = same expected kind
 is_in Root kind = same Word kind || same HyphenWord kind
 is_in Name kind = same Word kind || same String kind
 is_in Index kind = same Number kind || same Star kind

@@ -36,7 +36,7 @@ impl TokenClass {
         ensures { result ≡ is_in self kind }
     {
         match self {
-            TokenClass::Only(wanted) => kind == wanted,
+            TokenClass::Only(expected) => kind == expected,
             TokenClass::Root => matches!(kind, TokenKind::Word | TokenKind::HyphenWord),
             TokenClass::Name => matches!(kind, TokenKind::Word | TokenKind::String),
             TokenClass::Index => matches!(kind, TokenKind::Number | TokenKind::Star),

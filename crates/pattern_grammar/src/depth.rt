@@ -19,7 +19,7 @@ struct Counts {
     /// How many first tokens of qualifiers.
     qualifiers: usize,
     /// Whether the last of them is `IN`.
-    behind_in: bool,
+    after_in: bool,
 }
 
 impl Counts {
@@ -31,7 +31,7 @@ impl Counts {
             opened: 0,
             closed: 0,
             qualifiers: 0,
-            behind_in: false,
+            after_in: false,
         }
     }
 
@@ -40,7 +40,7 @@ impl Counts {
         ensures { (before : List Token) → CountsOf before self → IsTrue result ↔ IsDeepOpen before token }
     {
         TokenClass::Only(TokenKind::RoundOpen).holds(token.kind)
-            && !self.behind_in
+            && !self.after_in
             && self.opened.saturating_sub(self.closed) >= MAX_DEPTH
     }
 
@@ -72,7 +72,7 @@ impl Counts {
             opened: self.opened + usize::from(opens),
             closed: self.closed + usize::from(closes),
             qualifiers: self.qualifiers + usize::from(qualifies),
-            behind_in: TokenClass::Only(TokenKind::Among).holds(token.kind),
+            after_in: TokenClass::Only(TokenKind::Among).holds(token.kind),
         }
     }
 }

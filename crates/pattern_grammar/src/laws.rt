@@ -4,14 +4,14 @@ ghost use Rattle.std.specs.Prelude.{◌≡◌, ◌++◌, ℕ, List};
 ghost use Rattle.pattern_lexer.specs.declared.token.Token.{Token};
 ghost use Rattle.pattern_grammar.specs.declared.refusal.SyntaxRefusal.{SyntaxRefusal};
 ghost use Rattle.pattern_grammar.specs.Answer.{BeginsPattern, Completes};
-ghost use Rattle.pattern_grammar.specs.Fronts.{Derives, line, pattern};
+ghost use Rattle.pattern_grammar.specs.Prefixes.{Derives, line, pattern};
 ghost use Rattle.pattern_grammar.specs.Grammar.{IsPattern};
 ghost use Rattle.pattern_grammar.specs.Answer.{IsMisread, IsTreeOf};
 ghost use Rattle.pattern_grammar.specs.Tree.{Tree};
 
 /// Tokens begin a pattern exactly where some list that begins with them spells one.
-pub fn fronts()
-    ensures goes_on { (ts : List Token) → BeginsPattern ts → Completes ts }
+pub fn prefixes()
+    ensures continues { (ts : List Token) → BeginsPattern ts → Completes ts }
     ensures begins { (ts more : List Token) (p : Tree) → IsPattern (ts ++ more) p → BeginsPattern ts }
 {}
 
@@ -28,7 +28,7 @@ pub fn one_answer()
         → IsMisread ts end second → first ≡ second }
 {}
 
-/// The lines as they are written, of which fronts are made, and the relations that spell a tree are one
+/// The lines as they are written, of which prefixes are made, and the relations that spell a tree are one
 /// language.
 pub fn one_language()
     ensures derived { (ts : List Token) (p : Tree) → IsPattern ts p → Derives (line pattern) ts }

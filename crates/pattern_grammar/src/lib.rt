@@ -1,6 +1,6 @@
 //! The grammar of patterns (STIX 2.1, section 9) over tokens: `parse` gives the syntax tree that a
 //! list of tokens spells, or the first token that doesn't fit. `Grammar` of specs/ has one rule for
-//! each line of the grammar; `fronts`, `one_language`, `one_pattern` and `one_answer` are laws about it.
+//! each line of the grammar; `prefixes`, `one_language`, `one_pattern` and `one_answer` are laws about it.
 #![tactic(auto)]
 
 mod class;
@@ -23,7 +23,7 @@ mod take;
 pub use class::TokenClass;
 pub use comparison::{CheckTree, ComparisonTree, Conjunction, Operand, TestTree};
 pub use depth::MAX_DEPTH;
-pub use laws::{fronts, one_answer, one_language, one_pattern};
+pub use laws::{prefixes, one_answer, one_language, one_pattern};
 pub use parse_pattern::parse;
 pub use path::{PathTree, StepTree};
 pub use pattern::PatternTree;

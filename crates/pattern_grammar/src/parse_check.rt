@@ -1,6 +1,6 @@
 ghost use Rattle.std.specs.Prelude.{IfOk, IfErr};
 ghost use Rattle.pattern_grammar.specs.Grammar.{IsCheck, AreConstants};
-ghost use Rattle.pattern_grammar.specs.inner.Machine.{wants_check, wants_constants};
+ghost use Rattle.pattern_grammar.specs.inner.Machine.{expects_check, expects_constants};
 ghost use Rattle.pattern_grammar.specs.inner.Machine.{LacksOperator, Found, Refused, done};
 
 use crate::take::eat;
@@ -14,8 +14,8 @@ fn constants<'a>(
     alloc: Global,
     tokens: &'a [Token],
 ) -> Result<(Items<Token>, &'a [Token]), Stop<'a>>
-    ensures ok { IfOk result (λ x. Found AreConstants wants_constants done tokens.now x.0 x.1.now) }
-    ensures err { IfErr result (λ e. Refused AreConstants wants_constants tokens.now e) }
+    ensures ok { IfOk result (λ x. Found AreConstants expects_constants done tokens.now x.0 x.1.now) }
+    ensures err { IfErr result (λ e. Refused AreConstants expects_constants tokens.now e) }
 {
     let Some((first, mut rest)) = eat(tokens, TokenClass::Constant) else {
         return Err(Stop::Syntax(tokens));
@@ -35,8 +35,8 @@ fn constants<'a>(
 /// `IN "(" constant { "," constant } ")"`
 fn among<'a>(alloc: Global, tokens: &'a [Token]) -> Result<(CheckTree, &'a [Token]), Stop<'a>>
     requires { LacksOperator tokens.now }
-    ensures ok { IfOk result (λ x. Found IsCheck wants_check done tokens.now x.0 x.1.now) }
-    ensures err { IfErr result (λ e. Refused IsCheck wants_check tokens.now e) }
+    ensures ok { IfOk result (λ x. Found IsCheck expects_check done tokens.now x.0 x.1.now) }
+    ensures err { IfErr result (λ e. Refused IsCheck expects_check tokens.now e) }
 {
     let Some((_, open)) = eat(tokens, TokenClass::Only(TokenKind::Among)) else {
         return Err(Stop::Syntax(tokens));
@@ -56,8 +56,8 @@ pub(crate) fn check<'a>(
     alloc: Global,
     tokens: &'a [Token],
 ) -> Result<(CheckTree, &'a [Token]), Stop<'a>>
-    ensures ok { IfOk result (λ x. Found IsCheck wants_check done tokens.now x.0 x.1.now) }
-    ensures err { IfErr result (λ e. Refused IsCheck wants_check tokens.now e) }
+    ensures ok { IfOk result (λ x. Found IsCheck expects_check done tokens.now x.0 x.1.now) }
+    ensures err { IfErr result (λ e. Refused IsCheck expects_check tokens.now e) }
 {
     if let Some((operator, rest)) = eat(tokens, TokenClass::Equality) {
         let Some((constant, rest)) = eat(rest, TokenClass::Constant) else {

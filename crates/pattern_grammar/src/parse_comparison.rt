@@ -1,7 +1,7 @@
 ghost use Rattle.std.specs.Prelude.{IfOk, IfErr};
 ghost use Rattle.pattern_grammar.specs.Grammar.{IsTest, IsCand, IsCor};
 ghost use Rattle.pattern_grammar.specs.Tree.{compared, conjunction, operand, test};
-ghost use Rattle.pattern_grammar.specs.inner.Machine.{wants_test, wants_cand, wants_cor};
+ghost use Rattle.pattern_grammar.specs.inner.Machine.{expects_test, expects_cand, expects_cor};
 ghost use Rattle.pattern_grammar.specs.inner.Machine.{Found, Refused, Lacks, LacksTestWord, done};
 
 use crate::make::make_group;
@@ -19,8 +19,8 @@ fn compared_test<'a>(
     tokens: &'a [Token],
 ) -> Result<(TestTree, &'a [Token]), Stop<'a>>
     requires { LacksTestWord tokens.now }
-    ensures ok { IfOk result (λ x. Found IsTest wants_test done tokens.now (test x.0) x.1.now) }
-    ensures err { IfErr result (λ e. Refused IsTest wants_test tokens.now e) }
+    ensures ok { IfOk result (λ x. Found IsTest expects_test done tokens.now (test x.0) x.1.now) }
+    ensures err { IfErr result (λ e. Refused IsTest expects_test tokens.now e) }
 {
     let (path, rest) = path(alloc, tokens)?;
     let (negated, rest) = match eat(rest, TokenClass::Only(TokenKind::Not)) {
@@ -42,8 +42,8 @@ fn compared_test<'a>(
 /// `[NOT] EXISTS path | path [NOT] compare`
 fn plain_test<'a>(alloc: Global, tokens: &'a [Token]) -> Result<(TestTree, &'a [Token]), Stop<'a>>
     requires { Lacks (TokenClass.Only TokenKind.RoundOpen) tokens.now }
-    ensures ok { IfOk result (λ x. Found IsTest wants_test done tokens.now (test x.0) x.1.now) }
-    ensures err { IfErr result (λ e. Refused IsTest wants_test tokens.now e) }
+    ensures ok { IfOk result (λ x. Found IsTest expects_test done tokens.now (test x.0) x.1.now) }
+    ensures err { IfErr result (λ e. Refused IsTest expects_test tokens.now e) }
 {
     if let Some((first, rest)) = eat(tokens, TokenClass::Only(TokenKind::Exists)) {
         let (path, rest) = path(alloc, rest)?;
@@ -78,8 +78,8 @@ fn plain_test<'a>(alloc: Global, tokens: &'a [Token]) -> Result<(TestTree, &'a [
 /// `test = "(" cor ")" | [NOT] EXISTS path | path [NOT] compare`
 #[cycle(comparison)]
 fn test<'a>(alloc: Global, tokens: &'a [Token]) -> Result<(Operand, &'a [Token]), Stop<'a>>
-    ensures ok { IfOk result (λ x. Found IsTest wants_test done tokens.now (operand x.0) x.1.now) }
-    ensures err { IfErr result (λ e. Refused IsTest wants_test tokens.now e) }
+    ensures ok { IfOk result (λ x. Found IsTest expects_test done tokens.now (operand x.0) x.1.now) }
+    ensures err { IfErr result (λ e. Refused IsTest expects_test tokens.now e) }
 {
     if let Some((open, inside)) = eat(tokens, TokenClass::Only(TokenKind::RoundOpen)) {
         let (tree, close) = cor(alloc, inside)?;
@@ -97,8 +97,8 @@ fn test<'a>(alloc: Global, tokens: &'a [Token]) -> Result<(Operand, &'a [Token])
 /// `cand = test { AND test }`
 #[cycle(comparison)]
 fn cand<'a>(alloc: Global, tokens: &'a [Token]) -> Result<(Conjunction, &'a [Token]), Stop<'a>>
-    ensures ok { IfOk result (λ x. Found IsCand wants_cand done tokens.now (conjunction x.0) x.1.now) }
-    ensures err { IfErr result (λ e. Refused IsCand wants_cand tokens.now e) }
+    ensures ok { IfOk result (λ x. Found IsCand expects_cand done tokens.now (conjunction x.0) x.1.now) }
+    ensures err { IfErr result (λ e. Refused IsCand expects_cand tokens.now e) }
 {
     let (first, mut rest) = test(alloc, tokens)?;
     let mut others = Items::new(alloc);
@@ -120,8 +120,8 @@ pub(crate) fn cor<'a>(
     alloc: Global,
     tokens: &'a [Token],
 ) -> Result<(ComparisonTree, &'a [Token]), Stop<'a>>
-    ensures ok { IfOk result (λ x. Found IsCor wants_cor done tokens.now (compared x.0) x.1.now) }
-    ensures err { IfErr result (λ e. Refused IsCor wants_cor tokens.now e) }
+    ensures ok { IfOk result (λ x. Found IsCor expects_cor done tokens.now (compared x.0) x.1.now) }
+    ensures err { IfErr result (λ e. Refused IsCor expects_cor tokens.now e) }
 {
     let (first, mut rest) = cand(alloc, tokens)?;
     let mut others = Items::new(alloc);

@@ -1,6 +1,6 @@
 ghost use Rattle.std.specs.Prelude.{IfOk, IfErr};
 ghost use Rattle.pattern_grammar.specs.Grammar.{IsPath, IsStep};
-ghost use Rattle.pattern_grammar.specs.inner.Machine.{wants_path, wants_step};
+ghost use Rattle.pattern_grammar.specs.inner.Machine.{expects_path, expects_step};
 ghost use Rattle.pattern_grammar.specs.inner.Machine.{Found, Refused, done};
 
 use crate::take::eat;
@@ -11,8 +11,8 @@ use std::alloc::Global;
 
 /// `step = "." name | "[" ( Number | "*" ) "]"`
 pub(crate) fn step<'a>(tokens: &'a [Token]) -> Result<(StepTree, &'a [Token]), Stop<'a>>
-    ensures ok { IfOk result (λ x. Found IsStep wants_step done tokens.now x.0 x.1.now) }
-    ensures err { IfErr result (λ e. Refused IsStep wants_step tokens.now e) }
+    ensures ok { IfOk result (λ x. Found IsStep expects_step done tokens.now x.0 x.1.now) }
+    ensures err { IfErr result (λ e. Refused IsStep expects_step tokens.now e) }
 {
     if let Some((_, rest)) = eat(tokens, TokenClass::Only(TokenKind::Dot)) {
         let Some((name, rest)) = eat(rest, TokenClass::Name) else {
@@ -37,8 +37,8 @@ pub(crate) fn path<'a>(
     alloc: Global,
     tokens: &'a [Token],
 ) -> Result<(PathTree, &'a [Token]), Stop<'a>>
-    ensures ok { IfOk result (λ x. Found IsPath wants_path done tokens.now x.0 x.1.now) }
-    ensures err { IfErr result (λ e. Refused IsPath wants_path tokens.now e) }
+    ensures ok { IfOk result (λ x. Found IsPath expects_path done tokens.now x.0 x.1.now) }
+    ensures err { IfErr result (λ e. Refused IsPath expects_path tokens.now e) }
 {
     let Some((root, colon)) = eat(tokens, TokenClass::Root) else {
         return Err(Stop::Syntax(tokens));

@@ -1,9 +1,9 @@
 ghost use Rattle.std.specs.Prelude.{List, IfOk, IfErr};
 ghost use Rattle.pattern_grammar.specs.Grammar.{IsPattern, IsOrs, IsAnds, IsUnit, IsStart, IsQualifier};
 ghost use Rattle.pattern_grammar.specs.Tree.{Tree, shape};
-ghost use Rattle.pattern_grammar.specs.Answer.{Misfit};
+ghost use Rattle.pattern_grammar.specs.Answer.{SyntaxError};
 ghost use Rattle.pattern_grammar.specs.Depth.{IsShallow};
-ghost use Rattle.pattern_grammar.specs.inner.Machine.{wants_pattern, wants_ors, wants_ands, wants_unit, wants_start, wants_qualifier};
+ghost use Rattle.pattern_grammar.specs.inner.Machine.{expects_pattern, expects_ors, expects_ands, expects_unit, expects_start, expects_qualifier};
 ghost use Rattle.pattern_grammar.specs.inner.Machine.{Found, Refused, Lacks, done};
 
 use crate::make::{make_both, make_either, make_qualified, make_then};
@@ -16,8 +16,8 @@ use std::alloc::Global;
 
 /// `qualifier = WITHIN Number SECONDS | REPEATS Number TIMES | START Timestamp STOP Timestamp`
 fn qualifier<'a>(tokens: &'a [Token]) -> Result<(Qualifier, &'a [Token]), Stop<'a>>
-    ensures ok { IfOk result (λ x. Found IsQualifier wants_qualifier done tokens.now x.0 x.1.now) }
-    ensures err { IfErr result (λ e. Refused IsQualifier wants_qualifier tokens.now e) }
+    ensures ok { IfOk result (λ x. Found IsQualifier expects_qualifier done tokens.now x.0 x.1.now) }
+    ensures err { IfErr result (λ e. Refused IsQualifier expects_qualifier tokens.now e) }
 {
     if let Some((_, rest)) = eat(tokens, TokenClass::Only(TokenKind::Within)) {
         let Some((number, rest)) = eat(rest, TokenClass::Only(TokenKind::Number)) else {
@@ -55,8 +55,8 @@ fn qualifier<'a>(tokens: &'a [Token]) -> Result<(Qualifier, &'a [Token]), Stop<'
 /// `"[" cor "]"`
 fn leaf<'a>(alloc: Global, tokens: &'a [Token]) -> Result<(PatternTree, &'a [Token]), Stop<'a>>
     requires { Lacks (TokenClass.Only TokenKind.RoundOpen) tokens.now }
-    ensures ok { IfOk result (λ x. Found IsStart wants_start done tokens.now (shape x.0) x.1.now) }
-    ensures err { IfErr result (λ e. Refused IsStart wants_start tokens.now e) }
+    ensures ok { IfOk result (λ x. Found IsStart expects_start done tokens.now (shape x.0) x.1.now) }
+    ensures err { IfErr result (λ e. Refused IsStart expects_start tokens.now e) }
 {
     let Some((_, inside)) = eat(tokens, TokenClass::Only(TokenKind::SquareOpen)) else {
         return Err(Stop::Syntax(tokens));
@@ -72,8 +72,8 @@ fn leaf<'a>(alloc: Global, tokens: &'a [Token]) -> Result<(PatternTree, &'a [Tok
 /// `"[" cor "]" | "(" pattern ")"`
 #[cycle(pattern)]
 fn start<'a>(alloc: Global, tokens: &'a [Token]) -> Result<(PatternTree, &'a [Token]), Stop<'a>>
-    ensures ok { IfOk result (λ x. Found IsStart wants_start done tokens.now (shape x.0) x.1.now) }
-    ensures err { IfErr result (λ e. Refused IsStart wants_start tokens.now e) }
+    ensures ok { IfOk result (λ x. Found IsStart expects_start done tokens.now (shape x.0) x.1.now) }
+    ensures err { IfErr result (λ e. Refused IsStart expects_start tokens.now e) }
 {
     if let Some((_, inside)) = eat(tokens, TokenClass::Only(TokenKind::RoundOpen)) {
         let (tree, close) = whole(alloc, inside)?;
@@ -89,8 +89,8 @@ fn start<'a>(alloc: Global, tokens: &'a [Token]) -> Result<(PatternTree, &'a [To
 /// `unit = ( "[" cor "]" | "(" pattern ")" ) { qualifier }`
 #[cycle(pattern)]
 fn unit<'a>(alloc: Global, tokens: &'a [Token]) -> Result<(PatternTree, &'a [Token]), Stop<'a>>
-    ensures ok { IfOk result (λ x. Found IsUnit wants_unit done tokens.now (shape x.0) x.1.now) }
-    ensures err { IfErr result (λ e. Refused IsUnit wants_unit tokens.now e) }
+    ensures ok { IfOk result (λ x. Found IsUnit expects_unit done tokens.now (shape x.0) x.1.now) }
+    ensures err { IfErr result (λ e. Refused IsUnit expects_unit tokens.now e) }
 {
     let (mut tree, mut rest) = start(alloc, tokens)?;
     while let Some(_) = eat(rest, TokenClass::Qualifying) {
@@ -111,8 +111,8 @@ fn unit<'a>(alloc: Global, tokens: &'a [Token]) -> Result<(PatternTree, &'a [Tok
 /// `ands = unit { AND unit }`
 #[cycle(pattern)]
 fn ands<'a>(alloc: Global, tokens: &'a [Token]) -> Result<(PatternTree, &'a [Token]), Stop<'a>>
-    ensures ok { IfOk result (λ x. Found IsAnds wants_ands done tokens.now (shape x.0) x.1.now) }
-    ensures err { IfErr result (λ e. Refused IsAnds wants_ands tokens.now e) }
+    ensures ok { IfOk result (λ x. Found IsAnds expects_ands done tokens.now (shape x.0) x.1.now) }
+    ensures err { IfErr result (λ e. Refused IsAnds expects_ands tokens.now e) }
 {
     let (first, mut rest) = unit(alloc, tokens)?;
     let mut others = Items::new(alloc);
@@ -132,8 +132,8 @@ fn ands<'a>(alloc: Global, tokens: &'a [Token]) -> Result<(PatternTree, &'a [Tok
 /// `ors = ands { OR ands }`
 #[cycle(pattern)]
 fn ors<'a>(alloc: Global, tokens: &'a [Token]) -> Result<(PatternTree, &'a [Token]), Stop<'a>>
-    ensures ok { IfOk result (λ x. Found IsOrs wants_ors done tokens.now (shape x.0) x.1.now) }
-    ensures err { IfErr result (λ e. Refused IsOrs wants_ors tokens.now e) }
+    ensures ok { IfOk result (λ x. Found IsOrs expects_ors done tokens.now (shape x.0) x.1.now) }
+    ensures err { IfErr result (λ e. Refused IsOrs expects_ors tokens.now e) }
 {
     let (first, mut rest) = ands(alloc, tokens)?;
     let mut others = Items::new(alloc);
@@ -153,8 +153,8 @@ fn ors<'a>(alloc: Global, tokens: &'a [Token]) -> Result<(PatternTree, &'a [Toke
 /// `pattern = ors { FOLLOWEDBY ors }`
 #[cycle(pattern)]
 fn whole<'a>(alloc: Global, tokens: &'a [Token]) -> Result<(PatternTree, &'a [Token]), Stop<'a>>
-    ensures ok { IfOk result (λ x. Found IsPattern wants_pattern done tokens.now (shape x.0) x.1.now) }
-    ensures err { IfErr result (λ e. Refused IsPattern wants_pattern tokens.now e) }
+    ensures ok { IfOk result (λ x. Found IsPattern expects_pattern done tokens.now (shape x.0) x.1.now) }
+    ensures err { IfErr result (λ e. Refused IsPattern expects_pattern tokens.now e) }
 {
     let (first, mut rest) = ors(alloc, tokens)?;
     let mut others = Items::new(alloc);
@@ -176,7 +176,7 @@ fn whole<'a>(alloc: Global, tokens: &'a [Token]) -> Result<(PatternTree, &'a [To
 pub fn parse<'a>(alloc: Global, tokens: &'a [Token]) -> Result<PatternTree, Stop<'a>>
     requires { IsShallow tokens.now }
     ensures ok { IfOk result (λ p. IsPattern tokens.now (shape p)) }
-    ensures err { IfErr result (λ e. Misfit tokens.now e) }
+    ensures err { IfErr result (λ e. SyntaxError tokens.now e) }
 {
     let (tree, rest) = whole(alloc, tokens)?;
     if !rest.is_empty() {

@@ -1,5 +1,5 @@
 ghost use Rattle.std.specs.Prelude.{◌≡◌, ◌<◌, ℕ, length, IfOk};
-ghost use Rattle.pattern_grammar.specs.Answer.{place, IsMisread, AnswersTree};
+ghost use Rattle.pattern_grammar.specs.Answer.{offset, IsMisread, AnswersTree};
 ghost use Rattle.pattern_grammar.specs.inner.Machine.{IsFirstAt};
 
 use crate::depth::first_too_many;
@@ -63,7 +63,7 @@ fn refusal_through(
 
 /// Where the tokens begin in a text of this length.
 fn start_of(tokens: &[Token], end: usize) -> usize
-    ensures { result ≡ place tokens.now end }
+    ensures { result ≡ offset tokens.now end }
 {
     match tokens {
         [first, ..] => first.from,

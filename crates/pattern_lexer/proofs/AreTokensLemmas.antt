@@ -11,8 +11,8 @@ use Rattle.pattern_lexer.specs.declared.refusal.TokenRefusal.{TokenRefusal}
 use Rattle.pattern_lexer.specs.Word.{HasAt}
 use Rattle.pattern_lexer.specs.Spans.{IsCut, text_at}
 use Rattle.pattern_lexer.specs.Values.{HasValue}
-use Rattle.pattern_lexer.specs.Reading.{IsBlank, IsFirst, RunsOn, IsLeftOut, IsUsable, IsNext, AreTokens, IsRefusalAt, HasRefusal}
-use Rattle.pattern_lexer.specs.inner.Steps.{IsRun, BeginsToken, ArePassed, StandsAt, ReadUpTo, worthless_refusal}
+use Rattle.pattern_lexer.specs.Reading.{IsBlank, IsFirst, RunsOn, IsUnsupported, IsUsable, IsNext, AreTokens, IsRefusalAt, HasRefusal}
+use Rattle.pattern_lexer.specs.inner.Steps.{IsRun, BeginsToken, ArePassed, StandsAt, ReadUpTo, invalid_value_refusal}
 use Rattle.pattern_lexer.proofs.TokenEdgeLemmas.{cuts, token_edges}
 
 -- a token at a place
@@ -51,24 +51,24 @@ placed text bytes at kind after utf8 same l begins =
     placed_by text at kind begins.0 after (record { kind = kind; from = at; to = length bytes - length after }) (ap (λ (xs : List ℕ). record { kind = kind; from = at; to = length xs - length after }) same) utf8 l first
 
 -- the refusal of a token that stands for nothing
-pub worthless_fault : (kind : TokenKind) (place : ℕ) (whole part after : List ℕ) → IsFirst whole kind part after → IsUsable kind part after → ¬ HasValue kind part → IsRefusalAt place whole (worthless_refusal kind place)
-worthless_fault Number place whole part after first usable none = (refl, record { text = part; after = after; first = first; usable = usable; worthless = none })
-worthless_fault Timestamp place whole part after first usable none = (refl, record { text = part; after = after; first = first; usable = usable; worthless = none })
-worthless_fault Hex place whole part after first usable none = (refl, inl (record { text = part; after = after; first = first; usable = usable; worthless = none }))
-worthless_fault Binary place whole part after first usable none = (refl, inr (record { text = part; after = after; first = first; usable = usable; worthless = none }))
-worthless_fault String place whole part after first usable none = absurd (none first.token)
-worthless_fault _ place whole part after first usable none = absurd (none tt)
+pub invalid_value_fault : (kind : TokenKind) (place : ℕ) (whole part after : List ℕ) → IsFirst whole kind part after → IsUsable kind part after → ¬ HasValue kind part → IsRefusalAt place whole (invalid_value_refusal kind place)
+invalid_value_fault Number place whole part after first usable none = (refl, record { text = part; after = after; first = first; usable = usable; invalid_value = none })
+invalid_value_fault Timestamp place whole part after first usable none = (refl, record { text = part; after = after; first = first; usable = usable; invalid_value = none })
+invalid_value_fault Hex place whole part after first usable none = (refl, inl (record { text = part; after = after; first = first; usable = usable; invalid_value = none }))
+invalid_value_fault Binary place whole part after first usable none = (refl, inr (record { text = part; after = after; first = first; usable = usable; invalid_value = none }))
+invalid_value_fault String place whole part after first usable none = absurd (none first.token)
+invalid_value_fault _ place whole part after first usable none = absurd (none tt)
 
 abbrev pub token_of : (bytes : List ℕ) (at : ℕ) (kind : TokenKind) (after : List ℕ) → Token
 token_of bytes at kind after = record { kind = kind; from = at; to = length bytes - length after }
 
-usable_by : (text bytes : List ℕ) (at to : ℕ) (kind : TokenKind) (after : List ℕ) (r : Bool) → bytes ≡ text → IsTrue r ↔ RunsOn kind after → r ≡ false → ((word : LeftWord) → ¬ IsLeftOut word kind (take (to - at) (drop at bytes)) after) → IsUsable kind (take (to - at) (drop at text)) after
+usable_by : (text bytes : List ℕ) (at to : ℕ) (kind : TokenKind) (after : List ℕ) (r : Bool) → bytes ≡ text → IsTrue r ↔ RunsOn kind after → r ≡ false → ((word : LeftWord) → ¬ IsUnsupported word kind (take (to - at) (drop at bytes)) after) → IsUsable kind (take (to - at) (drop at text)) after
 usable_by text bytes at to kind after r same ends is_false used = record {
   ends = λ h. false≢true (sym is_false ∙ ends.1 h);
-  used = subst (λ (xs : List ℕ). (word : LeftWord) → ¬ IsLeftOut word kind (take (to - at) (drop at xs)) after) same used;
+  used = subst (λ (xs : List ℕ). (word : LeftWord) → ¬ IsUnsupported word kind (take (to - at) (drop at xs)) after) same used;
 }
 
-pub stands : (text bytes : List ℕ) (at : ℕ) (kind : TokenKind) (after : List ℕ) (r : Bool) → IsUtf8 text → bytes ≡ text → at < length text → BeginsToken (take (length bytes - at) (drop at bytes)) kind after → IsTrue r ↔ RunsOn kind after → r ≡ false → ((word : LeftWord) → ¬ IsLeftOut word kind (take (length bytes - length after - at) (drop at bytes)) after) → HasValue kind (text_at text (token_of bytes at kind after)) → StandsAt text at (token_of bytes at kind after)
+pub stands : (text bytes : List ℕ) (at : ℕ) (kind : TokenKind) (after : List ℕ) (r : Bool) → IsUtf8 text → bytes ≡ text → at < length text → BeginsToken (take (length bytes - at) (drop at bytes)) kind after → IsTrue r ↔ RunsOn kind after → r ≡ false → ((word : LeftWord) → ¬ IsUnsupported word kind (take (length bytes - length after - at) (drop at bytes)) after) → HasValue kind (text_at text (token_of bytes at kind after)) → StandsAt text at (token_of bytes at kind after)
 stands text bytes at kind after r utf8 same l begins ends is_false used value =
     let to : ℕ = length bytes - length after in
     let p = placed text bytes at kind after utf8 same l begins in
@@ -82,11 +82,11 @@ stands text bytes at kind after r utf8 same l begins ends is_false used value =
       value = value;
     }
 
-pub stands_for_nothing : (text bytes : List ℕ) (at : ℕ) (kind : TokenKind) (after : List ℕ) (r : Bool) → IsUtf8 text → bytes ≡ text → at < length text → BeginsToken (take (length bytes - at) (drop at bytes)) kind after → IsTrue r ↔ RunsOn kind after → r ≡ false → ((word : LeftWord) → ¬ IsLeftOut word kind (take (length bytes - length after - at) (drop at bytes)) after) → ¬ HasValue kind (text_at text (token_of bytes at kind after)) → IsRefusalAt at (drop at text) (worthless_refusal kind at)
-stands_for_nothing text bytes at kind after r utf8 same l begins ends is_false used value =
+pub represents_nothing : (text bytes : List ℕ) (at : ℕ) (kind : TokenKind) (after : List ℕ) (r : Bool) → IsUtf8 text → bytes ≡ text → at < length text → BeginsToken (take (length bytes - at) (drop at bytes)) kind after → IsTrue r ↔ RunsOn kind after → r ≡ false → ((word : LeftWord) → ¬ IsUnsupported word kind (take (length bytes - length after - at) (drop at bytes)) after) → ¬ HasValue kind (text_at text (token_of bytes at kind after)) → IsRefusalAt at (drop at text) (invalid_value_refusal kind at)
+represents_nothing text bytes at kind after r utf8 same l begins ends is_false used value =
     let to : ℕ = length bytes - length after in
     let p = placed text bytes at kind after utf8 same l begins in
-    worthless_fault kind at (drop at text) (take (to - at) (drop at text)) after p.first (usable_by text bytes at to kind after r same ends is_false used) value
+    invalid_value_fault kind at (drop at text) (take (to - at) (drop at text)) after p.first (usable_by text bytes at to kind after r same ends is_false used) value
 
 -- blanks
 pub passed : (text bytes : List ℕ) (at : ℕ) (front rest : List ℕ) → bytes ≡ text → at ≤ length text → IsRun IsBlank (take (length bytes - at) (drop at bytes)) front rest → ArePassed text at (length text - length rest)

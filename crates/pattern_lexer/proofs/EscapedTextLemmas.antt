@@ -76,9 +76,9 @@ alone : (b : Bool) (c : ℕ) (more : List ℕ) → b ≡ false → c ∷ more �
 alone true c more e = absurd (cc)
 alone false c more e = refl
 
-behind : (b : Bool) (c : ℕ) (more : List ℕ) → b ≡ true → 92 ∷ c ∷ more ≡ spelled b c more
-behind true c more e = refl
-behind false c more e = absurd (cc)
+strip_byte : (b : Bool) (c : ℕ) (more : List ℕ) → b ≡ true → 92 ∷ c ∷ more ≡ spelled b c more
+strip_byte true c more e = refl
+strip_byte false c more e = absurd (cc)
 
 -- one character more
 pub plain_read : (inside rest more : List ℕ) (c : ℕ) → ReadInside inside rest → rest ≡ c ∷ more → c ≢ 39 → c ≢ 92 → ReadInside inside more
@@ -87,7 +87,7 @@ plain_read inside rest more c read e p q = push inside read.words rest more c re
 pub special_read : (inside rest after more : List ℕ) (c d : ℕ) → ReadInside inside rest → rest ≡ d ∷ after → d ≡ 92 → after ≡ c ∷ more → IsSpecial c → ReadInside inside more
 special_read inside rest after more c d read e p f s =
     let g : rest ≡ 92 ∷ c ∷ more = cc in
-    push inside read.words rest more c read.is (g ∙ behind (special c) c more (special_is c s))
+    push inside read.words rest more c read.is (g ∙ strip_byte (special c) c more (special_is c s))
 
 empty_by : (b : Bool) (c : ℕ) (cs : List ℕ) → [] ≡ spelled b c cs → ⊥
 empty_by true c cs e = absurd (cc)

@@ -12,7 +12,7 @@ use Rattle.pattern_lexer.specs.Word.{IsWordStart, IsHyphenWordPart, HasAt}
 use Rattle.pattern_lexer.specs.Values.{escaped, IsNumberText}
 use Rattle.pattern_lexer.specs.Table.{IsToken}
 use Rattle.pattern_lexer.specs.Reading.{HasNoToken}
-use Rattle.pattern_lexer.specs.inner.Steps.{IsName, IsRun, IsNumberStart, StartsAsMark, BeginsToken, HasNoLettered, letter_kind, single_kind, double_kind}
+use Rattle.pattern_lexer.specs.inner.Steps.{IsName, IsRun, IsNumberStart, StartsAsPunctuation, BeginsToken, HasNoPrefixed, letter_kind, single_kind, double_kind}
 use Rattle.pattern_lexer.proofs.TokenShapeLemmas.{Shape, of_single, of_double, of_name, of_letter, of_number, of_words, shape, start_by}
 use Rattle.pattern_lexer.proofs.EscapedTextLemmas.{one_end}
 use Rattle.pattern_lexer.proofs.TokenLeadLemmas.{Lead, letter, number, quote, other, Starts, same_lead, other_start, single_row, double_row, letter_row, some_of}
@@ -109,7 +109,7 @@ lead_is l whole text after h e s = both_first (lead_of s) l whole (front_first (
 letter_spelled : (c : ℕ) (inside more : List ℕ) → ((c ∷ 39 ∷ inside) ++ 39 ∷ []) ++ more ≡ c ∷ 39 ∷ (inside ++ 39 ∷ more)
 letter_spelled c inside more = append_assoc (c ∷ 39 ∷ inside) (39 ∷ []) more
 
-name_longest : (whole front after longer more : List ℕ) → IsRun IsHyphenWordPart whole front after → HasAt 0 IsWordStart whole → HasNoLettered whole → whole ≡ longer ++ more → Shape longer → length longer ≤ length front
+name_longest : (whole front after longer more : List ℕ) → IsRun IsHyphenWordPart whole front after → HasAt 0 IsWordStart whole → HasNoPrefixed whole → whole ≡ longer ++ more → Shape longer → length longer ≤ length front
 name_longest whole front after longer more run starts none e (of_single c s x) = let h : other ≡ letter = lead_is letter whole longer more starts e (of_single c s x) in absurd (cc)
 name_longest whole front after longer more run starts none e (of_double c s x) = let h : other ≡ letter = lead_is letter whole longer more starts e (of_double c s x) in absurd (cc)
 name_longest whole front after longer more run starts none e (of_name n) = run_longest IsHyphenWordPart front after longer more (sym run.spelled ∙ e) run.ends n.parts
@@ -118,7 +118,7 @@ name_longest whole front after longer more run starts none e (of_letter c inside
 name_longest whole front after longer more run starts none e (of_number h) = let h : number ≡ letter = lead_is letter whole longer more starts e (of_number h) in absurd (cc)
 name_longest whole front after longer more run starts none e (of_words words h) = let h : quote ≡ letter = lead_is letter whole longer more starts e (of_words words h) in absurd (cc)
 
-pub name_first : (whole front after : List ℕ) (kind : TokenKind) → IsRun IsHyphenWordPart whole front after → HasAt 0 IsWordStart whole → HasNoLettered whole → IsToken kind front → BeginsToken whole kind after
+pub name_first : (whole front after : List ℕ) (kind : TokenKind) → IsRun IsHyphenWordPart whole front after → HasAt 0 IsWordStart whole → HasNoPrefixed whole → IsToken kind front → BeginsToken whole kind after
 name_first whole front after kind run starts none token = (
   front,
   record {
@@ -164,8 +164,8 @@ letter_longest whole inside after longer more l w start all e (of_letter c insid
 letter_longest whole inside after longer more l w start all e (of_number h) = let h : number ≡ letter = lead_is letter whole longer more (has_first IsWordStart whole l _ w start) e (of_number h) in absurd (cc)
 letter_longest whole inside after longer more l w start all e (of_words words h) = let h : quote ≡ letter = lead_is letter whole longer more (has_first IsWordStart whole l _ w start) e (of_words words h) in absurd (cc)
 
-pub letter_first : (whole more behind inside after : List ℕ) (l : ℕ) (kind : TokenKind) → whole ≡ l ∷ more → more ≡ 39 ∷ behind → letter_kind l ≡ Some kind → All (λ c. c ≢ 39) inside → behind ≡ inside ++ 39 ∷ after → BeginsToken whole kind after
-letter_first whole more behind inside after l kind w m k all b =
+pub letter_first : (whole more strip_byte inside after : List ℕ) (l : ℕ) (kind : TokenKind) → whole ≡ l ∷ more → more ≡ 39 ∷ strip_byte → letter_kind l ≡ Some kind → All (λ c. c ≢ 39) inside → strip_byte ≡ inside ++ 39 ∷ after → BeginsToken whole kind after
+letter_first whole more strip_byte inside after l kind w m k all b =
     let row = letter_row l kind k in
     let spelled : whole ≡ l ∷ 39 ∷ (inside ++ 39 ∷ after) = cc in (
       l ∷ 39 ∷ (inside ++ 39 ∷ []),
@@ -188,7 +188,7 @@ single_longest whole more c longer rest w start none e (of_letter d inside s h) 
 single_longest whole more c longer rest w start none e (of_number h) = let h : number ≡ other = lead_is other whole longer rest (has_first (Starts other) whole c more w start) e (of_number h) in absurd (cc)
 single_longest whole more c longer rest w start none e (of_words words h) = let h : quote ≡ other = lead_is other whole longer rest (has_first (Starts other) whole c more w start) e (of_words words h) in absurd (cc)
 
--- marks
+-- punctuation
 pub single_first : (whole more : List ℕ) (c : ℕ) (kind : TokenKind) → whole ≡ c ∷ more → single_kind c ≡ Some kind → ((after : List ℕ) → IsSome (double_kind c) → more ≢ 61 ∷ after) → BeginsToken whole kind more
 single_first whole more c kind w k none =
     let row = single_row c kind k in (
@@ -219,8 +219,8 @@ double_first whole more after c kind w k m =
       },
     )
 
-pub mark_start : (whole : List ℕ) (c : ℕ) (more : List ℕ) → whole ≡ c ∷ more → StartsAsMark whole → Starts other c
-mark_start whole c more w start = (
+pub punctuation_start : (whole : List ℕ) (c : ℕ) (more : List ℕ) → whole ≡ c ∷ more → StartsAsPunctuation whole → Starts other c
+punctuation_start whole c more w start = (
   λ h. start.letter (has_first IsWordStart whole c more w h),
   λ h. start.number (has_first IsNumberStart whole c more w h),
   λ h. start.quote (has_first (λ x. x ≡ 39) whole c more w h),
@@ -229,24 +229,24 @@ mark_start whole c more w start = (
 no_some : IsSome {T = TokenKind} None → ⊥
 no_some h = cc
 
-no_mark_by : (whole more text after : List ℕ) (c : ℕ) → whole ≡ c ∷ more → Starts other c → single_kind c ≡ None → ((after : List ℕ) → IsSome (double_kind c) → more ≢ 61 ∷ after) → whole ≡ text ++ after → Shape text → ⊥
-no_mark_by whole more text after c w start single none e (of_single d s x) =
+no_punctuation_by : (whole more text after : List ℕ) (c : ℕ) → whole ≡ c ∷ more → Starts other c → single_kind c ≡ None → ((after : List ℕ) → IsSome (double_kind c) → more ≢ 61 ∷ after) → whole ≡ text ++ after → Shape text → ⊥
+no_punctuation_by whole more text after c w start single none e (of_single d s x) =
     let h : c ∷ more ≡ d ∷ after = sym w ∙ e ∙ ap (λ (l : List ℕ). l ++ after) x in
     let same : d ≡ c = cc in
     let P : Option TokenKind → Type 0 = λ o. IsSome o in
     no_some (subst P single (subst (λ (n : ℕ). IsSome (single_kind n)) same s))
-no_mark_by whole more text after c w start single none e (of_double d s x) =
+no_punctuation_by whole more text after c w start single none e (of_double d s x) =
     let h : c ∷ more ≡ d ∷ 61 ∷ after = sym w ∙ e ∙ ap (λ (l : List ℕ). l ++ after) x in
     let same : d ≡ c = cc in
     let tails : more ≡ 61 ∷ after = cc in
     none after (subst (λ (n : ℕ). IsSome (double_kind n)) same s) tails
-no_mark_by whole more text after c w start single none e (of_name n) = let h : letter ≡ other = lead_is other whole text after (has_first (Starts other) whole c more w start) e (of_name n) in absurd (cc)
-no_mark_by whole more text after c w start single none e (of_letter d inside s h) = let h : letter ≡ other = lead_is other whole text after (has_first (Starts other) whole c more w start) e (of_letter d inside s h) in absurd (cc)
-no_mark_by whole more text after c w start single none e (of_number h) = let h : number ≡ other = lead_is other whole text after (has_first (Starts other) whole c more w start) e (of_number h) in absurd (cc)
-no_mark_by whole more text after c w start single none e (of_words words h) = let h : quote ≡ other = lead_is other whole text after (has_first (Starts other) whole c more w start) e (of_words words h) in absurd (cc)
+no_punctuation_by whole more text after c w start single none e (of_name n) = let h : letter ≡ other = lead_is other whole text after (has_first (Starts other) whole c more w start) e (of_name n) in absurd (cc)
+no_punctuation_by whole more text after c w start single none e (of_letter d inside s h) = let h : letter ≡ other = lead_is other whole text after (has_first (Starts other) whole c more w start) e (of_letter d inside s h) in absurd (cc)
+no_punctuation_by whole more text after c w start single none e (of_number h) = let h : number ≡ other = lead_is other whole text after (has_first (Starts other) whole c more w start) e (of_number h) in absurd (cc)
+no_punctuation_by whole more text after c w start single none e (of_words words h) = let h : quote ≡ other = lead_is other whole text after (has_first (Starts other) whole c more w start) e (of_words words h) in absurd (cc)
 
-pub no_mark : (whole more : List ℕ) (c : ℕ) → whole ≡ c ∷ more → StartsAsMark whole → single_kind c ≡ None → ((after : List ℕ) → IsSome (double_kind c) → more ≢ 61 ∷ after) → HasNoToken whole
-no_mark whole more c w start single none kind text after e token = no_mark_by whole more text after c w (mark_start whole c more w start) single none e (shape kind text token)
+pub no_punctuation : (whole more : List ℕ) (c : ℕ) → whole ≡ c ∷ more → StartsAsPunctuation whole → single_kind c ≡ None → ((after : List ℕ) → IsSome (double_kind c) → more ≢ 61 ∷ after) → HasNoToken whole
+no_punctuation whole more c w start single none kind text after e token = no_punctuation_by whole more text after c w (punctuation_start whole c more w start) single none e (shape kind text token)
 
 -- texts in quotes
 words_spelled : (words more : List ℕ) → (39 ∷ (flat_map escaped words ++ 39 ∷ [])) ++ more ≡ 39 ∷ (flat_map escaped words ++ 39 ∷ more)

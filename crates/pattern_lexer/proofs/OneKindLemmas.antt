@@ -55,15 +55,15 @@ has_hyphen (d ∷ text) = d == 45 || has_hyphen text
 abbrev name_kind : ℕ → List ℕ → TokenKind
 name_kind c text = if second_quote text then unwrap_or (letter_kind c) Word else if has_hyphen text then HyphenWord else find keywords keyword_kinds (c ∷ text)
 
-abbrev mark_kind : ℕ → List ℕ → TokenKind
-mark_kind c [] = unwrap_or (single_kind c) Word
-mark_kind c (d ∷ text) = unwrap_or (double_kind c) Word
+abbrev punctuation_kind : ℕ → List ℕ → TokenKind
+punctuation_kind c [] = unwrap_or (single_kind c) Word
+punctuation_kind c (d ∷ text) = unwrap_or (double_kind c) Word
 
 abbrev by_lead : Lead → ℕ → List ℕ → TokenKind
 by_lead letter c text = name_kind c text
 by_lead number c text = Number
 by_lead quote c text = String
-by_lead other c text = mark_kind c text
+by_lead other c text = punctuation_kind c text
 
 -- the kind that a text can have
 abbrev pub kind_of : List ℕ → TokenKind

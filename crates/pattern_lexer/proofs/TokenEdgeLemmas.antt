@@ -9,7 +9,7 @@ use Rattle.std.proofs.lemmas.Str.Parse.{digit_at}
 use Rattle.pattern_lexer.specs.declared.token.TokenKind.{TokenKind}
 use Rattle.pattern_lexer.specs.declared.token.TokenKind.TheVariants.{SquareOpen, SquareClose, RoundOpen, RoundClose, Dot, Colon, Comma, Star, Equal, Differ, Less, LessEqual, Greater, GreaterEqual, And, Or, Not, FollowedBy, Within, Seconds, Repeats, Times, Start, Stop, Among, Like, Subset, Superset, Exists, TrueWord, FalseWord, Word, HyphenWord, Number, String, Hex, Binary, Timestamp}
 use Rattle.pattern_lexer.specs.Word.{IsWordStart, IsWordPart, IsHyphenWordPart, HasAt}
-use Rattle.pattern_lexer.specs.Values.{escaped, IsNumberText, IsLetteredText}
+use Rattle.pattern_lexer.specs.Values.{escaped, IsNumberText, IsPrefixedText}
 use Rattle.pattern_lexer.specs.Table.{IsToken}
 
 -- there is a first and a last byte, and both are ASCII
@@ -91,8 +91,8 @@ number_edges : (text : List ℕ) → IsNumberText text → Edges text
 number_edges [] h = absurd (omega (arith, h.0))
 number_edges (c ∷ cs) h = number_by (c == 45) (c == 43) c cs refl refl h
 
-lettered_edges : (letter : ℕ) (text inside : List ℕ) → letter < 128 → IsLetteredText (letter ∷ []) text inside → Edges text
-lettered_edges letter text inside p h = subst Edges (sym h.spelled) (edges_between letter 39 (39 ∷ inside) p (lit< tt))
+prefixed_edges : (letter : ℕ) (text inside : List ℕ) → letter < 128 → IsPrefixedText (letter ∷ []) text inside → Edges text
+prefixed_edges letter text inside p h = subst Edges (sym h.spelled) (edges_between letter 39 (39 ∷ inside) p (lit< tt))
 
 word_parts : (text : List ℕ) → All IsWordPart text → All IsHyphenWordPart text
 word_parts text all = λ k d l. inl (all k d l)
@@ -134,9 +134,9 @@ token_edges Word text h = name_edges text h.starts (word_parts text h.parts)
 token_edges HyphenWord text h = name_edges text h.starts h.parts
 token_edges Number text h = number_edges text h
 token_edges String text h = subst Edges (sym h.1) (edges_between 39 39 (flat_map escaped h.0) (lit< tt) (lit< tt))
-token_edges Hex text h = lettered_edges 104 text h.0 (lit< tt) h.1
-token_edges Binary text h = lettered_edges 98 text h.0 (lit< tt) h.1
-token_edges Timestamp text h = lettered_edges 116 text h.0 (lit< tt) h.1
+token_edges Hex text h = prefixed_edges 104 text h.0 (lit< tt) h.1
+token_edges Binary text h = prefixed_edges 98 text h.0 (lit< tt) h.1
+token_edges Timestamp text h = prefixed_edges 116 text h.0 (lit< tt) h.1
 
 -- a text may be cut around a part with such edges
 pub record Cuts (text : List ℕ) (start end : ℕ) (part : List ℕ) : Type 0 where

@@ -4,7 +4,7 @@ use Rattle.std.proofs.lemmas.Bool.Decides.{nat_tests}
 use Rattle.pattern_lexer.specs.declared.token.TokenKind.{TokenKind}
 use Rattle.pattern_lexer.specs.declared.token.TokenKind.TheVariants.{SquareOpen, SquareClose, RoundOpen, RoundClose, Dot, Colon, Comma, Star, Equal, Differ, Less, LessEqual, Greater, GreaterEqual, Hex, Binary, Timestamp}
 use Rattle.pattern_lexer.specs.Word.{IsWordStart}
-use Rattle.pattern_lexer.specs.Values.{IsLetteredText}
+use Rattle.pattern_lexer.specs.Values.{IsPrefixedText}
 use Rattle.pattern_lexer.specs.Table.{IsToken}
 use Rattle.pattern_lexer.specs.inner.Steps.{IsNumberStart, letter_kind, single_kind, double_kind}
 use Rattle.pattern_lexer.proofs.TokenShapeLemmas.{starts, start_by}
@@ -146,7 +146,7 @@ double_row c kind e0 =
     (chain DoubleRow (c == 62) c 62 GreaterEqual kind _ refl e2 (refl, refl, refl) (λ e3. absurd (nothing kind e3)))))))
 
 abbrev pub LetterRow : TokenKind → ℕ → Type 0
-LetterRow kind c = ((text inside : List ℕ) → IsLetteredText (c ∷ []) text inside → IsToken kind text) × (starts c ≡ true)
+LetterRow kind c = ((text inside : List ℕ) → IsPrefixedText (c ∷ []) text inside → IsToken kind text) × (starts c ≡ true)
 
 pub letter_row : (c : ℕ) (kind : TokenKind) → letter_kind c ≡ Some kind → LetterRow kind c
 letter_row c kind e0 =

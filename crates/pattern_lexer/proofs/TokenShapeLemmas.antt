@@ -5,16 +5,16 @@ use Rattle.std.proofs.lemmas.List.Elements.{All-nil, All-cons}
 use Rattle.pattern_lexer.specs.declared.token.TokenKind.{TokenKind}
 use Rattle.pattern_lexer.specs.declared.token.TokenKind.TheVariants.{SquareOpen, SquareClose, RoundOpen, RoundClose, Dot, Colon, Comma, Star, Equal, Differ, Less, LessEqual, Greater, GreaterEqual, And, Or, Not, FollowedBy, Within, Seconds, Repeats, Times, Start, Stop, Among, Like, Subset, Superset, Exists, TrueWord, FalseWord, Word, HyphenWord, Number, String, Hex, Binary, Timestamp}
 use Rattle.pattern_lexer.specs.Word.{IsWordStart, IsWordPart, IsHyphenWordPart}
-use Rattle.pattern_lexer.specs.Values.{IsNumberText, IsStringText, IsLetteredText}
+use Rattle.pattern_lexer.specs.Values.{IsNumberText, IsStringText, IsPrefixedText}
 use Rattle.pattern_lexer.specs.Table.{IsToken}
 use Rattle.pattern_lexer.specs.inner.Steps.{IsName, letter_kind, single_kind, double_kind}
 
--- a token is a mark, a name, a text in quotes behind a letter, a number or a text in quotes
+-- a token is a punctuation, a name, a text in quotes behind a letter, a number or a text in quotes
 pub data Shape : List ℕ → Type 0 where
   of_single : {text : List ℕ} (c : ℕ) → IsSome (single_kind c) → text ≡ c ∷ [] → Shape text
   of_double : {text : List ℕ} (c : ℕ) → IsSome (double_kind c) → text ≡ c ∷ 61 ∷ [] → Shape text
   of_name : {text : List ℕ} → IsName text → Shape text
-  of_letter : {text : List ℕ} (letter : ℕ) (inside : List ℕ) → IsSome (letter_kind letter) → IsLetteredText (letter ∷ []) text inside → Shape text
+  of_letter : {text : List ℕ} (letter : ℕ) (inside : List ℕ) → IsSome (letter_kind letter) → IsPrefixedText (letter ∷ []) text inside → Shape text
   of_number : {text : List ℕ} → IsNumberText text → Shape text
   of_words : {text : List ℕ} (words : List ℕ) → IsStringText text words → Shape text
 

@@ -11,8 +11,8 @@ use Rattle.pattern_lexer.specs.declared.refusal.TokenRefusal.TheVariants.{BadTok
 use Rattle.pattern_lexer.specs.Word.{HasAt}
 use Rattle.pattern_lexer.specs.Table.{IsToken}
 use Rattle.pattern_lexer.specs.Values.{HasValue}
-use Rattle.pattern_lexer.specs.Reading.{IsBlank, IsFirst, RunsOn, IsLeftOut, IsUsable, IsNext, AreTokens, HasNoToken, IsEndless, IsUseless, IsWorthless, IsRefusalAt, HasRefusal, Reads}
-use Rattle.pattern_lexer.specs.inner.Steps.{worthless_refusal}
+use Rattle.pattern_lexer.specs.Reading.{IsBlank, IsFirst, RunsOn, IsUnsupported, IsUsable, IsNext, AreTokens, HasNoToken, IsUnterminated, IsUnsupportedToken, IsInvalidValue, IsRefusalAt, HasRefusal, Reads}
+use Rattle.pattern_lexer.specs.inner.Steps.{invalid_value_refusal}
 use Rattle.pattern_lexer.proofs.OneKindLemmas.{kind_of, kind_is, one_first, carry, token_not_blank}
 
 -- blanks before what is no blank
@@ -59,23 +59,23 @@ one_next at left t u a b x y =
 -- why a token that begins a text is refused
 pub data Why : ℕ → List ℕ → TokenRefusal → Type 0 where
   no_token : {place : ℕ} {whole : List ℕ} {refusal : TokenRefusal} → HasNoToken whole → refusal ≡ BadToken place → Why place whole refusal
-  endless : {place : ℕ} {whole : List ℕ} {refusal : TokenRefusal} → IsEndless whole → refusal ≡ BadToken place → Why place whole refusal
-  useless : {place : ℕ} {whole : List ℕ} {refusal : TokenRefusal} (word : LeftWord) → IsUseless whole word → refusal ≡ LeftOut place word → Why place whole refusal
-  worthless : {place : ℕ} {whole : List ℕ} {refusal : TokenRefusal} (kind : TokenKind) → IsWorthless whole kind → refusal ≡ worthless_refusal kind place → Why place whole refusal
+  endless : {place : ℕ} {whole : List ℕ} {refusal : TokenRefusal} → IsUnterminated whole → refusal ≡ BadToken place → Why place whole refusal
+  useless : {place : ℕ} {whole : List ℕ} {refusal : TokenRefusal} (word : LeftWord) → IsUnsupportedToken whole word → refusal ≡ LeftOut place word → Why place whole refusal
+  invalid_value : {place : ℕ} {whole : List ℕ} {refusal : TokenRefusal} (kind : TokenKind) → IsInvalidValue whole kind → refusal ≡ invalid_value_refusal kind place → Why place whole refusal
 
 why : (place : ℕ) (whole : List ℕ) (refusal : TokenRefusal) → IsRefusalAt place whole refusal → Why place whole refusal
 why place whole (BadToken at) (e, inl h) = no_token h (ap (λ (n : ℕ). BadToken n) e)
 why place whole (BadToken at) (e, inr h) = endless h (ap (λ (n : ℕ). BadToken n) e)
 why place whole (LeftOut at word) h = useless word h.1 (ap (λ (n : ℕ). LeftOut n word) h.0)
-why place whole (BadNumber at) h = worthless Number h.1 (ap (λ (n : ℕ). BadNumber n) h.0)
-why place whole (BadTime at) h = worthless Timestamp h.1 (ap (λ (n : ℕ). BadTime n) h.0)
-why place whole (BadBytes at) (e, inl h) = worthless Hex h (ap (λ (n : ℕ). BadBytes n) e)
-why place whole (BadBytes at) (e, inr h) = worthless Binary h (ap (λ (n : ℕ). BadBytes n) e)
+why place whole (BadNumber at) h = invalid_value Number h.1 (ap (λ (n : ℕ). BadNumber n) h.0)
+why place whole (BadTime at) h = invalid_value Timestamp h.1 (ap (λ (n : ℕ). BadTime n) h.0)
+why place whole (BadBytes at) (e, inl h) = invalid_value Hex h (ap (λ (n : ℕ). BadBytes n) e)
+why place whole (BadBytes at) (e, inr h) = invalid_value Binary h (ap (λ (n : ℕ). BadBytes n) e)
 
 matches_word : (kind : TokenKind) (text : List ℕ) → IsToken kind text → text ≡ 77 ∷ 65 ∷ 84 ∷ 67 ∷ 72 ∷ 69 ∷ 83 ∷ [] → kind ≡ Word
 matches_word kind text token e = sym (kind_is kind text token) ∙ ap kind_of e
 
-one_left : (a b : LeftWord) (kind : TokenKind) (text after : List ℕ) → IsToken kind text → IsLeftOut a kind text after → IsLeftOut b kind text after → a ≡ b
+one_left : (a b : LeftWord) (kind : TokenKind) (text after : List ℕ) → IsToken kind text → IsUnsupported a kind text after → IsUnsupported b kind text after → a ≡ b
 one_left Matches Matches kind text after t x y = refl
 one_left Matches Fraction kind text after t x y = let h : Word ≡ Number = sym (matches_word kind text t x) ∙ y.0 in absurd (cc)
 one_left Matches DoubleEqual kind text after t x y = let h : Word ≡ Equal = sym (matches_word kind text t x) ∙ y.0 in absurd (cc)
@@ -97,29 +97,29 @@ one_why : (place : ℕ) (whole : List ℕ) (r s : TokenRefusal) → Why place wh
 one_why place whole r s (no_token h e) (no_token g f) = cc
 one_why place whole r s (no_token h e) (endless g f) = cc
 one_why place whole r s (no_token h e) (useless w g f) = absurd (h g.kind g.text g.after g.first.spelled g.first.token)
-one_why place whole r s (no_token h e) (worthless k g f) = absurd (h k g.text g.after g.first.spelled g.first.token)
+one_why place whole r s (no_token h e) (invalid_value k g f) = absurd (h k g.text g.after g.first.spelled g.first.token)
 one_why place whole r s (endless h e) (no_token g f) = cc
 one_why place whole r s (endless h e) (endless g f) = cc
 one_why place whole r s (endless h e) (useless w g f) = absurd (g.ends (carry (λ k t a. RunsOn k a) whole h.kind g.kind h.text g.text h.after g.after h.first g.first h.runs_on))
-one_why place whole r s (endless h e) (worthless k g f) = absurd (g.usable.ends (carry (λ k t a. RunsOn k a) whole h.kind k h.text g.text h.after g.after h.first g.first h.runs_on))
+one_why place whole r s (endless h e) (invalid_value k g f) = absurd (g.usable.ends (carry (λ k t a. RunsOn k a) whole h.kind k h.text g.text h.after g.after h.first g.first h.runs_on))
 one_why place whole r s (useless v h e) (no_token g f) = absurd (g h.kind h.text h.after h.first.spelled h.first.token)
 one_why place whole r s (useless v h e) (endless g f) = absurd (h.ends (carry (λ k t a. RunsOn k a) whole g.kind h.kind g.text h.text g.after h.after g.first h.first g.runs_on))
 one_why place whole r s (useless v h e) (useless w g f) =
-    let same : v ≡ w = one_left v w g.kind g.text g.after g.first.token (carry (λ k t a. IsLeftOut v k t a) whole h.kind g.kind h.text g.text h.after g.after h.first g.first h.left_out) g.left_out in
+    let same : v ≡ w = one_left v w g.kind g.text g.after g.first.token (carry (λ k t a. IsUnsupported v k t a) whole h.kind g.kind h.text g.text h.after g.after h.first g.first h.left_out) g.left_out in
     e ∙ ap (λ (x : LeftWord). LeftOut place x) same ∙ sym f
-one_why place whole r s (useless v h e) (worthless k g f) = absurd (g.usable.used v (carry (λ k t a. IsLeftOut v k t a) whole h.kind k h.text g.text h.after g.after h.first g.first h.left_out))
-one_why place whole r s (worthless k h e) (no_token g f) = absurd (g k h.text h.after h.first.spelled h.first.token)
-one_why place whole r s (worthless k h e) (endless g f) = absurd (h.usable.ends (carry (λ k t a. RunsOn k a) whole g.kind k g.text h.text g.after h.after g.first h.first g.runs_on))
-one_why place whole r s (worthless k h e) (useless w g f) = absurd (h.usable.used w (carry (λ k t a. IsLeftOut w k t a) whole g.kind k g.text h.text g.after h.after g.first h.first g.left_out))
-one_why place whole r s (worthless k h e) (worthless l g f) =
-    e ∙ ap (λ (x : TokenKind). worthless_refusal x place) (one_first whole k l h.text g.text h.after g.after h.first g.first).kind ∙ sym f
+one_why place whole r s (useless v h e) (invalid_value k g f) = absurd (g.usable.used v (carry (λ k t a. IsUnsupported v k t a) whole h.kind k h.text g.text h.after g.after h.first g.first h.left_out))
+one_why place whole r s (invalid_value k h e) (no_token g f) = absurd (g k h.text h.after h.first.spelled h.first.token)
+one_why place whole r s (invalid_value k h e) (endless g f) = absurd (h.usable.ends (carry (λ k t a. RunsOn k a) whole g.kind k g.text h.text g.after h.after g.first h.first g.runs_on))
+one_why place whole r s (invalid_value k h e) (useless w g f) = absurd (h.usable.used w (carry (λ k t a. IsUnsupported w k t a) whole g.kind k g.text h.text g.after h.after g.first h.first g.left_out))
+one_why place whole r s (invalid_value k h e) (invalid_value l g f) =
+    e ∙ ap (λ (x : TokenKind). invalid_value_refusal x place) (one_first whole k l h.text g.text h.after g.after h.first g.first).kind ∙ sym f
 
 -- a token without refusal has none
 no_fault : (place : ℕ) (whole : List ℕ) (r : TokenRefusal) (kind : TokenKind) (text after : List ℕ) → Why place whole r → IsFirst whole kind text after → IsUsable kind text after → HasValue kind text → ⊥
 no_fault place whole r kind text after (no_token h e) first usable value = h kind text after first.spelled first.token
 no_fault place whole r kind text after (endless h e) first usable value = usable.ends (carry (λ k t a. RunsOn k a) whole h.kind kind h.text text h.after after h.first first h.runs_on)
-no_fault place whole r kind text after (useless w h e) first usable value = usable.used w (carry (λ k t a. IsLeftOut w k t a) whole h.kind kind h.text text h.after after h.first first h.left_out)
-no_fault place whole r kind text after (worthless k h e) first usable value = h.worthless (carry (λ k t a. HasValue k t) whole kind k text h.text after h.after first h.first value)
+no_fault place whole r kind text after (useless w h e) first usable value = usable.used w (carry (λ k t a. IsUnsupported w k t a) whole h.kind kind h.text text h.after after h.first first h.left_out)
+no_fault place whole r kind text after (invalid_value k h e) first usable value = h.invalid_value (carry (λ k t a. HasValue k t) whole kind k text h.text after h.after first h.first value)
 
 -- how a reading ends: with blanks, or with a refusal behind them
 pub record Faulty (size : ℕ) (rest : List ℕ) (refusal : TokenRefusal) : Type 0 where

@@ -24,16 +24,16 @@ pub record RunsOn (kind : TokenKind) (after : List ℕ) : Type 0 where
 
 -- a token that no pattern here may use: the word MATCHES, a Number directly followed by `.` and a
 -- digit, `==` and `<>`
-abbrev pub IsLeftOut : LeftWord → TokenKind → List ℕ → List ℕ → Type 0
-IsLeftOut Matches kind text after = text ≡ codes "MATCHES"
-IsLeftOut Fraction kind text after = (kind ≡ Number) × (slice_get after 0 ≡ Some 46) × HasAt 1 IsAsciiDigit after
-IsLeftOut DoubleEqual kind text after = (kind ≡ Equal) × (slice_get after 0 ≡ Some 61)
-IsLeftOut LessGreater kind text after = (kind ≡ Less) × (slice_get after 0 ≡ Some 62)
+abbrev pub IsUnsupported : LeftWord → TokenKind → List ℕ → List ℕ → Type 0
+IsUnsupported Matches kind text after = text ≡ codes "MATCHES"
+IsUnsupported Fraction kind text after = (kind ≡ Number) × (slice_get after 0 ≡ Some 46) × HasAt 1 IsAsciiDigit after
+IsUnsupported DoubleEqual kind text after = (kind ≡ Equal) × (slice_get after 0 ≡ Some 61)
+IsUnsupported LessGreater kind text after = (kind ≡ Less) × (slice_get after 0 ≡ Some 62)
 
 -- the token has an end there, and may be used
 pub record IsUsable (kind : TokenKind) (text after : List ℕ) : Type 0 where
   pub ends : ¬ RunsOn kind after
-  pub used : (word : LeftWord) → ¬ IsLeftOut word kind text after
+  pub used : (word : LeftWord) → ¬ IsUnsupported word kind text after
 
 -- the token stands behind blanks in what is left of a text, and has no refusal; what is left begins at
 -- the place
@@ -66,7 +66,7 @@ abbrev pub HasNoToken : List ℕ → Type 0
 HasNoToken whole = (kind : TokenKind) (text after : List ℕ) → whole ≡ text ++ after → ¬ IsToken kind text
 
 -- the token at the start of the text has no end
-pub record IsEndless (whole : List ℕ) : Type 0 where
+pub record IsUnterminated (whole : List ℕ) : Type 0 where
   pub kind : TokenKind
   pub text : List ℕ
   pub after : List ℕ
@@ -74,29 +74,29 @@ pub record IsEndless (whole : List ℕ) : Type 0 where
   pub runs_on : RunsOn kind after
 
 -- it has one, and is one that may not be used
-pub record IsUseless (whole : List ℕ) (word : LeftWord) : Type 0 where
+pub record IsUnsupportedToken (whole : List ℕ) (word : LeftWord) : Type 0 where
   pub kind : TokenKind
   pub text : List ℕ
   pub after : List ℕ
   pub first : IsFirst whole kind text after
   pub ends : ¬ RunsOn kind after
-  pub left_out : IsLeftOut word kind text after
+  pub left_out : IsUnsupported word kind text after
 
 -- it has one and may be used, is of this kind, and stands for nothing
-pub record IsWorthless (whole : List ℕ) (kind : TokenKind) : Type 0 where
+pub record IsInvalidValue (whole : List ℕ) (kind : TokenKind) : Type 0 where
   pub text : List ℕ
   pub after : List ℕ
   pub first : IsFirst whole kind text after
   pub usable : IsUsable kind text after
-  pub worthless : ¬ HasValue kind text
+  pub invalid_value : ¬ HasValue kind text
 
 -- the refusal of the token that begins the text, which begins at the place
 abbrev pub IsRefusalAt : ℕ → List ℕ → TokenRefusal → Type 0
-IsRefusalAt place whole (BadToken at) = (at ≡ place) × (HasNoToken whole ⊎ IsEndless whole)
-IsRefusalAt place whole (LeftOut at word) = (at ≡ place) × IsUseless whole word
-IsRefusalAt place whole (BadNumber at) = (at ≡ place) × IsWorthless whole Number
-IsRefusalAt place whole (BadTime at) = (at ≡ place) × IsWorthless whole Timestamp
-IsRefusalAt place whole (BadBytes at) = (at ≡ place) × (IsWorthless whole Hex ⊎ IsWorthless whole Binary)
+IsRefusalAt place whole (BadToken at) = (at ≡ place) × (HasNoToken whole ⊎ IsUnterminated whole)
+IsRefusalAt place whole (LeftOut at word) = (at ≡ place) × IsUnsupportedToken whole word
+IsRefusalAt place whole (BadNumber at) = (at ≡ place) × IsInvalidValue whole Number
+IsRefusalAt place whole (BadTime at) = (at ≡ place) × IsInvalidValue whole Timestamp
+IsRefusalAt place whole (BadBytes at) = (at ≡ place) × (IsInvalidValue whole Hex ⊎ IsInvalidValue whole Binary)
 
 -- tokens without refusal stand in the text, then blanks, then what is no blank and has the refusal
 pub record HasRefusal (text : List ℕ) (refusal : TokenRefusal) : Type 0 where

@@ -23,7 +23,7 @@ abbrev pub IsItself : List ℕ → List ℕ → Type 0
 IsItself text value = value ≡ text
 
 -- the number in the brackets of a path: 0 to 4294967295
-pub record IsPlace (text : List ℕ) (token : Token) (place : ℕ) : Type 0 where
+pub record IsIndex (text : List ℕ) (token : Token) (place : ℕ) : Type 0 where
   pub whole : At IsIntegerText text token (pos place)
   pub high : place ≤ 4_294_967_295
 

@@ -2,7 +2,7 @@
 use Rattle.std.specs.Prelude.{◌≡◌, ℕ, List, codes}
 use Rattle.pattern_lexer.specs.{declared.token.TokenKind.TokenKind, Word.IsWord, Word.IsHyphenWord, Word.spelling}
 use Rattle.pattern_lexer.specs.declared.token.TokenKind.TheVariants.{Word, HyphenWord, Number, String, Hex, Binary, Timestamp}
-use Rattle.pattern_lexer.specs.Values.{IsNumberText, IsStringText, IsLetteredText}
+use Rattle.pattern_lexer.specs.Values.{IsNumberText, IsStringText, IsPrefixedText}
 
 -- the text is a token of this kind, whether or not it stands for something
 abbrev pub IsToken : TokenKind → List ℕ → Type 0
@@ -10,7 +10,7 @@ IsToken Word text = IsWord text
 IsToken HyphenWord text = IsHyphenWord text
 IsToken Number text = IsNumberText text
 IsToken String text = (words : List ℕ) × IsStringText text words
-IsToken Hex text = (inside : List ℕ) × IsLetteredText (codes "h") text inside
-IsToken Binary text = (inside : List ℕ) × IsLetteredText (codes "b") text inside
-IsToken Timestamp text = (inside : List ℕ) × IsLetteredText (codes "t") text inside
+IsToken Hex text = (inside : List ℕ) × IsPrefixedText (codes "h") text inside
+IsToken Binary text = (inside : List ℕ) × IsPrefixedText (codes "b") text inside
+IsToken Timestamp text = (inside : List ℕ) × IsPrefixedText (codes "t") text inside
 IsToken kind text = text ≡ spelling kind

@@ -48,7 +48,7 @@ abbrev pub IsStringText : List ℕ → List ℕ → Type 0
 IsStringText text words = text ≡ string_text words
 
 -- Hex, Binary, Timestamp = ( "h" | "b" | "t" ) "'" { any character but "'" } "'"
-pub record IsLetteredText (letter text inside : List ℕ) : Type 0 where
+pub record IsPrefixedText (letter text inside : List ℕ) : Type 0 where
   pub spelled : text ≡ quoted letter inside
   pub unquoted : All (λ c. c ≢ 39) inside
 

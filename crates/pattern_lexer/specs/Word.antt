@@ -1,4 +1,4 @@
--- The marks, the keywords and the words of a pattern's text that name things: tokens of the grammar of STIX 2.1, section 9.
+-- The punctuation, the keywords and the words of a pattern's text that name things: tokens of the grammar of STIX 2.1, section 9.
 use Rattle.std.specs.Prelude.{◌≡◌, ℕ, ◌⊎◌, List, [], ◌∷◌, All, Contains, IsSomeAnd, slice_get, codes, map}
 use Rattle.std.specs.Char.{IsAsciiAlphabetic, IsAsciiDigit}
 use Rattle.pattern_lexer.specs.declared.token.TokenKind.{TokenKind}
@@ -20,7 +20,7 @@ IsHyphenWordPart c = IsWordPart c ⊎ (c ≡ 45)
 abbrev pub HasAt : ℕ → (ℕ → Type 0) → List ℕ → Type 0
 HasAt place P text = IsSomeAnd (slice_get text place) P
 
--- how a kind is written that has one text: a mark or a keyword
+-- how a kind is written that has one text: a punctuation or a keyword
 abbrev pub spelling : TokenKind → List ℕ
 spelling SquareOpen = codes "["
 spelling SquareClose = codes "]"

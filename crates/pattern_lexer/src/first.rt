@@ -2,10 +2,10 @@ ghost use Rattle.std.specs.Prelude.{IfSome, IfNone};
 ghost use Rattle.pattern_lexer.specs.Reading.{HasNoToken};
 ghost use Rattle.pattern_lexer.specs.inner.Steps.{BeginsToken};
 
-use crate::marks::first_mark;
+use crate::punctuation::first_punctuation;
 use crate::names::first_name;
 use crate::number_runs::first_number;
-use crate::quoted::first_words;
+use crate::quoted::first_string;
 use crate::TokenKind;
 
 /// The token that begins some bytes: its kind, and what follows it.
@@ -23,7 +23,7 @@ pub fn first_of(bytes: &[u8]) -> Option<First<'_>>
     match bytes.first()? {
         b'a'..=b'z' | b'A'..=b'Z' | b'_' => Some(first_name(bytes)),
         b'0'..=b'9' | b'+' | b'-' => first_number(bytes),
-        b'\'' => first_words(bytes),
-        _ => first_mark(bytes),
+        b'\'' => first_string(bytes),
+        _ => first_punctuation(bytes),
     }
 }

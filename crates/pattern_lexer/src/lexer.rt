@@ -3,7 +3,7 @@ ghost use Rattle.pattern_lexer.specs.Reading.{Reads};
 ghost use Rattle.pattern_lexer.specs.inner.Steps.{ArePassed, ReadsAt};
 
 use crate::first::first_of;
-use crate::refusals::{has_value, left_word, runs_on, worthless};
+use crate::refusals::{has_value, left_word, runs_on, invalid_value};
 use crate::runs::{CharacterClass, split_run};
 use flow_values::{Items, NoMemory};
 use crate::{Token, TokenRefusal};
@@ -59,7 +59,7 @@ fn token_at(alloc: Global, text: &str, at: usize) -> Result<Result<Token, TokenR
         to,
     };
     if !has_value(alloc, text, token)? {
-        return Ok(Err(worthless(token.kind, at)));
+        return Ok(Err(invalid_value(token.kind, at)));
     }
     Ok(Ok(token))
 }

@@ -10,7 +10,7 @@
 mod first;
 mod lexer;
 pub mod lexer_laws;
-mod marks;
+mod punctuation;
 mod names;
 mod number_runs;
 mod number_values;
@@ -26,7 +26,7 @@ mod values;
 mod word;
 
 pub use lexer::tokens;
-pub use number_values::{count_at, place_at};
+pub use number_values::{count_at, index_at};
 pub use refusal::{LeftWord, TokenRefusal};
 pub use spans::{binary_at, hex_at, integer_at, string_at, text_of, timestamp_at};
 pub use token::{Token, TokenKind};

@@ -4,7 +4,7 @@ ghost use Rattle.pattern_lexer.specs.Table.{IsToken};
 ghost use Rattle.pattern_lexer.specs.inner.Steps.{BeginsToken, IsName};
 
 use crate::first::First;
-use crate::quoted::first_lettered;
+use crate::quoted::first_prefixed;
 use crate::runs::{CharacterClass, split_run};
 use crate::TokenKind;
 
@@ -13,7 +13,7 @@ pub fn first_name(bytes: &[u8]) -> First<'_>
     requires { HasAt 0 IsWordStart bytes.now }
     ensures { BeginsToken bytes.now result.kind result.after.now }
 {
-    if let Some(first) = first_lettered(bytes) {
+    if let Some(first) = first_prefixed(bytes) {
         return first;
     }
     let (name, after) = split_run(bytes, CharacterClass::NamePart);

@@ -1,12 +1,12 @@
 ghost use Rattle.std.specs.Prelude.{ℕ, IfSome, IfNone};
-ghost use Rattle.pattern_lexer.specs.Spans.{IsPlace, IsCount};
+ghost use Rattle.pattern_lexer.specs.Spans.{IsIndex, IsCount};
 
 use crate::{Token, integer_at};
 
 /// The place in a list that the token stands for: 0 to 4294967295. Takes no memory.
-pub fn place_at(text: &str, token: Token) -> Option<u32>
-    ensures some { IfSome result (IsPlace text.now token) }
-    ensures none { IfNone result ((place : ℕ) → ¬ IsPlace text.now token place) }
+pub fn index_at(text: &str, token: Token) -> Option<u32>
+    ensures some { IfSome result (IsIndex text.now token) }
+    ensures none { IfNone result ((place : ℕ) → ¬ IsIndex text.now token place) }
 {
     let Some(whole) = integer_at(text, token) else {
         return None;
@@ -19,7 +19,7 @@ pub fn count_at(text: &str, token: Token) -> Option<u32>
     ensures some { IfSome result (IsCount text.now token) }
     ensures none { IfNone result ((count : ℕ) → ¬ IsCount text.now token count) }
 {
-    match place_at(text, token) {
+    match index_at(text, token) {
         Some(count) if count > 0 => Some(count),
         _ => None,
     }

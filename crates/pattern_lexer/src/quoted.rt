@@ -2,19 +2,19 @@ ghost use Rattle.std.specs.Prelude.{◌≡◌, ◌≢◌, ◌∷◌, ◌++◌, �
 ghost use Rattle.pattern_lexer.specs.Word.{HasAt};
 ghost use Rattle.pattern_lexer.specs.Values.{escaped, IsSpecial};
 ghost use Rattle.pattern_lexer.specs.Reading.{HasNoToken};
-ghost use Rattle.pattern_lexer.specs.inner.Steps.{BeginsToken, HasNoLettered, letter_kind};
+ghost use Rattle.pattern_lexer.specs.inner.Steps.{BeginsToken, HasNoPrefixed, letter_kind};
 
 use crate::first::First;
-use crate::runs::{CharacterClass, behind, split_run};
+use crate::runs::{CharacterClass, strip_byte, split_run};
 use crate::TokenKind;
 
 /// The text in quotes that begins with a `'`.
-pub fn first_words(bytes: &[u8]) -> Option<First<'_>>
+pub fn first_string(bytes: &[u8]) -> Option<First<'_>>
     requires { HasAt 0 (λ c. c ≡ 39) bytes.now }
     ensures some { IfSome result (λ found. BeginsToken bytes.now found.kind found.after.now) }
     ensures none { IfNone result (HasNoToken bytes.now) }
 {
-    let after = behind_words(behind(bytes, b'\'')?)?;
+    let after = after_words(strip_byte(bytes, b'\'')?)?;
     Some(First {
         kind: TokenKind::String,
         after,
@@ -22,7 +22,7 @@ pub fn first_words(bytes: &[u8]) -> Option<First<'_>>
 }
 
 /// What follows the first `'` without a backslash before it.
-fn behind_words(inside: &[u8]) -> Option<&[u8]>
+fn after_words(inside: &[u8]) -> Option<&[u8]>
     ensures some { IfSome result (λ after. (words : List ℕ) × (inside.now ≡ flat_map escaped words ++ 39 ∷ after.now)) }
     ensures none { IfNone result ((words more : List ℕ) → inside.now ≢ flat_map escaped words ++ 39 ∷ more) }
 {
@@ -30,7 +30,7 @@ fn behind_words(inside: &[u8]) -> Option<&[u8]>
     while let Some((first, more)) = rest.split_first() {
         match *first {
             b'\'' => return Some(more),
-            b'\\' => rest = behind_special(more)?,
+            b'\\' => rest = after_special(more)?,
             _ => rest = more,
         }
     }
@@ -38,7 +38,7 @@ fn behind_words(inside: &[u8]) -> Option<&[u8]>
 }
 
 /// What follows the `'` or `\` that begins the bytes.
-fn behind_special(bytes: &[u8]) -> Option<&[u8]>
+fn after_special(bytes: &[u8]) -> Option<&[u8]>
     ensures some { IfSome result (λ after. (c : ℕ) × IsSpecial c × (bytes.now ≡ c ∷ after.now)) }
     ensures none { IfNone result ((c : ℕ) (after : List ℕ) → IsSpecial c → bytes.now ≢ c ∷ after) }
 {
@@ -49,23 +49,23 @@ fn behind_special(bytes: &[u8]) -> Option<&[u8]>
 }
 
 /// The bytes or the timestamp, a text in quotes behind a letter, that begins the bytes.
-pub fn first_lettered(bytes: &[u8]) -> Option<First<'_>>
+pub fn first_prefixed(bytes: &[u8]) -> Option<First<'_>>
     ensures some { IfSome result (λ found. BeginsToken bytes.now found.kind found.after.now) }
-    ensures none { IfNone result (HasNoLettered bytes.now) }
+    ensures none { IfNone result (HasNoPrefixed bytes.now) }
 {
     let (letter, more) = bytes.split_first()?;
     let kind = kind_of_letter(*letter)?;
-    let after = behind_unquoted(behind(more, b'\'')?)?;
+    let after = after_unquoted(strip_byte(more, b'\'')?)?;
     Some(First { kind, after })
 }
 
 /// What follows the first `'`.
-fn behind_unquoted(quoted: &[u8]) -> Option<&[u8]>
+fn after_unquoted(quoted: &[u8]) -> Option<&[u8]>
     ensures some { IfSome result (λ after. (inside : List ℕ) × All (λ c. c ≢ 39) inside × (quoted.now ≡ inside ++ 39 ∷ after.now)) }
     ensures none { IfNone result ((inside after : List ℕ) → All (λ c. c ≢ 39) inside → quoted.now ≢ inside ++ 39 ∷ after) }
 {
     let (_inside, rest) = split_run(quoted, CharacterClass::Unquoted);
-    behind(rest, b'\'')
+    strip_byte(rest, b'\'')
 }
 
 /// The kind of what a quote behind the letter opens.

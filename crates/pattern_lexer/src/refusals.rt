@@ -3,8 +3,8 @@ ghost use Rattle.pattern_lexer.specs.declared.refusal.LeftWord.{LeftWord};
 ghost use Rattle.pattern_lexer.specs.Values.{HasValue, IsHexText, IsBinaryText};
 ghost use Rattle.pattern_lexer.specs.Table.{IsToken};
 ghost use Rattle.pattern_lexer.specs.Spans.{IsCut, text_at};
-ghost use Rattle.pattern_lexer.specs.Reading.{RunsOn, IsLeftOut};
-ghost use Rattle.pattern_lexer.specs.inner.Steps.{worthless_refusal};
+ghost use Rattle.pattern_lexer.specs.Reading.{RunsOn, IsUnsupported};
+ghost use Rattle.pattern_lexer.specs.inner.Steps.{invalid_value_refusal};
 
 use flow_values::NoMemory;
 use crate::{
@@ -21,8 +21,8 @@ pub fn runs_on(kind: TokenKind, after: &[u8]) -> bool
 
 /// What the token is that no pattern here may use.
 pub fn left_word(kind: TokenKind, text: &[u8], after: &[u8]) -> Option<LeftWord>
-    ensures some { IfSome result (λ word. IsLeftOut word kind text.now after.now) }
-    ensures none { IfNone result ((word : LeftWord) → ¬ IsLeftOut word kind text.now after.now) }
+    ensures some { IfSome result (λ word. IsUnsupported word kind text.now after.now) }
+    ensures none { IfNone result ((word : LeftWord) → ¬ IsUnsupported word kind text.now after.now) }
 {
     if text == b"MATCHES".as_slice() {
         return Some(LeftWord::Matches);
@@ -45,7 +45,7 @@ pub fn has_value(alloc: Global, text: &str, token: Token) -> Result<bool, NoMemo
         TokenKind::Number => Ok(integer_at(text, token).is_some()),
         TokenKind::Timestamp => Ok(timestamp_at(text, token).is_some()),
         TokenKind::Hex => is_hex(alloc, text, token),
-        TokenKind::Binary => is_base(alloc, text, token),
+        TokenKind::Binary => is_base64(alloc, text, token),
         _ => Ok(true),
     }
 }
@@ -58,7 +58,7 @@ fn is_hex(alloc: Global, text: &str, token: Token) -> Result<bool, NoMemory>
     Ok(bytes.is_some())
 }
 
-fn is_base(alloc: Global, text: &str, token: Token) -> Result<bool, NoMemory>
+fn is_base64(alloc: Global, text: &str, token: Token) -> Result<bool, NoMemory>
     requires { IsCut text.now token }
     ensures { IfOk result (λ is. IsTrue is ↔ ((bytes : List ℕ) × IsBinaryText (text_at text.now token) bytes)) }
 {
@@ -67,8 +67,8 @@ fn is_base(alloc: Global, text: &str, token: Token) -> Result<bool, NoMemory>
 }
 
 /// The refusal of a token that stands for nothing.
-pub fn worthless(kind: TokenKind, at: usize) -> TokenRefusal
-    ensures { result ≡ worthless_refusal kind at }
+pub fn invalid_value(kind: TokenKind, at: usize) -> TokenRefusal
+    ensures { result ≡ invalid_value_refusal kind at }
 {
     match kind {
         TokenKind::Number => TokenRefusal::BadNumber { at },

@@ -41,7 +41,7 @@ pub fn split_run(bytes: &[u8], class: CharacterClass) -> (&[u8], &[u8])
 }
 
 /// What follows the byte that begins the bytes.
-pub fn behind(bytes: &[u8], first: u8) -> Option<&[u8]>
+pub fn strip_byte(bytes: &[u8], first: u8) -> Option<&[u8]>
     ensures some { IfSome result (λ after. bytes.now ≡ first ∷ after.now) }
     ensures none { IfNone result ((after : List ℕ) → bytes.now ≢ first ∷ after) }
 {

@@ -1,4 +1,4 @@
-/// What a token is, in the order of the table of tokens: the marks, the keywords, then the other kinds.
+/// What a token is, in the order of the table of tokens: the punctuation, the keywords, then the other kinds.
 #[derive(Clone, Copy, Debug, PartialEq, Eq, Hash)]
 pub enum TokenKind {
     /// `[`

@@ -14,14 +14,14 @@ use Rattle.pattern_grammar.specs.Tree.{Comparison, test, group, all, any, joined
 use Rattle.pattern_types.specs.declared.leaf.Leaf.{Leaf, Row_of-Leaf, end_of-Leaf, more_of-Leaf, items-the_row-Leaf, the_lemmas}
 use Rattle.pattern_types.specs.declared.leaf.Leaf.TheVariants as leaf
 use Rattle.pattern_types.specs.PlainLeaf.{every, some, more, put, plain_leaf, plain_leaves, listed}
-use Rattle.pattern_reader.specs.declared.judgement.Judgement.{Judgement}
+use Rattle.pattern_reader.specs.declared.analysis.Analysis.{Analysis}
 use Rattle.pattern_reader.specs.declared.value_refusal.ValueRefusal.{ValueRefusal}
 use Rattle.pattern_reader.specs.LeafMeaning.{Means, means_group, means_all, means_any, AllParts, all_first, all_more, AnyParts, any_first, any_more, IsNoAll, IsNoAny}
 use Rattle.pattern_types.specs.Soundness.{IsSoundLeaf, AreSoundLeaves}
 use Rattle.pattern_reader.specs.Refusals.{RefusalOfComparison, HasRoot, IsRootless}
-use Rattle.pattern_reader.specs.inner.Judgement.{IsOutcome, IsLeafOf, IsJudgement}
-use Rattle.pattern_reader.specs.inner.Judgement.{IsJoined}
-use Rattle.pattern_reader.specs.inner.Judgement.{AreAll, AreAny}
+use Rattle.pattern_reader.specs.inner.Analysis.{IsOutcome, IsLeafOf, IsAnalysis}
+use Rattle.pattern_reader.specs.inner.Analysis.{IsJoined}
+use Rattle.pattern_reader.specs.inner.Analysis.{AreAll, AreAny}
 use Rattle.pattern_reader.proofs.LeafRootLemmas.{put_sound, root_of_all, rooted}
 use Rattle.pattern_reader.proofs.OutcomeLemmas.{outcome_same, joined_outcome, mapped_outcome}
 
@@ -95,7 +95,7 @@ test_operand t = search (rules, operand_lemmas)
 pub group_operand : (a : Token) (b : Box ComparisonTree Global) → operand (operand_tree.Group a b) ≡ group a (compared b.value)
 group_operand a b = search (rules, operand_lemmas)
 
-pub grouped : (text : List ℕ) (a : Token) (c : Comparison) (j : Judgement) → IsJudgement text c j → IsJudgement text (group a c) (record j { at = a.from })
+pub grouped : (text : List ℕ) (a : Token) (c : Comparison) (j : Analysis) → IsAnalysis text c j → IsAnalysis text (group a c) (record j { at = a.from })
 grouped text a c j h = record {
   at = refl;
   roots = h.roots;
@@ -146,10 +146,10 @@ conjunction_whole P Q t i f n e h = let a = take_all i t.others e in rw (conjunc
 pub comparison_whole : (P Q : Comparison → Type 0) (t : ComparisonTree) (i : ℕ) → ((c d : Comparison) → P (any c d) → Q (any c d)) → ((out-ComparisonTree t).others ≡ [] → ⊥) → length (out-ComparisonTree t).others ≤ i → P (joined any (conjunction (out-ComparisonTree t).first) (map conjunction (take i (out-ComparisonTree t).others))) → Q (compared t)
 comparison_whole P Q t i f n e h = let a = take_all i (out-ComparisonTree t).others e in rw (compared_out t) (of_two any conjunction P Q f (conjunction (out-ComparisonTree t).first) (out-ComparisonTree t).others n (rw a at h))
 
-pub conjunction_alone : (text : List ℕ) (t : Conjunction) (j : Judgement) → t.others ≡ [] → IsJudgement text (operand t.first) j → IsJudgement text (conjunction t) j
+pub conjunction_alone : (text : List ℕ) (t : Conjunction) (j : Analysis) → t.others ≡ [] → IsAnalysis text (operand t.first) j → IsAnalysis text (conjunction t) j
 conjunction_alone text t j e h = rw (conjunction_out t, e) h
 
-pub comparison_alone : (text : List ℕ) (t : ComparisonTree) (j : Judgement) → (out-ComparisonTree t).others ≡ [] → IsJudgement text (conjunction (out-ComparisonTree t).first) j → IsJudgement text (compared t) j
+pub comparison_alone : (text : List ℕ) (t : ComparisonTree) (j : Analysis) → (out-ComparisonTree t).others ≡ [] → IsAnalysis text (conjunction (out-ComparisonTree t).first) j → IsAnalysis text (compared t) j
 comparison_alone text t j e h = rw (compared_out t, e) h
 
 pub not_so : {A : Type 0} (r : Bool) → IsTrue r ↔ A → r ≡ false → A → ⊥

@@ -21,8 +21,8 @@ use Rattle.pattern_reader.specs.declared.value_refusal.ValueRefusal.{ValueRefusa
 use Rattle.pattern_reader.specs.Meaning.{IsPathOf, IsCheckOf, IsTestOf}
 use Rattle.pattern_types.specs.Soundness.{IsSoundCheck, IsSoundTest}
 use Rattle.pattern_reader.specs.Refusals.{Lacks, check_refusal, RefusalOfPath, RefusalOfTest}
-use Rattle.pattern_reader.specs.inner.Judgement.{IsOutcome}
-use Rattle.pattern_reader.specs.inner.Judgement.{IsJoined}
+use Rattle.pattern_reader.specs.inner.Analysis.{IsOutcome}
+use Rattle.pattern_reader.specs.inner.Analysis.{IsJoined}
 use Rattle.pattern_reader.proofs.OutcomeLemmas.{found_outcome, joined_outcome}
 
 -- words that name no block are no address

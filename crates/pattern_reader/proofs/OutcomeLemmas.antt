@@ -6,8 +6,8 @@ use Rattle.flow_values.specs.Answers.{FindsExactly}
 use Rattle.pattern_reader.specs.declared.value_refusal.ValueRefusal.{ValueRefusal}
 use Rattle.pattern_reader.specs.ValueRefusal.{Precedes, IsEarliest}
 use Rattle.pattern_reader.specs.Refusals.{Lacks}
-use Rattle.pattern_reader.specs.inner.Judgement.{IsOutcome}
-use Rattle.pattern_reader.specs.inner.Judgement.{IsFirstOfTwo, IsJoined}
+use Rattle.pattern_reader.specs.inner.Analysis.{IsOutcome}
+use Rattle.pattern_reader.specs.inner.Analysis.{IsFirstOfTwo, IsJoined}
 use Rattle.pattern_reader.proofs.EarliestLemmas.{precedes_itself, first_stays, second_stays}
 
 -- what is refused alone

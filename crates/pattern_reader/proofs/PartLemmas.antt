@@ -16,10 +16,10 @@ use Rattle.pattern_reader.specs.declared.value_refusal.ValueRefusal.{ValueRefusa
 use Rattle.pattern_reader.specs.PatternMeaning.{means_leaf, means_both, means_either, means_then, means_limited}
 use Rattle.pattern_reader.specs.Refusals.{RefusalOfComparison, RefusalOf, Lacks, IsSoundLimitOf, limit_refusal}
 use Rattle.pattern_reader.specs.Answer.{IsMeant, IsWidelyMeant}
-use Rattle.pattern_reader.specs.inner.Judgement.{IsOutcome, IsLeafOf}
+use Rattle.pattern_reader.specs.inner.Analysis.{IsOutcome, IsLeafOf}
 use Rattle.pattern_reader.specs.inner.NarrowPattern.{IsNarrow, UnlessTooWide, IsPartOf, IsPartOutcome}
 use Rattle.pattern_reader.specs.inner.NarrowPattern.{tree_by, meant_by}
-use Rattle.pattern_reader.specs.inner.Judgement.{IsJoined}
+use Rattle.pattern_reader.specs.inner.Analysis.{IsJoined}
 use Rattle.flow_values.specs.Answers.{FindsExactly}
 use Rattle.std.specs.Option.{ok_or}
 use Rattle.pattern_reader.proofs.OutcomeLemmas.{joined_outcome, found_outcome}

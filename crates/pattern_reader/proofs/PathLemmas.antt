@@ -12,8 +12,8 @@ use Rattle.pattern_reader.specs.declared.value_refusal.ValueRefusal.TheVariants.
 use Rattle.pattern_reader.specs.Meaning.{IsStepOf, IsPathOf}
 use Rattle.std.specs.List.{AllZip}
 use Rattle.pattern_reader.specs.Refusals.{Lacks, IsLongPath, step_refusal, RefusalOfSteps, RefusalOfPath}
-use Rattle.pattern_reader.specs.inner.Judgement.{IsOutcome}
-use Rattle.pattern_reader.specs.inner.Judgement.{IsJoined}
+use Rattle.pattern_reader.specs.inner.Analysis.{IsOutcome}
+use Rattle.pattern_reader.specs.inner.Analysis.{IsJoined}
 use Rattle.std.proofs.lemmas.Slice.Zip.{all_zipped_more, AllZip-long}
 use Rattle.pattern_reader.proofs.OutcomeLemmas.{found_outcome, outcome_same, joined_outcome}
 

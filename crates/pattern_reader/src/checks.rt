@@ -4,7 +4,7 @@ ghost use Rattle.flow_values.specs.Answers.{FindsExactly};
 ghost use Rattle.pattern_reader.specs.Meaning.{IsCheckOf, IsTestOf};
 ghost use Rattle.pattern_types.specs.Soundness.{IsSoundTest};
 ghost use Rattle.pattern_reader.specs.Refusals.{check_refusal, RefusalOfTest};
-ghost use Rattle.pattern_reader.specs.inner.Judgement.{IsOutcome};
+ghost use Rattle.pattern_reader.specs.inner.Analysis.{IsOutcome};
 
 use crate::ValueRefusal;
 use crate::constants::{constant_of, constants_of};

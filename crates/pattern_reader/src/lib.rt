@@ -7,7 +7,7 @@
 
 mod checks;
 mod constants;
-mod judgement;
+mod analysis;
 mod limits;
 mod meaning;
 pub mod meaning_laws;

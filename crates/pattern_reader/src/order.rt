@@ -1,6 +1,6 @@
 ghost use Rattle.std.specs.Prelude.{◌≡◌, IsTrue, IsFalse};
 ghost use Rattle.pattern_reader.specs.ValueRefusal.{rank_of, Precedes};
-ghost use Rattle.pattern_reader.specs.inner.Judgement.{IsFirstOfTwo};
+ghost use Rattle.pattern_reader.specs.inner.Analysis.{IsFirstOfTwo};
 
 use crate::ValueRefusal;
 

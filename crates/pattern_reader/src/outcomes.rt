@@ -1,5 +1,5 @@
 ghost use Rattle.std.specs.Prelude.{[], ◌∷◌, ◌++◌, IfOk};
-ghost use Rattle.pattern_reader.specs.inner.Judgement.{IsJoined};
+ghost use Rattle.pattern_reader.specs.inner.Analysis.{IsJoined};
 
 use crate::ValueRefusal;
 use crate::order::first_of_two;

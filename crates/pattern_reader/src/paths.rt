@@ -6,13 +6,13 @@ ghost use Rattle.pattern_reader.specs.declared.value_refusal.ValueRefusal.TheVar
 ghost use Rattle.pattern_reader.specs.Meaning.{IsNameOf, IsStepOf, IsPathOf};
 ghost use Rattle.std.specs.List.{AllZip};
 ghost use Rattle.pattern_reader.specs.Refusals.{Lacks, IsLongPath, step_refusal, RefusalOfSteps, RefusalOfPath};
-ghost use Rattle.pattern_reader.specs.inner.Judgement.{IsOutcome};
+ghost use Rattle.pattern_reader.specs.inner.Analysis.{IsOutcome};
 
 use crate::ValueRefusal;
 use crate::outcomes::{both, with_next};
 use flow_values::{Items, NoMemory, Text};
 use pattern_grammar::{PathTree, StepTree};
-use pattern_lexer::{Token, TokenKind, place_at, string_at, text_of};
+use pattern_lexer::{Token, TokenKind, index_at, string_at, text_of};
 use pattern_types::{MAX_STEPS, Path, Step};
 use std::alloc::Global;
 
@@ -37,7 +37,7 @@ fn place_of(text: &str, token: Token) -> Option<Step>
     ensures { FindsExactly (IsStepOf text.now (StepTree.Index token)) result }
 {
     match token.kind {
-        TokenKind::Number => match place_at(text, token) {
+        TokenKind::Number => match index_at(text, token) {
             Some(place) => Some(Step::Place(place)),
             None => None,
         },

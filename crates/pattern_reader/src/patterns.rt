@@ -6,7 +6,7 @@ ghost use Rattle.pattern_reader.specs.Refusals.{IsSoundLimitOf};
 ghost use Rattle.pattern_grammar.specs.declared.qualifier.Qualifier.{Qualifier};
 ghost use Rattle.pattern_reader.specs.inner.NarrowPattern.{IsNarrow, IsNarrowPart, IsPartOf, IsPartOutcome};
 
-use crate::judgement::{Judgement, judge};
+use crate::analysis::{Analysis, analyze};
 use crate::limits::{limit_of, limit_refusal};
 use crate::narrow_pattern::{NarrowPattern, Operator};
 use crate::outcomes::both;
@@ -129,7 +129,7 @@ fn leaf_part(
     ensures narrow { IfOk result IsNarrowPart }
     ensures part { IfOk result (IsPartOutcome text.now (leaf (compared tree.now))) }
 {
-    let Judgement { leaf, .. } = judge(alloc, text, tree)?;
+    let Analysis { leaf, .. } = analyze(alloc, text, tree)?;
     match leaf {
         Ok(leaf) => Ok(Ok(Some(NarrowPattern::leaf(leaf)))),
         Err(refusal) => Ok(Err(refusal)),

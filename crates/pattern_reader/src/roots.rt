@@ -13,13 +13,13 @@ pub(crate) fn of_name<'a>(
     ensures { IfOk result (λ names. (other : List ℕ) → Has names other ↔ IsSomeAnd name.entry (λ one. other ≡ one.now)) }
 {
     match name {
-        Some(name) => alone(alloc, name),
+        Some(name) => singleton(alloc, name),
         None => Ok(BTreeSet::new(alloc)),
     }
 }
 
 /// The set of one name.
-fn alone<'a>(alloc: Global, name: &'a str) -> Result<BTreeSet<&'a str>, NoMemory>
+fn singleton<'a>(alloc: Global, name: &'a str) -> Result<BTreeSet<&'a str>, NoMemory>
     ensures { IfOk result (λ names. (other : List ℕ) → Has names other ↔ (other ≡ name.now)) }
 {
     let mut names = BTreeSet::new(alloc);

@@ -95,15 +95,15 @@ further_drop whole at text rest b e =
       ap (λ (i : ℕ). take i (drop at whole)) (omega arith) ∙ ap (λ (x : List ℕ). take (length text) x) e ∙ take-append_seam text rest,
     )
 
-pub stand_for : (whole : List ℕ) (at : ℕ) (ps : List Piece) → at ≤ length whole → drop at whole ≡ printed ps → AllFit ps [] → Match whole ps (tokens_at at ps)
-stand_for whole at [] b e h = refl
-stand_for whole at (space ∷ ps) b e h = let d = further_drop whole at (32 ∷ []) (printed ps) b e in stand_for whole (at + 1) ps d.0 d.1 h
-stand_for whole at (piece kind text ∷ ps) b e h =
+pub represent : (whole : List ℕ) (at : ℕ) (ps : List Piece) → at ≤ length whole → drop at whole ≡ printed ps → AllFit ps [] → Match whole ps (tokens_at at ps)
+represent whole at [] b e h = refl
+represent whole at (space ∷ ps) b e h = let d = further_drop whole at (32 ∷ []) (printed ps) b e in represent whole (at + 1) ps d.0 d.1 h
+represent whole at (piece kind text ∷ ps) b e h =
     let d = further_drop whole at text (printed ps) b e in (
       record {
         kind = refl;
         cut = record { ordered = omega arith; from = boundary whole at (piece kind text ∷ ps) b e h; to = boundary whole (at + length text) ps d.0 d.1 h.1 };
         text = d.2;
       },
-      stand_for whole (at + length text) ps d.0 d.1 h.1,
+      represent whole (at + length text) ps d.0 d.1 h.1,
     )

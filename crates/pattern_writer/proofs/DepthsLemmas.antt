@@ -80,9 +80,9 @@ pub record Measured (ts : List Token) (n q : ℕ) : Type 0 where
   pub qualifiers : how_many Qualifying ts ≡ q
 
 behind_none : Behind [] 0
-behind_none = record { opened = refl; apart = λ e. nowhere e.front e.last e.spelled }
+behind_none = record { opened = refl; apart = λ e. nowhere e.prefix e.last e.spelled }
   where
-    nowhere : (front : List Token) (last : Token) → [] ≡ front ++ last ∷ [] → ⊥
+    nowhere : (prefix : List Token) (last : Token) → [] ≡ prefix ++ last ∷ [] → ⊥
     nowhere [] last e = absurd (cc)
     nowhere (t ∷ ts) last e = absurd (cc)
 
@@ -115,7 +115,7 @@ opened_more : (before : List Token) (t : Token) (i j : Bool) (x y : ℕ) → is_
 opened_more before t i j x y e g k h = omega (arith, k, h, many_last (Only kind.RoundOpen) before t i e, many_last (Only kind.RoundClose) before t j g)
 
 not_in : (before : List Token) (t : Token) → is_in (Only kind.Among) t.kind ≡ false → ¬ EndsWithIn (before ++ t ∷ [])
-not_in before t e i = false≢true (sym e ∙ ap (λ (u : Token). is_in (Only kind.Among) u.kind) (same_from_push before i.front t i.last i.spelled).1 ∙ i.among)
+not_in before t e i = false≢true (sym e ∙ ap (λ (u : Token). is_in (Only kind.Among) u.kind) (same_from_push before i.prefix t i.last i.spelled).1 ∙ i.among)
 
 not_deep : (before : List Token) (t : Token) → is_in (Only kind.RoundOpen) t.kind ≡ false → ¬ IsDeepOpen before t
 not_deep before t e d = false≢true (sym e ∙ d.opens)
@@ -241,7 +241,7 @@ among a b c ts h k l f =
       needs = λ before x o low d. omega arith;
       fits = λ before x o low. (
         not_deep before a (ap (same kind.RoundOpen) e),
-        (λ d. d.groups (record { front = before; last = a; spelled = refl; among = h }), round_deep b c ts 0 0 k l m ((before ++ a ∷ []) ++ b ∷ []) (flats_deep ((before ++ a ∷ []) ++ b ∷ []) ts f)),
+        (λ d. d.groups (record { prefix = before; last = a; spelled = refl; among = h }), round_deep b c ts 0 0 k l m ((before ++ a ∷ []) ++ b ∷ []) (flats_deep ((before ++ a ∷ []) ++ b ∷ []) ts f)),
       );
       qualifiers = omega (arith, many_first Qualifying a (b ∷ ts ++ c ∷ []) false (ap (is_in Qualifying) e), round_qualifiers b c ts 0 0 k l m);
     }

@@ -8,7 +8,7 @@ use Rattle.std.proofs.lemmas.Str.Parse.{digit_at}
 use Rattle.pattern_lexer.specs.declared.token.TokenKind.{TokenKind}
 use Rattle.pattern_lexer.specs.declared.token.TokenKind.TheVariants.{Word, HyphenWord, Number, String, Hex, Binary, Timestamp}
 use Rattle.pattern_lexer.specs.Word.{IsWordPart, IsHyphenWordPart}
-use Rattle.pattern_lexer.specs.Values.{IsNumberText, IsLetteredText, string_text}
+use Rattle.pattern_lexer.specs.Values.{IsNumberText, IsPrefixedText, string_text}
 use Rattle.pattern_lexer.specs.Table.{IsToken}
 
 -- a byte that goes on no token but one in quotes
@@ -33,31 +33,31 @@ ends_stops [] h = tt
 ends_stops (c ∷ after) h = h.0
 
 -- letters, digits, `_`, `-` and `=`
-abbrev goes_on : ℕ → Bool
-goes_on b = (nat_le 65 b && nat_le b 90) || ((nat_le 97 b && nat_le b 122) || (b == 61))
+abbrev continues : ℕ → Bool
+continues b = (nat_le 65 b && nat_le b 90) || ((nat_le 97 b && nat_le b 122) || (b == 61))
 
 same : (b c : ℕ) → (b == c) ≡ true → b ≡ c
 same b c e = grind (arith, nat_tests)
 
-goes_on_is : (b : ℕ) → goes_on b ≡ true → IsHyphenWordPart b ⊎ (b ≡ 61)
-goes_on_is b h = grind (arith, nat_tests)
+continues_is : (b : ℕ) → continues b ≡ true → IsHyphenWordPart b ⊎ (b ≡ 61)
+continues_is b h = grind (arith, nat_tests)
 
-abbrev all_go_on : List ℕ → Bool
-all_go_on [] = true
-all_go_on (b ∷ bs) = goes_on b && all_go_on bs
+abbrev all_continue : List ℕ → Bool
+all_continue [] = true
+all_continue (b ∷ bs) = continues b && all_continue bs
 
 abbrev behind : List ℕ → List ℕ
 behind [] = []
 behind (b ∷ bs) = bs
 
-goes_on_at : (xs : List ℕ) (c : ℕ) (r : List ℕ) → all_go_on (xs ++ c ∷ r) ≡ true → goes_on c ≡ true
-goes_on_at [] c r e = (and_parts (goes_on c) (all_go_on r) e).0
-goes_on_at (x ∷ xs) c r e = goes_on_at xs c r (and_parts (goes_on x) (all_go_on (xs ++ c ∷ r)) e).1
+continues_at : (xs : List ℕ) (c : ℕ) (r : List ℕ) → all_continue (xs ++ c ∷ r) ≡ true → continues c ≡ true
+continues_at [] c r e = (and_parts (continues c) (all_continue r) e).0
+continues_at (x ∷ xs) c r e = continues_at xs c r (and_parts (continues x) (all_continue (xs ++ c ∷ r)) e).1
 
 -- no text of the table's marks and keywords has a stop behind its first byte
-not_literal : (literal : List ℕ) → all_go_on (behind literal) ≡ true → (text : List ℕ) (c : ℕ) (r : List ℕ) → 0 < length text → IsStop c → text ++ c ∷ r ≡ literal → ⊥
+not_literal : (literal : List ℕ) → all_continue (behind literal) ≡ true → (text : List ℕ) (c : ℕ) (r : List ℕ) → 0 < length text → IsStop c → text ++ c ∷ r ≡ literal → ⊥
 not_literal literal e [] c r some stop h = absurd (omega arith)
-not_literal literal e (x ∷ text) c r some stop h = case (goes_on_is c (goes_on_at text c r (ap (λ (y : List ℕ). all_go_on (behind y)) h ∙ e)))
+not_literal literal e (x ∷ text) c r some stop h = case (continues_is c (continues_at text c r (ap (λ (y : List ℕ). all_continue (behind y)) h ∙ e)))
   where
     case : IsHyphenWordPart c ⊎ (c ≡ 61) → ⊥
     case (inl p) = stop.part p
@@ -103,7 +103,7 @@ not_number (x ∷ text) c r some stop h = case (signed ((x ∷ text) ++ c ∷ r)
     case (inl d) = not_digits (x ∷ text) c r stop d.1
     case (inr s) = let e : text ++ c ∷ r ≡ s.1 = rests x s.0 (text ++ c ∷ r) s.1 s.2 in not_digits text c r stop (subst (AllDigits 10) (sym e) s.4.1)
 
-not_lettered : (l : ℕ) (text : List ℕ) (c : ℕ) (r inside : List ℕ) → 0 < length text → All (λ b. b ≢ 39) text → IsStop c → IsLetteredText (l ∷ []) (text ++ c ∷ r) inside → ⊥
+not_lettered : (l : ℕ) (text : List ℕ) (c : ℕ) (r inside : List ℕ) → 0 < length text → All (λ b. b ≢ 39) text → IsStop c → IsPrefixedText (l ∷ []) (text ++ c ∷ r) inside → ⊥
 not_lettered l [] c r inside some plain stop h = absurd (omega arith)
 not_lettered l (x ∷ []) c r inside some plain stop h = let e = h.spelled in stop.quote (cc)
 not_lettered l (x ∷ y ∷ text) c r inside some plain stop h = let e = h.spelled in plain 1 0 (omega arith) (cc)

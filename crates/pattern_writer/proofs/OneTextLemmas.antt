@@ -15,7 +15,7 @@ use Rattle.pattern_types.specs.PlainLeaf.{PlainLeaf, one, every, some, PlainLeav
 use Rattle.pattern_types.specs.PlainPattern.{PlainPattern, a_leaf, a_both, an_either, a_then, a_limited}
 use Rattle.pattern_types.specs.declared.limit.Limit.{Limit}
 use Rattle.pattern_types.specs.declared.limit.Limit.TheVariants.{Between}
-use Rattle.pattern_writer.specs.Parts.{IsAfter, IsBetween, AreSides, joined, AreJoined, enclosed, IsWithin}
+use Rattle.pattern_writer.specs.Parts.{IsAfter, IsBetween, AreSides, joined, AreJoined, parenthesized, IsWithin}
 use Rattle.pattern_writer.specs.Path.{IsNameText, IsStepText, IsFirstText, AreStepsText, IsPathText}
 use Rattle.pattern_writer.specs.Constant.{IsTimeText, IsConstantText}
 use Rattle.pattern_writer.specs.Check.{AreAmong, AreWords, IsCheckedText, not_text, operator_text}
@@ -40,7 +40,7 @@ sides : (IsLeft : List ℕ → Type 0) (mid : List ℕ) (IsRight : List ℕ → 
 sides IsLeft mid IsRight u v a b h k = h.4 ∙ ap (λ (x : List ℕ). x ++ mid ++ h.1) (u h.0 k.0 h.2 k.2) ∙ ap (λ (x : List ℕ). k.0 ++ mid ++ x) (v h.1 k.1 h.3 k.3) ∙ sym k.4
 
 within : (least b : ℕ) (IsText : List ℕ → Type 0) → One IsText → One (IsWithin least b IsText)
-within least b IsText u x y h k = h.2 ∙ ap (enclosed least b) (u h.0 k.0 h.1 k.1) ∙ sym k.2
+within least b IsText u x y h k = h.2 ∙ ap (parenthesized least b) (u h.0 k.0 h.1 k.1) ∙ sym k.2
 
 each : {A : Type 0} (R : A → List ℕ → Type 0) → ((x : A) → One (R x)) → (xs : List A) (ts us : List (List ℕ)) → AllZip R xs ts → AllZip R xs us → ts ≡ us
 each R u [] [] [] h k = refl

@@ -15,7 +15,7 @@ use Rattle.pattern_writer.proofs.FitLemmas.{FitMeant}
 use Rattle.pattern_writer.proofs.LongestLemmas.{Ends}
 use Rattle.pattern_writer.proofs.WrittenLemmas.{Written}
 use Rattle.pattern_writer.proofs.PatternLinesLemmas.{IsDeepLine, MeansTree, whole_pattern}
-use Rattle.pattern_writer.proofs.CuttingLemmas.{tokens_at, cut_pieces, stand_for}
+use Rattle.pattern_writer.proofs.CuttingLemmas.{tokens_at, cut_pieces, represent}
 use Rattle.pattern_writer.proofs.LexedLemmas.{all_lexed}
 use Rattle.pattern_writer.proofs.FitPatternsLemmas.{fit_pattern}
 use Rattle.pattern_writer.proofs.DepthsLemmas.{within, none_too_many}
@@ -32,7 +32,7 @@ spelling m text n q low few w =
     let ts = tokens_at 0 w.pieces in
     let fit = w.fit [] tt in
     let cut = cut_pieces 0 w.pieces fit in
-    let read = w.read text ts (stand_for text 0 w.pieces (omega arith) (sym w.spelled) fit) in
+    let read = w.read text ts (represent text 0 w.pieces (omega arith) (sym w.spelled) fit) in
     record {
       tree = read.0;
       spelled = record {

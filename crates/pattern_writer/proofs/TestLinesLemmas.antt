@@ -127,8 +127,8 @@ is_among vs text fit h =
     let inner = h.0 in
     let inside : Written AreConstants (MeanConstants vs) Ends inner = as_text (sym h.1.2) (constants vs h.1.0 fit h.1.1) in
     let opened = pair (IsOne (Only kind.RoundOpen)) AreConstants (MeansOne kind.RoundOpen (codes "(")) (MeanConstants vs) Anything Ends (codes "(") inner (λ after e. tt) round inside in
-    let enclosed = pair (IsPair (IsOne (Only kind.RoundOpen)) AreConstants) (IsOne (Only kind.RoundClose)) (MeanPair (MeansOne kind.RoundOpen (codes "(")) (MeanConstants vs)) (MeansOne kind.RoundClose (codes ")")) Ends Stops (codes "(" ++ inner) (codes ")") (λ after e. (stop_close, λ x. omega arith)) opened close_round in
-    let list = before Ends ends_stops (as_text (sym h.2) enclosed) in
+    let parenthesized = pair (IsPair (IsOne (Only kind.RoundOpen)) AreConstants) (IsOne (Only kind.RoundClose)) (MeanPair (MeansOne kind.RoundOpen (codes "(")) (MeanConstants vs)) (MeansOne kind.RoundClose (codes ")")) Ends Stops (codes "(" ++ inner) (codes ")") (λ after e. (stop_close, λ x. omega arith)) opened close_round in
+    let list = before Ends ends_stops (as_text (sym h.2) parenthesized) in
     as_tree IsCheck (MeansCheck (check.Among vs)) (λ whole ts x i m. (check_tree.Among x.1.0.1, among ts x i, m.1.0.1))
     (pair (IsOne (Only kind.Among)) (IsPair (IsPair (IsOne (Only kind.RoundOpen)) AreConstants) (IsOne (Only kind.RoundClose))) (MeansOne kind.Among (codes "IN")) (MeanPair (MeanPair (MeansOne kind.RoundOpen (codes "(")) (MeanConstants vs)) (MeansOne kind.RoundClose (codes ")"))) Stops Ends (codes "IN") (32 ∷ text)
     (λ after e. stop_space) (literal (Only kind.Among) kind.Among (codes "IN") refl refl tt refl (λ e. cc)) (spaced list))

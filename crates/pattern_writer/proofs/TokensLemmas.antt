@@ -10,7 +10,7 @@ use Rattle.pattern_lexer.specs.declared.token.TokenKind.TheVariants as kind
 use Rattle.pattern_lexer.specs.Word.{IsWordStart, IsHyphenWordPart, HasAt, IsWord, IsHyphenWord}
 use Rattle.pattern_lexer.specs.Values.{HasValue, quoted, string_text, IsIntegerText}
 use Rattle.pattern_lexer.specs.Table.{IsToken}
-use Rattle.pattern_lexer.specs.Reading.{IsLeftOut, IsUsable}
+use Rattle.pattern_lexer.specs.Reading.{IsUnsupported, IsUsable}
 use Rattle.pattern_lexer.specs.declared.refusal.LeftWord.{LeftWord}
 use Rattle.pattern_lexer.specs.declared.refusal.LeftWord.TheVariants.{Matches, Fraction, DoubleEqual, LessGreater}
 use Rattle.pattern_grammar.specs.declared.class.TokenClass.{TokenClass}
@@ -45,7 +45,7 @@ no_greater (c ∷ after) h e = h.greater (first_is c 62 after e)
 usable : (k : TokenKind) (text after : List ℕ) → text ≢ codes "MATCHES" → Stops after → (k ≡ kind.Number → Ends after) → IsUsable k text after
 usable k text after free stops ends = record { ends = λ r. no_letter after stops r.letter; used = used }
   where
-    used : (word : LeftWord) → ¬ IsLeftOut word k text after
+    used : (word : LeftWord) → ¬ IsUnsupported word k text after
     used Matches h = free h
     used Fraction h = no_dot after (ends h.0) h.1
     used DoubleEqual h = no_equal after stops h.1
@@ -60,7 +60,7 @@ pub record IsFree (k : TokenKind) : Type 0 where
 usable_free : (k : TokenKind) (text after : List ℕ) → IsFree k → text ≢ codes "MATCHES" → IsUsable k text after
 usable_free k text after f free = record { ends = λ r. f.number r.number; used = used }
   where
-    used : (word : LeftWord) → ¬ IsLeftOut word k text after
+    used : (word : LeftWord) → ¬ IsUnsupported word k text after
     used Matches h = free h
     used Fraction h = f.number h.0
     used DoubleEqual h = f.equal h.0

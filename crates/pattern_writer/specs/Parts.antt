@@ -24,12 +24,12 @@ abbrev pub AreJoined : {A : Type 0} → List ℕ → (A → List ℕ → Type 0)
 AreJoined between IsTextOf xs text = (texts : List (List ℕ)) × AllZip IsTextOf xs texts × (text ≡ joined between texts)
 
 -- parentheses stand where the text binds less tightly than is asked
-abbrev pub enclosed : (least binds : ℕ) → List ℕ → List ℕ
-enclosed least binds text = if nat_le least binds then text else codes "(" ++ text ++ codes ")"
+abbrev pub parenthesized : (least binds : ℕ) → List ℕ → List ℕ
+parenthesized least binds text = if nat_le least binds then text else codes "(" ++ text ++ codes ")"
 
 -- such a text, that binds so tightly, where one is asked that binds no less than this
 abbrev pub IsWithin : (least binds : ℕ) → (List ℕ → Type 0) → List ℕ → Type 0
-IsWithin least binds IsText text = (inner : List ℕ) × IsText inner × (text ≡ enclosed least binds inner)
+IsWithin least binds IsText text = (inner : List ℕ) × IsText inner × (text ≡ parenthesized least binds inner)
 
 -- such a text was added at the end
 abbrev pub Adds : (List ℕ → Type 0) → (old new : List ℕ) → Type 0

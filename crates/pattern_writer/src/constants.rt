@@ -51,7 +51,7 @@ fn write_hex(alloc: Global, bytes: &[u8], out: &mut Text) -> Result<(), NoMemory
 }
 
 /// Writes bytes in base64.
-fn write_base(alloc: Global, bytes: &[u8], out: &mut Text) -> Result<(), NoMemory>
+fn write_base64(alloc: Global, bytes: &[u8], out: &mut Text) -> Result<(), NoMemory>
     ensures { OnOk result (out.new ≡ out.old ++ quoted (codes "b") (encode_of standard bytes.now)) }
 {
     let symbols = STANDARD.encode(alloc, bytes)?;
@@ -71,7 +71,7 @@ pub(crate) fn write_constant(
         Constant::String(words) => write_words(words.as_str(), out),
         Constant::Boolean(truth) => write_truth(*truth, out),
         Constant::Hex(bytes) => write_hex(alloc, bytes.as_slice(), out),
-        Constant::Binary(bytes) => write_base(alloc, bytes.as_slice(), out),
+        Constant::Binary(bytes) => write_base64(alloc, bytes.as_slice(), out),
         Constant::Timestamp(instant) => write_time(*instant, out),
     }
 }

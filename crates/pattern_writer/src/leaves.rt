@@ -10,7 +10,7 @@ use pattern_types::Leaf;
 use std::alloc::Global;
 
 /// How tightly what is written for a leaf binds. Takes no memory.
-fn tightness(leaf: &Leaf) -> u8
+fn precedence(leaf: &Leaf) -> u8
     ensures { result ≡ binds (plain_leaf leaf.now) }
 {
     match leaf {
@@ -25,7 +25,7 @@ fn tightness(leaf: &Leaf) -> u8
 fn write_part(alloc: Global, least: u8, leaf: &Leaf, out: &mut Text) -> Result<(), NoMemory>
     ensures { OnOk result (Adds (IsWithin least (binds (plain_leaf leaf.now)) (IsFormulaText (plain_leaf leaf.now))) out.old out.new) }
 {
-    if least <= tightness(leaf) {
+    if least <= precedence(leaf) {
         return write_leaf(alloc, leaf, out);
     }
     out.push("(")?;

@@ -12,7 +12,7 @@ use pattern_types::{Leaf, Pattern};
 use std::alloc::Global;
 
 /// How tightly what is written for a pattern binds. Takes no memory.
-fn tightness(pattern: &Pattern) -> u8
+fn precedence(pattern: &Pattern) -> u8
     ensures { result ≡ level (plain_pattern pattern.now) }
 {
     match pattern {
@@ -40,7 +40,7 @@ fn write_brackets(alloc: Global, leaf: &Leaf, out: &mut Text) -> Result<(), NoMe
 fn write_part(alloc: Global, least: u8, pattern: &Pattern, out: &mut Text) -> Result<(), NoMemory>
     ensures { OnOk result (Adds (IsWithin least (level (plain_pattern pattern.now)) (IsCanonical (plain_pattern pattern.now))) out.old out.new) }
 {
-    if least <= tightness(pattern) {
+    if least <= precedence(pattern) {
         return write(alloc, pattern, out);
     }
     out.push("(")?;

@@ -3,7 +3,7 @@
 #![tactic(auto)]
 
 use command_alerts::run_alerts;
-use command_line::program_words;
+use command_line::program_arguments;
 use command_reasons::write_no_memory;
 use flow_edges::{ReadSource, WriteSink};
 use flow_values::NoMemory;
@@ -13,13 +13,13 @@ fn main(rt: HostRuntime) -> ExitCode {
     let mut input = ReadSource::new(rt.stdin());
     let mut output = WriteSink::new(rt.stdout());
     let mut faults = WriteSink::new(rt.stderr());
-    let words = match program_words(&rt) {
-        Ok(words) => words,
+    let arguments = match program_arguments(&rt) {
+        Ok(arguments) => arguments,
         Err(NoMemory) => {
             let _ = write_no_memory(&mut faults);
             return ExitCode::from(1);
         }
     };
-    let status = run_alerts(rt.alloc(), &words, &mut input, &mut output, &mut faults);
+    let status = run_alerts(rt.alloc(), &arguments, &mut input, &mut output, &mut faults);
     ExitCode::from(status)
 }

@@ -9,7 +9,7 @@ use Rattle.stix_ids.specs.declared.id.Id.{Id}
 use Rattle.stix_bundles.specs.declared.positions.Positions.{Positions}
 use Rattle.stix_objects.specs.Properties.{HasId}
 use Rattle.stix_bundles.specs.Lookup.{IsModified, IsEarlier, IsOf, IsVersionAt, IsLatest}
-use Rattle.stix_bundles.specs.inner.Index.{position_of, same_id, Puts, Overtakes, IsPositionOf, ArePositionsOf}
+use Rattle.stix_bundles.specs.inner.Index.{position_of, same_id, Puts, Supersedes, IsPositionOf, ArePositionsOf}
 use Rattle.stix_bundles.proofs.ObjectsLemmas.{same_some}
 use Rattle.stix_bundles.proofs.TakeLemmas.{taken, taken_before, in_taken}
 use Rattle.stix_bundles.proofs.LookupLemmas.{of_version}
@@ -73,10 +73,10 @@ held_beside ds at d there id other None is = λ n of.
 held_beside ds at d there id other (Some n) is = latest_stays ds at d there id n is (λ when has modified. absurd (other has))
 
 -- nor does an object that a later one stands before
-pub held_overtaken : OneModified → (ds : List Data) (at : ℕ) (d : Data) → slice_get ds at ≡ Some d → (id : Id) (time : Option ℤ) → IsModified d time
-    → (place : Option ℕ) → Overtakes ds place time → IsPositionOf (take at ds) id place → IsPositionOf (take (at + 1) ds) id place
-held_overtaken one ds at d there id time modified None over is = absurd over
-held_overtaken one ds at d there id time modified (Some n) over is =
+pub held_superseded : OneModified → (ds : List Data) (at : ℕ) (d : Data) → slice_get ds at ≡ Some d → (id : Id) (time : Option ℤ) → IsModified d time
+    → (place : Option ℕ) → Supersedes ds place time → IsPositionOf (take at ds) id place → IsPositionOf (take (at + 1) ds) id place
+held_superseded one ds at d there id time modified None over is = absurd over
+held_superseded one ds at d there id time modified (Some n) over is =
     latest_stays ds at d there id n is
     (λ when has its.
     let same_object : over.0 ≡ is.version.object = same_some over.0 is.version.object (sym over.2 ∙ taken at n ds is.version.object is.version.there) in
@@ -120,7 +120,7 @@ no_later when last time other n at not before is = elim (time_cases time last) [
   ]
 ]
 
-latest_before : (ds : List Data) (at : ℕ) (id : Id) (time : Option ℤ) (place : Option ℕ) → ¬ Overtakes ds place time → IsPositionOf (take at ds) id place
+latest_before : (ds : List Data) (at : ℕ) (id : Id) (time : Option ℤ) (place : Option ℕ) → ¬ Supersedes ds place time → IsPositionOf (take at ds) id place
     → (other : ℕ) (when : Option ℤ) → IsVersionAt (take at ds) id other when → IsEarlier when time ⊎ ((when ≡ time) × (other ≤ at))
 latest_before ds at id time None not is other when before = absurd (is other (of_version (take at ds) id other when before))
 latest_before ds at id time (Some n) not is other when before =
@@ -129,9 +129,9 @@ latest_before ds at id time (Some n) not is other when before =
     let less = taken_before at other ds before.object before.there in
     no_later when is.modified time other n at (λ earlier. not (last, is.modified, there, is.version.when, earlier)) less (is.latest other when before)
 
--- an object that isn't overtaken is the latest
+-- an object that isn't superseded is the latest
 pub held_newly : OneModified → (ds : List Data) (at : ℕ) (d : Data) → slice_get ds at ≡ Some d → (id : Id) → HasId d id → (time : Option ℤ) → IsModified d time
-    → (place : Option ℕ) → ¬ Overtakes ds place time → IsPositionOf (take at ds) id place → IsLatest (take (at + 1) ds) id at
+    → (place : Option ℕ) → ¬ Supersedes ds place time → IsPositionOf (take at ds) id place → IsLatest (take (at + 1) ds) id at
 held_newly one ds at d there id has time modified place not is = record {
   modified = time;
   version = record { object = d; there = in_taken (at + 1) at ds d (omega arith) there; has = has; when = modified };

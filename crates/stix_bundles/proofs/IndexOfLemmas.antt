@@ -6,7 +6,7 @@ use Rattle.stix_ids.specs.declared.id.Id.{Id}
 use Rattle.stix_bundles.specs.declared.positions.Positions.{Positions}
 use Rattle.stix_objects.specs.Properties.{HasId}
 use Rattle.stix_bundles.specs.Lookup.{IsModified, IsOf, IsLatest}
-use Rattle.stix_bundles.specs.inner.Index.{position_of, Puts, Overtakes, IsPositionOf, ArePositionsOf}
+use Rattle.stix_bundles.specs.inner.Index.{position_of, Puts, Supersedes, IsPositionOf, ArePositionsOf}
 use Rattle.stix_bundles.proofs.ObjectsLemmas.{same_some}
 use Rattle.stix_bundles.proofs.IndexLemmas.{OneModified, OneId, held_beside, held_newly, positions_put}
 
@@ -20,9 +20,9 @@ pub put_well : OneId → (ds : List Data) (at : ℕ) (d : Data) → slice_get ds
 put_well one_id ds at d there id has latest is_latest before after is (Ok done) puts = positions_put one_id ds at d there id has latest is_latest before after is puts
 put_well one_id ds at d there id has latest is_latest before after is (Err error) puts = tt
 
--- the object at the place is the latest version where it isn't overtaken
+-- the object at the place is the latest version where it isn't superseded
 pub newly : OneModified → (ds : List Data) (at : ℕ) (d : Data) → slice_get ds at ≡ Some d → (time : Option ℤ) → IsModified d time → (place : Option ℕ)
-    → ¬ Overtakes ds place time → (id : Id) → IsOf ds id at → IsPositionOf (take at ds) id place → IsLatest (take (at + 1) ds) id at
+    → ¬ Supersedes ds place time → (id : Id) → IsOf ds id at → IsPositionOf (take at ds) id place → IsLatest (take (at + 1) ds) id at
 newly one ds at d there time modified place not id of is =
     let same : of.object ≡ d = same_some of.object d (sym of.there ∙ there) in
     held_newly one ds at d there id (subst (λ (x : Data). HasId x id) same of.has) time modified place not is

@@ -4,14 +4,14 @@ pub mod AllBreaksLemmas
 pub mod TakeLemmas
 pub mod LookupLemmas
 pub mod IndexLemmas
-pub mod OvertakesLemmas
+pub mod SupersedesLemmas
 pub mod PutsLemmas
 pub mod IndexOfLemmas
 pub mod UnbrokenLemmas
 pub mod EmbedsLemmas
 pub mod LastTimesLemmas
 pub mod ObservationsLemmas
-pub mod AreMeantLemmas
+pub mod AreResolvedLemmas
 pub mod ObservationsAtLemmas
 pub mod ReferencesLemmas
 pub mod LastTimeLemmas

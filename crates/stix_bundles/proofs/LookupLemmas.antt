@@ -59,15 +59,15 @@ one_meaning one objects text (Some a) (Some b) is also =
     let same = one text also.0 is.0 also.1 is.1 in
     ap Some (one_latest objects is.0 a b is.2 (subst (λ (id : Id). IsLatest objects id b) same also.2))
 
-pub same_meaning : OneIdentifier → (objects : List Data) (id : Id) (text other : List ℕ) (meant : Option ℕ) → IsTextOf text id → IsTextOf other id
-    → Means objects text meant → Means objects other meant
+pub same_meaning : OneIdentifier → (objects : List Data) (id : Id) (text other : List ℕ) (resolved : Option ℕ) → IsTextOf text id → IsTextOf other id
+    → Means objects text resolved → Means objects other resolved
 same_meaning one objects id text other None is also means = λ its at reads.
     means its at (subst (λ (i : Id). IsTextOf text i) (one other id its also reads) is)
 same_meaning one objects id text other (Some at) is also means =
     (id, also, subst (λ (i : Id). IsLatest objects i at) (one text means.0 id means.1 is) means.2)
 
 -- what is held for the identifier of a text is what the text means
-pub held_is_meant : OneIdentifier → (objects : List Data) (text : List ℕ) (id : Id) → IsTextOf text id → (position_of : Option ℕ) → IsPositionOf objects id position_of → Means objects text position_of
-held_is_meant one objects text id reads None is = λ its at also of.
+pub held_is_resolved : OneIdentifier → (objects : List Data) (text : List ℕ) (id : Id) → IsTextOf text id → (position_of : Option ℕ) → IsPositionOf objects id position_of → Means objects text position_of
+held_is_resolved one objects text id reads None is = λ its at also of.
     is at (subst (λ (i : Id). IsOf objects i at) (one text its id also reads) of)
-held_is_meant one objects text id reads (Some at) is = (id, reads, is)
+held_is_resolved one objects text id reads (Some at) is = (id, reads, is)

@@ -4,7 +4,7 @@ use Rattle.std.proofs.lemmas.Bool.{cases_lt}
 use Rattle.std.proofs.lemmas.Option.{slice_get_within, get_or_from_slice_get}
 use Rattle.serde_json.specs.Data.{Data, Items}
 use Rattle.serde_json.specs.Find.{get}
-use Rattle.stix_json.specs.Walk.{path_text, place_part}
+use Rattle.stix_json.specs.Walk.{path_text, index_part}
 use Rattle.stix_objects.specs.declared.rule_break.Break.{Break}
 use Rattle.stix_objects.specs.Breaks.{AreBreaksOf}
 use Rattle.stix_bundles.specs.declared.object_break.ObjectBreak.{ObjectBreak}
@@ -101,7 +101,7 @@ one_failure d (n ∷ place ∷ []) (m ∷ other ∷ []) a b =
     let names : n ≡ m = a.0 ∙ sym b.0 in
     let same : a.4.0 ≡ b.4.0 = one_objects d a.4.0 b.4.0 a.4.1 b.4.1 in
     let at : a.4.2.0 ≡ b.4.2.0 = one_first b.4.0 a.4.2.0 b.4.2.0 (subst (λ (os : List Data). IsFirstNoObject os a.4.2.0) same a.4.2.2) b.4.2.2 in
-    let places : place ≡ other = a.4.2.1 ∙ ap place_part at ∙ sym b.4.2.1 in
+    let places : place ≡ other = a.4.2.1 ∙ ap index_part at ∙ sym b.4.2.1 in
     ap (λ (name : List ℕ). name ∷ place ∷ []) names ∙ ap (λ (p : List ℕ). m ∷ p ∷ []) places
 one_failure d (n ∷ place ∷ []) (m ∷ other ∷ more ∷ parts) a b = elim b [ ]
 one_failure d (n ∷ place ∷ more ∷ parts) q a b = elim a [ ]

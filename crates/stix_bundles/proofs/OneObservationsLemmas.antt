@@ -8,7 +8,7 @@ use Rattle.stix_objects.specs.declared.form.Precision.TheVariants.{Any}
 use Rattle.stix_objects.specs.Properties.{IsTimestampAt, HasId}
 use Rattle.stix_bundles.specs.declared.observation.Observation.{Observation}
 use Rattle.stix_bundles.specs.Lookup.{Means}
-use Rattle.stix_bundles.specs.Observations.{IsObservationAt, ObservationAt, IsObservedBefore, AreMeant, references, AreObservations}
+use Rattle.stix_bundles.specs.Observations.{IsObservationAt, ObservationAt, IsObservedBefore, AreResolved, references, AreObservations}
 use Rattle.stix_bundles.proofs.ObjectsLemmas.{same_some}
 use Rattle.stix_bundles.proofs.LookupLemmas.{OneTimestamp}
 
@@ -24,11 +24,11 @@ pub record Laws : Type 0 where
   pub timestamp : OneTimestamp
   pub meaning : OneMeaning
 
-meant_once : OneMeaning → (objects : List Data) (texts : List (List ℕ)) (xs ys : List ℕ) → AreMeant objects texts xs → AreMeant objects texts ys → xs ≡ ys
-meant_once one objects [] xs ys a b = a ∙ sym b
-meant_once one objects (text ∷ texts) xs ys a b =
+resolved_once : OneMeaning → (objects : List Data) (texts : List (List ℕ)) (xs ys : List ℕ) → AreResolved objects texts xs → AreResolved objects texts ys → xs ≡ ys
+resolved_once one objects [] xs ys a b = a ∙ sym b
+resolved_once one objects (text ∷ texts) xs ys a b =
     let place : a.0 ≡ b.0 = one objects text a.0 b.0 a.2 b.2 in
-    let rest : a.1 ≡ b.1 = meant_once one objects texts a.1 b.1 a.3 b.3 in
+    let rest : a.1 ≡ b.1 = resolved_once one objects texts a.1 b.1 a.3 b.3 in
     a.4 ∙ ap (λ (o : Option ℕ). option_to_list o ++ a.1) place ∙ ap (λ (l : List ℕ). option_to_list b.0 ++ l) rest ∙ sym b.4
 
 abbrev of : ℕ → Id → ℤ → ℤ → List ℕ → Observation
@@ -45,7 +45,7 @@ observation_once laws objects at number o p a b =
     let ids : o.id ≡ p.id = laws.id a.object o.id p.id a.named (subst (λ (d : Data). HasId d p.id) object b.named) in
     let firsts : o.first ≡ p.first = laws.timestamp Any (codes "first_observed") a.object o.first p.first a.first (subst (λ (d : Data). IsTimestampAt Any (codes "first_observed") d p.first) object b.first) in
     let lasts : o.last ≡ p.last = laws.timestamp Any (codes "last_observed") a.object o.last p.last a.last (subst (λ (d : Data). IsTimestampAt Any (codes "last_observed") d p.last) object b.last) in
-    let roots : o.roots ≡ p.roots = meant_once laws.meaning objects (references a.object) o.roots p.roots a.roots (subst (λ (d : Data). AreMeant objects (references d) p.roots) object b.roots) in
+    let roots : o.roots ≡ p.roots = resolved_once laws.meaning objects (references a.object) o.roots p.roots a.roots (subst (λ (d : Data). AreResolved objects (references d) p.roots) object b.roots) in
     ap (λ (n : ℕ). of n o.id o.first o.last o.roots) numbers
     ∙ ap (λ (i : Id). of p.number i o.first o.last o.roots) ids
     ∙ ap (λ (t : ℤ). of p.number p.id t o.last o.roots) firsts
@@ -61,8 +61,8 @@ abbrev HasAll : List ObservationAt → List ObservationAt → Type 0
 HasAll xs ys = (k : ℕ) (s : ObservationAt) → slice_get xs k ≡ Some s → (m : ℕ) × (t : ObservationAt) × (slice_get ys m ≡ Some t) × AreAlike s t
 
 -- the earlier stands before the later
-abbrev RisesBy : List ObservationAt → Type 0
-RisesBy xs = (j k : ℕ) (s t : ObservationAt) → j < k → slice_get xs j ≡ Some s → slice_get xs k ≡ Some t → IsObservedBefore s t
+abbrev AscendsBy : List ObservationAt → Type 0
+AscendsBy xs = (j k : ℕ) (s t : ObservationAt) → j < k → slice_get xs j ≡ Some s → slice_get xs k ≡ Some t → IsObservedBefore s t
 
 -- the second list has one that is alike at the same place
 abbrev GoesAlong : List ObservationAt → List ObservationAt → ℕ → Type 0
@@ -97,42 +97,42 @@ three n k = elim (cases_lt n k) [
 ]
 
 -- the second list can't have its own one at a later place
-not_later : (xs ys : List ObservationAt) (k : ℕ) (s : ObservationAt) → RisesBy xs → RisesBy ys → ((j : ℕ) → j < k → GoesAlong xs ys j) → slice_get xs k ≡ Some s
+not_later : (xs ys : List ObservationAt) (k : ℕ) (s : ObservationAt) → AscendsBy xs → AscendsBy ys → ((j : ℕ) → j < k → GoesAlong xs ys j) → slice_get xs k ≡ Some s
     → (m : ℕ) (t u : ObservationAt) → slice_get ys m ≡ Some t → k < m → slice_get ys k ≡ Some u → AreAlike s t
     → (n : ℕ) (w : ObservationAt) → slice_get xs n ≡ Some w → AreAlike u w → (n < k) ⊎ ((n ≡ k) ⊎ (k < n)) → ⊥
-not_later xs ys k s rises climbs before here m t u there past at alike n w is same (inl below) =
+not_later xs ys k s ascends climbs before here m t u there past at alike n w is same (inl below) =
     let v = before n below w is in
     not_alike v.0 u (climbs n k v.0 u below v.1 at) (alike_through v.0 w u (alike_turned w v.0 v.2) (alike_turned u w same))
-not_later xs ys k s rises climbs before here m t u there past at alike n w is same (inr (inl equal)) =
+not_later xs ys k s ascends climbs before here m t u there past at alike n w is same (inr (inl equal)) =
     let own : w ≡ s = same_some w s (sym is ∙ ap (slice_get xs) equal ∙ here) in
     not_alike u t (climbs k m u t past at there) (alike_through u w t same (subst (λ (o : ObservationAt). AreAlike o t) (sym own) alike))
-not_later xs ys k s rises climbs before here m t u there past at alike n w is same (inr (inr above)) =
-    not_around s w u t (rises k n s w above here is) (alike_turned u w same) (climbs k m u t past at there) alike
+not_later xs ys k s ascends climbs before here m t u there past at alike n w is same (inr (inr above)) =
+    not_around s w u t (ascends k n s w above here is) (alike_turned u w same) (climbs k m u t past at there) alike
 
 -- nor at an earlier one
-not_sooner : (xs ys : List ObservationAt) (k : ℕ) (s : ObservationAt) → RisesBy xs → ((j : ℕ) → j < k → GoesAlong xs ys j) → slice_get xs k ≡ Some s
+not_sooner : (xs ys : List ObservationAt) (k : ℕ) (s : ObservationAt) → AscendsBy xs → ((j : ℕ) → j < k → GoesAlong xs ys j) → slice_get xs k ≡ Some s
     → (m : ℕ) (t : ObservationAt) → slice_get ys m ≡ Some t → m < k → AreAlike s t → ⊥
-not_sooner xs ys k s rises before here m t there below alike =
+not_sooner xs ys k s ascends before here m t there below alike =
     let w = there_before xs m k s here below in
     let v = before m below w.0 w.1 in
     let own : v.0 ≡ t = same_some v.0 t (sym v.1 ∙ there) in
-    not_alike w.0 s (rises m k w.0 s below w.1 here) (alike_through w.0 v.0 s v.2 (subst (λ (o : ObservationAt). AreAlike o s) (sym own) (alike_turned s t alike)))
+    not_alike w.0 s (ascends m k w.0 s below w.1 here) (alike_through w.0 v.0 s v.2 (subst (λ (o : ObservationAt). AreAlike o s) (sym own) (alike_turned s t alike)))
 
-along_by : (xs ys : List ObservationAt) (k : ℕ) (s : ObservationAt) → HasAll ys xs → RisesBy xs → RisesBy ys → ((j : ℕ) → j < k → GoesAlong xs ys j) → slice_get xs k ≡ Some s
+along_by : (xs ys : List ObservationAt) (k : ℕ) (s : ObservationAt) → HasAll ys xs → AscendsBy xs → AscendsBy ys → ((j : ℕ) → j < k → GoesAlong xs ys j) → slice_get xs k ≡ Some s
     → (m : ℕ) (t : ObservationAt) → slice_get ys m ≡ Some t → AreAlike s t → (m < k) ⊎ ((m ≡ k) ⊎ (k < m))
     → (u : ObservationAt) × (slice_get ys k ≡ Some u) × AreAlike s u
-along_by xs ys k s also rises climbs before here m t there alike (inl below) = absurd (not_sooner xs ys k s rises before here m t there below alike)
-along_by xs ys k s also rises climbs before here m t there alike (inr (inl equal)) = (t, ap (slice_get ys) (sym equal) ∙ there, alike)
-along_by xs ys k s also rises climbs before here m t there alike (inr (inr past)) =
+along_by xs ys k s also ascends climbs before here m t there alike (inl below) = absurd (not_sooner xs ys k s ascends before here m t there below alike)
+along_by xs ys k s also ascends climbs before here m t there alike (inr (inl equal)) = (t, ap (slice_get ys) (sym equal) ∙ there, alike)
+along_by xs ys k s also ascends climbs before here m t there alike (inr (inr past)) =
     let u = there_before ys k m t there past in
     let w = also k u.0 u.1 in
-    absurd (not_later xs ys k s rises climbs before here m t u.0 there past u.1 alike w.0 w.1 w.2 w.3 (three w.0 k))
+    absurd (not_later xs ys k s ascends climbs before here m t u.0 there past u.1 alike w.0 w.1 w.2 w.3 (three w.0 k))
 
-along_before : (xs ys : List ObservationAt) → HasAll xs ys → HasAll ys xs → RisesBy xs → RisesBy ys → (k j : ℕ) → j < k → GoesAlong xs ys j
-along_before xs ys all also rises climbs zero j below = absurd (omega arith)
-along_before xs ys all also rises climbs (suc k) j below = λ s here.
+along_before : (xs ys : List ObservationAt) → HasAll xs ys → HasAll ys xs → AscendsBy xs → AscendsBy ys → (k j : ℕ) → j < k → GoesAlong xs ys j
+along_before xs ys all also ascends climbs zero j below = absurd (omega arith)
+along_before xs ys all also ascends climbs (suc k) j below = λ s here.
     let t = all j s here in
-    along_by xs ys j s also rises climbs (λ i under. along_before xs ys all also rises climbs k i (omega arith)) here t.0 t.1 t.2 t.3 (three t.0 j)
+    along_by xs ys j s also ascends climbs (λ i under. along_before xs ys all also ascends climbs k i (omega arith)) here t.0 t.1 t.2 t.3 (three t.0 j)
 
 -- lists that go along each other, with one observation a place and number, are the same
 same_lists : {A : Type 0} (xs ys : List A) → ((k : ℕ) → slice_get xs k ≡ slice_get ys k) → xs ≡ ys

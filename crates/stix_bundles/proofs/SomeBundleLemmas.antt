@@ -1,7 +1,7 @@
 -- No value is neither a bundle nor refused: each condition in turn holds, or the path to it is the refusal.
 use Rattle.std.proofs.Common.{◌⊎◌, inl, inr, ℕ, ◌+◌, List, [], ◌∷◌, ◌++◌, map, All, codes, refl}
 use Rattle.serde_json.specs.Data.{Data}
-use Rattle.stix_json.specs.Walk.{path_text, place_part}
+use Rattle.stix_json.specs.Walk.{path_text, index_part}
 use Rattle.stix_objects.specs.declared.rule_break.Break.{Break}
 use Rattle.stix_objects.specs.Breaks.{AreBreaksOf}
 use Rattle.stix_bundles.specs.declared.object_break.ObjectBreak.{ObjectBreak}
@@ -60,7 +60,7 @@ by_members : SomeList → (d : Data) → IsNeither d → IsObject d → IsTyped 
 by_members some d neither object typed identified objects has (inl members) =
     no_outline some d neither objects (record { is_object = object; typed = typed; identified = identified; listed_are = has; members = members })
 by_members some d neither object typed identified objects has (inr (at, first)) =
-    fails_nowhere d neither (codes "objects" ∷ place_part at ∷ []) (refl, object, typed, identified, (objects, has, (at, refl, first)))
+    fails_nowhere d neither (codes "objects" ∷ index_part at ∷ []) (refl, object, typed, identified, (objects, has, (at, refl, first)))
 
 not_identified : SomeList → (d : Data) → IsNeither d → IsObject d → IsTyped d → ¬ IsIdentified d
 not_identified some d neither object typed identified =

@@ -6,10 +6,10 @@ use Rattle.serde_json.specs.Data.{Data, null}
 use Rattle.stix_ids.specs.declared.id.Id.{Id}
 use Rattle.stix_objects.specs.Properties.{HasId}
 use Rattle.stix_bundles.specs.Lookup.{IsModified, Means}
-use Rattle.stix_bundles.specs.inner.Index.{Overtakes, IsPositionOf}
+use Rattle.stix_bundles.specs.inner.Index.{Supersedes, IsPositionOf}
 use Rattle.stix_bundles.proofs.TakeLemmas.{taken_before}
-use Rattle.stix_bundles.proofs.LookupLemmas.{OneIdentifier, held_is_meant}
-use Rattle.stix_bundles.proofs.IndexLemmas.{OneModified, held_beside, held_overtaken, held_newly}
+use Rattle.stix_bundles.proofs.LookupLemmas.{OneIdentifier, held_is_resolved}
+use Rattle.stix_bundles.proofs.IndexLemmas.{OneModified, held_beside, held_superseded, held_newly}
 
 -- an object isn't without a time at which it was modified, or none
 some_time : (d : Data) → ¬ ((when : Option ℤ) → ¬ IsModified d when)
@@ -26,8 +26,8 @@ none_taken ds id = λ n of. let before = taken_before 0 n ds of.object of.there 
 with_version : OneModified → (ds : List Data) (at : ℕ) (d : Data) → slice_get ds at ≡ Some d → (id : Id) → HasId d id → (time : Option ℤ) → IsModified d time
     → (place : Option ℕ) → IsPositionOf (take at ds) id place → HasPosition (take (at + 1) ds) id
 with_version one ds at d there id has time modified place is = λ fails.
-    let new : ¬ Overtakes ds place time → ⊥ = λ not. fails (Some at) (held_newly one ds at d there id has time modified place not is) in
-    new (λ over. fails place (held_overtaken one ds at d there id time modified place over is))
+    let new : ¬ Supersedes ds place time → ⊥ = λ not. fails (Some at) (held_newly one ds at d there id has time modified place not is) in
+    new (λ over. fails place (held_superseded one ds at d there id time modified place over is))
 
 with_object : OneModified → (ds : List Data) (at : ℕ) (d : Data) → slice_get ds at ≡ Some d → (id : Id) (place : Option ℕ) → IsPositionOf (take at ds) id place
     → HasPosition (take (at + 1) ds) id
@@ -46,7 +46,7 @@ position_before one ds id (suc at) within = λ fails.
 some_position : OneModified → (ds : List Data) (id : Id) → HasPosition ds id
 some_position one ds id = subst (λ (objects : List Data). HasPosition objects id) (take-length ds) (position_before one ds id (length ds) (omega arith))
 
-pub some_meaning : OneIdentifier → OneModified → (objects : List Data) (text : List ℕ) → ¬ ((meant : Option ℕ) → ¬ Means objects text meant)
+pub some_meaning : OneIdentifier → OneModified → (objects : List Data) (text : List ℕ) → ¬ ((resolved : Option ℕ) → ¬ Means objects text resolved)
 some_meaning one_identifier one objects text = λ fails.
     fails None (λ id at reads of.
-    some_position one objects id (λ place is. fails place (held_is_meant one_identifier objects text id reads place is)))
+    some_position one objects id (λ place is. fails place (held_is_resolved one_identifier objects text id reads place is)))

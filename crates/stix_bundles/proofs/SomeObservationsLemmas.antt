@@ -17,7 +17,7 @@ use Rattle.stix_bundles.specs.declared.last_time.LastTime.{LastTime}
 use Rattle.stix_bundles.specs.declared.observation.Observation.{Observation}
 use Rattle.stix_bundles.specs.Bundle.{AreAllBreaks}
 use Rattle.stix_bundles.specs.Lookup.{Means}
-use Rattle.stix_bundles.specs.Observations.{IsObservedAt, IsObservationAt, AreMeant, references, AreObservations}
+use Rattle.stix_bundles.specs.Observations.{IsObservedAt, IsObservationAt, AreResolved, references, AreObservations}
 use Rattle.stix_bundles.specs.inner.LastTimes.{IsLastTimeOf, AreLastTimesBefore, AreLastTimes, IsUpTo, AreInOrder, AreObservationsAt}
 use Rattle.stix_bundles.proofs.ObjectsLemmas.{same_some}
 use Rattle.stix_bundles.proofs.UnbrokenLemmas.{unbroken_at}
@@ -30,7 +30,7 @@ pub record Laws : Type 0 where
   pub named : (value : Data) → AreBreaksOf value [] → IsNamed value
   pub timed : (value : Data) → AreBreaksOf value [] → text_at (codes "type") value ≡ Some (codes "observed-data")
       → IsTimed (codes "first_observed") (codes "last_observed") value
-  pub meaning : (objects : List Data) (text : List ℕ) → ¬ ((meant : Option ℕ) → ¬ Means objects text meant)
+  pub meaning : (objects : List Data) (text : List ℕ) → ¬ ((resolved : Option ℕ) → ¬ Means objects text resolved)
 
 -- ---- last times
 
@@ -66,53 +66,53 @@ IsUpToFirst m [] = ⊤
 IsUpToFirst m (n ∷ ns) = IsUpTo m n
 
 -- each is up to the next, by recursion
-abbrev Rises : List LastTime → Type 0
-Rises [] = ⊤
-Rises (m ∷ ms) = IsUpToFirst m ms × Rises ms
+abbrev Ascends : List LastTime → Type 0
+Ascends [] = ⊤
+Ascends (m ∷ ms) = IsUpToFirst m ms × Ascends ms
 
 up_to_next : (l : LastTime) (ms : List LastTime) (n : LastTime) → IsUpToFirst l ms → slice_get ms 0 ≡ Some n → IsUpTo l n
 up_to_next l [] n is there = absurd cc
 up_to_next l (m ∷ ms) n is there = subst (IsUpTo l) (same_some m n there) is
 
-in_order : (ms : List LastTime) → Rises ms → AreInOrder ms
-in_order [] rises k l n here there = absurd cc
-in_order (m ∷ ms) rises zero l n here there = subst (λ (x : LastTime). IsUpTo x n) (same_some m l here) (up_to_next m ms n rises.0 there)
-in_order (m ∷ ms) rises (suc k) l n here there =
+in_order : (ms : List LastTime) → Ascends ms → AreInOrder ms
+in_order [] ascends k l n here there = absurd cc
+in_order (m ∷ ms) ascends zero l n here there = subst (λ (x : LastTime). IsUpTo x n) (same_some m l here) (up_to_next m ms n ascends.0 there)
+in_order (m ∷ ms) ascends (suc k) l n here there =
     let next : suc k + 1 ≡ suc (k + 1) = omega arith in
-    in_order ms rises.1 k l n here (ap (slice_get (m ∷ ms)) (sym next) ∙ there)
+    in_order ms ascends.1 k l n here (ap (slice_get (m ∷ ms)) (sym next) ∙ there)
 
 -- a last time in its place among some in order
 record IsPlaced (m : LastTime) (ms ns : List LastTime) : Type 0 where
-  rises : Rises ns
+  ascends : Ascends ns
   moves : IsPermutation (m ∷ ms) ns
   first : (l : LastTime) → IsUpTo l m → IsUpToFirst l ms → IsUpToFirst l ns
 
-place_behind : (m n : LastTime) (ms ns : List LastTime) → Rises (n ∷ ms) → IsUpTo n m → IsPlaced m ms ns → IsPlaced m (n ∷ ms) (n ∷ ns)
-place_behind m n ms ns rises later placed = record {
-  rises = (placed.first n later rises.0, placed.rises);
+place_behind : (m n : LastTime) (ms ns : List LastTime) → Ascends (n ∷ ms) → IsUpTo n m → IsPlaced m ms ns → IsPlaced m (n ∷ ms) (n ∷ ns)
+place_behind m n ms ns ascends later placed = record {
+  ascends = (placed.first n later ascends.0, placed.ascends);
   moves = IsPermutation-trans (m ∷ n ∷ ms) (n ∷ m ∷ ms) (n ∷ ns) (IsPermutation-middle (m ∷ []) n ms) (IsPermutation-cons n (m ∷ ms) ns placed.moves);
   first = λ l upto its. its;
 }
 
-place : (m : LastTime) (ms : List LastTime) → Rises ms → (ns : List LastTime) × IsPlaced m ms ns
-place m [] rises = (m ∷ [], record { rises = (tt, tt); moves = IsPermutation-refl (m ∷ []); first = λ l upto none. upto })
-place m (n ∷ ms) rises = elim (up_to_cases m n) [
-  | inl upto ↦ (m ∷ n ∷ ms, record { rises = (upto, rises); moves = IsPermutation-refl (m ∷ n ∷ ms); first = λ l first its. first })
+place : (m : LastTime) (ms : List LastTime) → Ascends ms → (ns : List LastTime) × IsPlaced m ms ns
+place m [] ascends = (m ∷ [], record { ascends = (tt, tt); moves = IsPermutation-refl (m ∷ []); first = λ l upto none. upto })
+place m (n ∷ ms) ascends = elim (up_to_cases m n) [
+  | inl upto ↦ (m ∷ n ∷ ms, record { ascends = (upto, ascends); moves = IsPermutation-refl (m ∷ n ∷ ms); first = λ l first its. first })
   | inr later ↦
-      let behind = place m ms rises.1 in
-      (n ∷ behind.0, place_behind m n ms behind.0 rises later behind.1)
+      let behind = place m ms ascends.1 in
+      (n ∷ behind.0, place_behind m n ms behind.0 ascends later behind.1)
 ]
 
-sorted : (ms : List LastTime) → (ns : List LastTime) × Rises ns × IsPermutation ms ns
+sorted : (ms : List LastTime) → (ns : List LastTime) × Ascends ns × IsPermutation ms ns
 sorted [] = ([], tt, IsPermutation-refl [])
 sorted (m ∷ ms) =
     let rest = sorted ms in
     let placed = place m rest.0 rest.1 in
-    (placed.0, placed.1.rises, IsPermutation-trans (m ∷ ms) (m ∷ rest.0) placed.0 (IsPermutation-cons m ms rest.0 rest.2) placed.1.moves)
+    (placed.0, placed.1.ascends, IsPermutation-trans (m ∷ ms) (m ∷ rest.0) placed.0 (IsPermutation-cons m ms rest.0 rest.2) placed.1.moves)
 
 -- ---- an observation at each
 
-some_roots : Laws → (objects : List Data) (texts : List (List ℕ)) → ¬ ((places : List ℕ) → ¬ AreMeant objects texts places)
+some_roots : Laws → (objects : List Data) (texts : List (List ℕ)) → ¬ ((places : List ℕ) → ¬ AreResolved objects texts places)
 some_roots laws objects [] = λ fails. fails [] refl
 some_roots laws objects (text ∷ texts) = λ fails.
     laws.meaning objects text (λ place is. some_roots laws objects texts (λ rest are.
@@ -130,7 +130,7 @@ some_observation laws ds unbroken m number is = λ fails.
     let named = laws.named is.object sound in
     let times = laws.timed is.object sound is.observed in
     let id : Id = record { kind = named.type; number = named.number } in
-    some_roots laws ds (references is.object) (λ roots meant.
+    some_roots laws ds (references is.object) (λ roots resolved.
     fails (record { number = number; id = id; first = times.from; last = m.last; roots = roots }) (record {
       is = record {
         object = is.object;
@@ -140,7 +140,7 @@ some_observation laws ds unbroken m number is = λ fails.
         named = record { text = named.text; there = named.named; reads = named.id };
         first = times.begins;
         last = is.last;
-        roots = meant;
+        roots = resolved;
       };
       last = refl;
     }))

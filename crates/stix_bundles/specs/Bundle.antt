@@ -4,7 +4,7 @@ use Rattle.std.specs.Prelude.{◌≡◌, ◌≢◌, ◌⊎◌, ℕ, ◌+◌, ◌
 use Rattle.serde_json.specs.Data.{Data, Items, no_items, item}
 use Rattle.serde_json.specs.Find.{get, as_array, as_object}
 use Rattle.stix_ids.specs.declared.id.Id.{Id}
-use Rattle.stix_json.specs.Walk.{path_text, place_part}
+use Rattle.stix_json.specs.Walk.{path_text, index_part}
 use Rattle.stix_objects.specs.declared.rule_break.Break.{Break}
 use Rattle.stix_json.specs.Properties.{text_at}
 use Rattle.stix_objects.specs.Breaks.{AreBreaksOf}
@@ -65,7 +65,7 @@ FailsAt d (name ∷ []) = IsObject d × (
     ⊎ ((name ≡ codes "id") × IsTyped d × (¬ IsIdentified d))
     ⊎ ((name ≡ codes "objects") × IsTyped d × IsIdentified d × ((objects : List Data) → ¬ HasObjects d objects)))
 FailsAt d (name ∷ place ∷ []) = (name ≡ codes "objects") × IsObject d × IsTyped d × IsIdentified d
-    × ((objects : List Data) × HasObjects d objects × ((at : ℕ) × (place ≡ place_part at) × IsFirstNoObject objects at))
+    × ((objects : List Data) × HasObjects d objects × ((at : ℕ) × (place ≡ index_part at) × IsFirstNoObject objects at))
 FailsAt d (name ∷ place ∷ more ∷ parts) = ⊥
 
 -- the path tells where the first condition fails

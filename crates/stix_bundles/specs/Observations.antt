@@ -55,10 +55,10 @@ abbrev pub references : Data → List (List ℕ)
 references d = filter_map as_str (option_map_or listed (option_and_then as_array (get (codes "object_refs") d)) [])
 
 -- the places that the texts mean, in their order, and none for a text that means none
-abbrev pub AreMeant : List Data → List (List ℕ) → List ℕ → Type 0
-AreMeant objects [] places = places ≡ []
-AreMeant objects (text ∷ texts) places = (place : Option ℕ) × (rest : List ℕ)
-    × Means objects text place × AreMeant objects texts rest × (places ≡ option_to_list place ++ rest)
+abbrev pub AreResolved : List Data → List (List ℕ) → List ℕ → Type 0
+AreResolved objects [] places = places ≡ []
+AreResolved objects (text ∷ texts) places = (place : Option ℕ) × (rest : List ℕ)
+    × Means objects text place × AreResolved objects texts rest × (places ≡ option_to_list place ++ rest)
 
 -- the observation that the observed-data at the place is, with its number
 pub record IsObservationAt (objects : List Data) (at number : ℕ) (observation : Observation) : Type 0 where
@@ -69,7 +69,7 @@ pub record IsObservationAt (objects : List Data) (at number : ℕ) (observation 
   pub named : HasId object observation.id
   pub first : IsTimestampAt Any (codes "first_observed") object observation.first
   pub last : IsTimestampAt Any (codes "last_observed") object observation.last
-  pub roots : AreMeant objects (references object) observation.roots
+  pub roots : AreResolved objects (references object) observation.roots
 
 -- an observation, and the place of its object
 pub record ObservationAt : Type 0 where

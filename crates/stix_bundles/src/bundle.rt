@@ -10,7 +10,7 @@ use crate::index::Index;
 use crate::latest::latest_of;
 use flow_values::Items;
 use std::marker::Model;
-use stix_ids::Parts;
+use stix_ids::IdRef;
 use stix_json::Json;
 
 /// A bundle. Contracts see the list of its objects.
@@ -72,11 +72,11 @@ impl Bundle {
     }
 
     /// The position of the latest version of an identifier. Takes no memory.
-    pub(crate) fn latest(&self, id: Parts<'_>) -> Option<u32>
+    pub(crate) fn latest(&self, id: IdRef<'_>) -> Option<u32>
         ensures { IsPositionOf (data_in self.now) (id_of id.entry) result }
     {
         match &self.index {
-            Index::Few => latest_of(self.objects.as_slice(), id),
+            Index::Unindexed => latest_of(self.objects.as_slice(), id),
             Index::Many(positions) => positions.get(id),
         }
     }

@@ -1,12 +1,12 @@
 use crate::positions::Positions;
 
 /// How many objects are few: up to so many no positions are kept.
-pub(crate) const FEW_OBJECTS: usize = 4;
+pub(crate) const MAX_UNINDEXED_OBJECTS: usize = 4;
 
 /// Where the latest versions of a bundle's objects stand.
 #[derive(Drop)]
 pub(crate) enum Index {
     /// The objects are few: to go over them costs less than to keep positions, and takes no memory.
-    Few,
+    Unindexed,
     Many(Positions),
 }

@@ -4,15 +4,15 @@ ghost use Rattle.stix_ids.specs.PartsOf.{id_of};
 ghost use Rattle.stix_bundles.specs.Objects.{data_in};
 ghost use Rattle.stix_bundles.specs.Lookup.{IsEarlier, IsOf, IsLatest};
 ghost use Rattle.stix_bundles.specs.declared.outline.TheConstants.{MAX_OBJECTS};
-ghost use Rattle.stix_bundles.specs.inner.Index.{IsPositionOf, ArePositionsOf, IsIndexOf, Overtakes};
+ghost use Rattle.stix_bundles.specs.inner.Index.{IsPositionOf, ArePositionsOf, IsIndexOf, Supersedes};
 
-use crate::index::{FEW_OBJECTS, Index};
+use crate::index::{MAX_UNINDEXED_OBJECTS, Index};
 use crate::laws::one_modified;
 use crate::positions::Positions;
 use crate::property::{has_id, modified};
 use flow_values::NoMemory;
 use std::alloc::Global;
-use stix_ids::Parts;
+use stix_ids::IdRef;
 use stix_json::Json;
 use stix_objects::laws::one_id;
 use stix_objects::object_id;
@@ -24,8 +24,8 @@ pub(crate) fn index_of(alloc: Global, objects: &[Json]) -> Result<Index, NoMemor
     requires { length objects.now ≤ MAX_OBJECTS }
     ensures { IfOk result (IsIndexOf (data_in objects.now)) }
 {
-    if objects.len() <= FEW_OBJECTS {
-        return Ok(Index::Few);
+    if objects.len() <= MAX_UNINDEXED_OBJECTS {
+        return Ok(Index::Unindexed);
     }
     let positions = positions_of(alloc, objects)?;
     Ok(Index::Many(positions))
@@ -65,7 +65,7 @@ fn add(
 
 /// The position of the latest version of an identifier, found by going over the objects. Takes no
 /// memory.
-pub(crate) fn latest_of(objects: &[Json], id: Parts<'_>) -> Option<u32>
+pub(crate) fn latest_of(objects: &[Json], id: IdRef<'_>) -> Option<u32>
     requires { length objects.now ≤ MAX_OBJECTS }
     ensures { IsPositionOf (data_in objects.now) (id_of id.entry) result }
 {
@@ -91,7 +91,7 @@ fn later(objects: &[Json], held: Option<u32>, at: usize) -> u32
     let Some(held) = held else {
         return at as u32;
     };
-    if is_overtaken(objects, held, time) {
+    if is_superseded(objects, held, time) {
         held
     } else {
         at as u32
@@ -99,8 +99,8 @@ fn later(objects: &[Json], held: Option<u32>, at: usize) -> u32
 }
 
 /// Whether an object stands at the position that was modified later than that time.
-fn is_overtaken(objects: &[Json], at: u32, time: Option<Instant>) -> bool
-    ensures { IsTrue result ↔ Overtakes (data_in objects.now) (Some at) time }
+fn is_superseded(objects: &[Json], at: u32, time: Option<Instant>) -> bool
+    ensures { IsTrue result ↔ Supersedes (data_in objects.now) (Some at) time }
 {
     one_modified();
     match objects.get(at as usize) {

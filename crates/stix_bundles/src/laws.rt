@@ -27,8 +27,8 @@ pub fn one_modified()
 pub fn one_meaning()
     ensures one { (objects : List Data) (text : List ℕ) (first second : Option ℕ)
         → Means objects text first → Means objects text second → first ≡ second }
-    ensures same { (objects : List Data) (id : Id) (text other : List ℕ) (meant : Option ℕ)
-        → IsTextOf text id → IsTextOf other id → Means objects text meant → Means objects other meant }
+    ensures same { (objects : List Data) (id : Id) (text other : List ℕ) (resolved : Option ℕ)
+        → IsTextOf text id → IsTextOf other id → Means objects text resolved → Means objects other resolved }
     ensures own { (objects : List Data) (id : Id) (at : ℕ) (text : List ℕ) → IsOf objects id at
         → IsTextOf text id → ¬ Means objects text None }
 {
@@ -38,7 +38,7 @@ pub fn one_meaning()
 
 /// No text is without a meaning: a place, or none.
 pub fn some_meaning()
-    ensures { (objects : List Data) (text : List ℕ) → ¬ ((meant : Option ℕ) → ¬ Means objects text meant) }
+    ensures { (objects : List Data) (text : List ℕ) → ¬ ((resolved : Option ℕ) → ¬ Means objects text resolved) }
 {
     one_identifier();
     one_modified();

@@ -7,7 +7,7 @@ ghost use Rattle.stix_bundles.specs.Objects.{data_in};
 ghost use Rattle.stix_bundles.specs.declared.outline.TheConstants.{MAX_OBJECTS};
 ghost use Rattle.stix_objects.specs.Properties.{IsTimestampAt, HasId};
 ghost use Rattle.stix_bundles.specs.Lookup.{Means};
-ghost use Rattle.stix_bundles.specs.Observations.{how_many, NoneEmbeds, Embeds, IsFirstEmbedding, IsObservedData, references, AreMeant, IsObservationAt, AreObservations, AreRefused};
+ghost use Rattle.stix_bundles.specs.Observations.{how_many, NoneEmbeds, Embeds, IsFirstEmbedding, IsObservedData, references, AreResolved, IsObservationAt, AreObservations, AreRefused};
 ghost use Rattle.stix_bundles.specs.inner.LastTimes.{IsLastTimeOf, AreObservationsAt};
 
 use crate::last_time::{LastTime, last_times_in_order};
@@ -143,10 +143,10 @@ fn first_observed(object: &Json) -> Instant
 
 /// The positions that an object's references mean.
 fn roots_of(alloc: Global, bundle: &Bundle, object: &Json) -> Result<Items<u32>, NoMemory>
-    ensures { IfOk result (AreMeant (data_in bundle.now) (references (data_of object.now))) }
+    ensures { IfOk result (AreResolved (data_in bundle.now) (references (data_of object.now))) }
 {
     match get(object, "object_refs") {
-        Some(Json::Array(items)) => meant(alloc, bundle, items.as_slice()),
+        Some(Json::Array(items)) => resolved(alloc, bundle, items.as_slice()),
         Some(Json::Bool(_) | Json::Integer(_) | Json::String(_) | Json::Object(_)) | None => {
             Ok(Items::new(alloc))
         }
@@ -154,8 +154,8 @@ fn roots_of(alloc: Global, bundle: &Bundle, object: &Json) -> Result<Items<u32>,
 }
 
 /// The positions that the texts of a list mean.
-fn meant(alloc: Global, bundle: &Bundle, items: &[Json]) -> Result<Items<u32>, NoMemory>
-    ensures { IfOk result (AreMeant (data_in bundle.now) (filter_map as_str (data_in items.now))) }
+fn resolved(alloc: Global, bundle: &Bundle, items: &[Json]) -> Result<Items<u32>, NoMemory>
+    ensures { IfOk result (AreResolved (data_in bundle.now) (filter_map as_str (data_in items.now))) }
 {
     let mut places = Items::new(alloc);
     for item in items {

@@ -1,6 +1,6 @@
 ghost use Rattle.std.specs.Prelude.{◌≡◌, ◌↔◌, ◌≤◌, ◌∷◌, [], List, All, IsTrue, IfSome, IfNone, IfOk, Ok, Some, codes, length};
 ghost use Rattle.serde_json.specs.Data.{Data};
-ghost use Rattle.stix_json.specs.Walk.{path_text, place_part};
+ghost use Rattle.stix_json.specs.Walk.{path_text, index_part};
 ghost use Rattle.stix_json.specs.DataOf.{data_of};
 ghost use Rattle.stix_bundles.specs.Objects.{data_in};
 ghost use Rattle.stix_bundles.specs.Bundle.{IsObject, IsIdentified, IsListOf, FailsAt, IsOutlined};
@@ -44,7 +44,7 @@ impl Failure {
 
 /// The path to a member of `objects`.
 fn member_path(alloc: Global, at: u32) -> Result<Text, NoMemory>
-    ensures { IfOk result (λ path. path ≡ path_text (codes "objects" ∷ place_part at ∷ [])) }
+    ensures { IfOk result (λ path. path ≡ path_text (codes "objects" ∷ index_part at ∷ [])) }
 {
     let text = format!(in alloc; "objects.[{at}]")?;
     Ok(Text::from_string(text))

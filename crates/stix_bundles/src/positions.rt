@@ -6,7 +6,7 @@ ghost use Rattle.stix_bundles.specs.inner.Index.{position_of, Puts};
 use flow_values::NoMemory;
 use std::alloc::Global;
 use std::collections::BTreeMap;
-use stix_ids::Parts;
+use stix_ids::IdRef;
 
 /// A position for each of some identifiers, by the identifier's kind and number.
 #[derive(Drop)]
@@ -25,7 +25,7 @@ impl Positions {
     }
 
     /// The position of an identifier. Takes no memory.
-    pub(crate) fn get(&self, id: Parts<'_>) -> Option<u32>
+    pub(crate) fn get(&self, id: IdRef<'_>) -> Option<u32>
         ensures { result ≡ position_of self.now (id_of id.entry) }
     {
         let numbers = self.kinds.get(id.kind)?;
@@ -33,7 +33,7 @@ impl Positions {
     }
 
     /// Keeps a position as that of an identifier, in place of another.
-    pub(crate) fn put(&mut self, alloc: Global, id: Parts<'_>, at: u32) -> Result<(), NoMemory>
+    pub(crate) fn put(&mut self, alloc: Global, id: IdRef<'_>, at: u32) -> Result<(), NoMemory>
         ensures { OnOk result (Puts self.old self.new (id_of id.entry) at) }
     {
         if let Some(numbers) = self.kinds.get_mut(id.kind) {

@@ -5,7 +5,7 @@ ghost use Rattle.stix_objects.specs.Properties.{HasId};
 ghost use Rattle.stix_bundles.specs.Lookup.{IsModified};
 ghost use Rattle.stix_bundles.specs.Observations.{IsObservedData};
 
-use stix_ids::Parts;
+use stix_ids::IdRef;
 use stix_json::{Json, text_at};
 use stix_objects::laws::one_id;
 use stix_objects::{Precision, object_id, timestamp_at};
@@ -19,7 +19,7 @@ pub(crate) fn modified(object: &Json) -> Option<Instant>
 }
 
 /// Whether an object has the identifier. Takes no memory.
-pub(crate) fn has_id(object: &Json, id: Parts<'_>) -> bool
+pub(crate) fn has_id(object: &Json, id: IdRef<'_>) -> bool
     ensures { IsTrue result ↔ HasId (data_of object.now) (id_of id.entry) }
 {
     one_id();

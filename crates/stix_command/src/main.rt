@@ -1,7 +1,7 @@
 //! The program `stix_command`: STIX 2.1 patterns matched against observed data, and a TAXII 2.1 server.
 #![tactic(auto)]
 
-use command_line::program_words;
+use command_line::program_arguments;
 use command_reasons::write_no_memory;
 use command_run::run;
 use flow_edges::{ReadSource, WriteSink};
@@ -11,8 +11,8 @@ use std::process::ExitCode;
 use taxii_sqlite::{SqliteKeeper, Start, Unknown};
 
 fn main(rt: HostRuntime) -> ExitCode {
-    match program_words(&rt) {
-        Ok(words) => ExitCode::from(run_over(rt, &words, Unknown)),
+    match program_arguments(&rt) {
+        Ok(arguments) => ExitCode::from(run_over(rt, &arguments, Unknown)),
         Err(NoMemory) => {
             let _ = write_no_memory(&mut WriteSink::new(rt.stderr()));
             ExitCode::from(1)
@@ -21,11 +21,11 @@ fn main(rt: HostRuntime) -> ExitCode {
 }
 
 /// Runs the program over the outside that the system has, with a file that held what `S` stands for, and answers its status.
-fn run_over<S: Start>(rt: HostRuntime, words: &[String], start: S) -> u8 {
+fn run_over<S: Start>(rt: HostRuntime, arguments: &[String], start: S) -> u8 {
     let mut keeper = SqliteKeeper::new(rt, start);
     let status = run(
         rt.alloc(),
-        words,
+        arguments,
         &mut ReadSource::new(rt.stdin()),
         &mut WriteSink::new(rt.stdout()),
         &mut WriteSink::new(rt.stderr()),

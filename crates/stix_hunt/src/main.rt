@@ -3,7 +3,7 @@
 #![tactic(auto)]
 
 use command_hunt::run_hunt;
-use command_line::program_words;
+use command_line::program_arguments;
 use command_reasons::write_no_memory;
 use flow_edges::{ReadSource, WriteSink};
 use flow_edges::SystemFiles;
@@ -14,8 +14,8 @@ fn main(rt: HostRuntime) -> ExitCode {
     let mut input = ReadSource::new(rt.stdin());
     let mut output = WriteSink::new(rt.stdout());
     let mut faults = WriteSink::new(rt.stderr());
-    let words = match program_words(&rt) {
-        Ok(words) => words,
+    let arguments = match program_arguments(&rt) {
+        Ok(arguments) => arguments,
         Err(NoMemory) => {
             let _ = write_no_memory(&mut faults);
             return ExitCode::from(1);
@@ -23,7 +23,7 @@ fn main(rt: HostRuntime) -> ExitCode {
     };
     let status = run_hunt(
         rt.alloc(),
-        &words,
+        &arguments,
         &mut SystemFiles::new(&rt),
         &mut input,
         &mut output,

@@ -3,7 +3,7 @@ use Rattle.std.proofs.Common.{◌≡◌, ◌≢◌, ℕ, ◌+◌, List, ◌∷�
 use Rattle.std.proofs.lemmas.List.{take_at, drop_at}
 use Rattle.stix_ids.specs.declared.id.Id.{Id}
 use Rattle.stix_ids.specs.declared.refusal.IdRefusal.{IdRefusal}
-use Rattle.stix_ids.specs.declared.refusal.IdRefusal.TheVariants.{NoMark, BadUuid, BadKind, NoMemory}
+use Rattle.stix_ids.specs.declared.refusal.IdRefusal.TheVariants.{NoSeparator, BadUuid, BadKind, NoMemory}
 use Rattle.stix_ids.specs.Kind.{IsKind, IsLongestKindPrefix}
 use Rattle.stix_ids.specs.Uuid.{IsUuidOf, IsUuid, uuid_text}
 use Rattle.stix_ids.specs.Identifier.{IsCut, IsTextOf, IsCanonicalTextOf}
@@ -40,7 +40,7 @@ one_identifier s a b p q =
 
 -- a text that names an identifier is refused for want of memory alone
 pub not_refused : (s : List ℕ) (a : Id) (e : IdRefusal) → IsTextOf s a → IsRefused s e → e ≡ NoMemory
-not_refused s a NoMark p q = absurd (q (a.kind, p.uuid, p.cut))
+not_refused s a NoSeparator p q = absurd (q (a.kind, p.uuid, p.cut))
 not_refused s a BadUuid p q = absurd (q.3 (a.number, subst (λ u. IsUuidOf u a.number) (same_last s a.kind p.uuid q.0 q.1 p.cut q.2) p.number))
 not_refused s a (BadKind at) p q = absurd (q.3.1 (subst IsKind (same_front s a.kind p.uuid q.0 q.1 p.cut q.2) p.kind))
 not_refused s a NoMemory p q = refl
@@ -49,13 +49,13 @@ not_refused s a NoMemory p q = refl
 pub one_refusal : (s : List ℕ) (d e : IdRefusal) → d ≢ NoMemory → e ≢ NoMemory → IsRefused s d → IsRefused s e → d ≡ e
 one_refusal s NoMemory e m n p q = absurd (m refl)
 one_refusal s d NoMemory m n p q = absurd (n refl)
-one_refusal s NoMark NoMark m n p q = refl
-one_refusal s NoMark BadUuid m n p q = absurd (p (q.0, q.1, q.2))
-one_refusal s NoMark (BadKind at) m n p q = absurd (p (q.0, q.1, q.2))
-one_refusal s BadUuid NoMark m n p q = absurd (q (p.0, p.1, p.2))
+one_refusal s NoSeparator NoSeparator m n p q = refl
+one_refusal s NoSeparator BadUuid m n p q = absurd (p (q.0, q.1, q.2))
+one_refusal s NoSeparator (BadKind at) m n p q = absurd (p (q.0, q.1, q.2))
+one_refusal s BadUuid NoSeparator m n p q = absurd (q (p.0, p.1, p.2))
 one_refusal s BadUuid BadUuid m n p q = refl
 one_refusal s BadUuid (BadKind at) m n p q = absurd (p.3 (subst IsUuid (same_last s q.0 q.1 p.0 p.1 q.2 p.2) q.3.0))
-one_refusal s (BadKind at) NoMark m n p q = absurd (q (p.0, p.1, p.2))
+one_refusal s (BadKind at) NoSeparator m n p q = absurd (q (p.0, p.1, p.2))
 one_refusal s (BadKind at) BadUuid m n p q = absurd (q.3 (subst IsUuid (same_last s p.0 p.1 q.0 q.1 p.2 q.2) p.3.0))
 one_refusal s (BadKind at) (BadKind place) m n p q =
     ap BadKind (one_place q.0 at place (subst (λ f. IsLongestKindPrefix f at) (same_front s p.0 p.1 q.0 q.1 p.2 q.2) p.3.2) q.3.2)

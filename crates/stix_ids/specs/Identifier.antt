@@ -11,8 +11,8 @@ pub record IsCut (text front last : List ℕ) : Type 0 where
   pub parts : text ≡ front ++ 45 ∷ 45 ∷ last
 
 -- `--` stands before the last 36 bytes
-abbrev pub HasMark : List ℕ → Type 0
-HasMark text = (front last : List ℕ) × IsCut text front last
+abbrev pub HasSeparator : List ℕ → Type 0
+HasSeparator text = (front last : List ℕ) × IsCut text front last
 
 -- the text is the identifier's: its kind, `--` and its UUID
 pub record IsTextOf (text : List ℕ) (id : Id) : Type 0 where

@@ -19,7 +19,7 @@ fn check_kind(bytes: &[u8]) -> Result<(), usize>
     ensures ok { IsOk result ↔ IsKind bytes.now }
     ensures err { IfErr result (IsLongestKindPrefix bytes.now) }
 {
-    let at = fitting_length(bytes);
+    let at = longest_prefix_length(bytes);
     if at < bytes.len() || at < LEAST_LENGTH {
         return Err(at);
     }
@@ -27,7 +27,7 @@ fn check_kind(bytes: &[u8]) -> Result<(), usize>
 }
 
 /// How many bytes from the start begin a kind.
-fn fitting_length(bytes: &[u8]) -> usize
+fn longest_prefix_length(bytes: &[u8]) -> usize
     ensures { IsLongestKindPrefix bytes.now result }
 {
     let end = bytes.len().min(GREATEST_LENGTH);

@@ -16,7 +16,7 @@ mod writing;
 pub use hyphenated::{read_uuid, write_uuid};
 pub use id::Id;
 pub use kind::read_kind;
-pub use parts::Parts;
+pub use parts::IdRef;
 pub use pick::Pick;
 pub use reading::{is_of_kind, is_text_of, read_id};
 pub use refusal::IdRefusal;

@@ -1,7 +1,7 @@
 ghost use Rattle.std.specs.Prelude.{◌≡◌, ◌≢◌, IsOkAnd, IfOk, IfErr, IfSome, IfNone};
 ghost use Rattle.stix_ids.specs.declared.refusal.IdRefusal.TheVariants.{NoMemory};
 ghost use Rattle.stix_ids.specs.declared.id.Id.{Id};
-ghost use Rattle.stix_ids.specs.Identifier.{IsCut, HasMark, IsTextOf};
+ghost use Rattle.stix_ids.specs.Identifier.{IsCut, HasSeparator, IsTextOf};
 ghost use Rattle.stix_ids.specs.Reading.{IsRefused};
 ghost use Rattle.stix_ids.specs.PartsOf.{id_of};
 
@@ -9,43 +9,43 @@ use crate::IdRefusal;
 use crate::hyphenated::read_number;
 use crate::kind::read_kind;
 
-/// How many bytes the mark and the UUID have.
-pub(crate) const MARKED_LENGTH: usize = 38;
+/// How many bytes the separator and the UUID have.
+pub(crate) const SUFFIX_LENGTH: usize = 38;
 
 /// An identifier that lies in a text: its kind, lent, and the number of its UUID.
 #[derive(Clone, Copy, Debug, PartialEq, Eq)]
-pub struct Parts<'a> {
+pub struct IdRef<'a> {
     pub kind: &'a str,
     pub number: u128,
 }
 
-impl<'a> Parts<'a> {
+impl<'a> IdRef<'a> {
     /// The parts of the identifier that the text is, or why it is none. Takes no memory, and never
     /// answers that it wants some.
-    pub fn read(text: &'a str) -> Result<Parts<'a>, IdRefusal>
+    pub fn read(text: &'a str) -> Result<IdRef<'a>, IdRefusal>
         ensures ok { IfOk result (λ parts. IsTextOf text.now (id_of parts)) }
         ensures err { IfErr result (λ refusal. (refusal ≢ NoMemory) × IsRefused text.now refusal) }
         ensures named { (id : Id) → IsTextOf text.now id → IsOkAnd result (λ parts. id_of parts ≡ id) }
     {
-        let Some((kind, last)) = cut_at_mark(text) else {
-            return Err(IdRefusal::NoMark);
+        let Some((kind, last)) = split_at_separator(text) else {
+            return Err(IdRefusal::NoSeparator);
         };
         let Some(number) = read_number(last) else {
             return Err(IdRefusal::BadUuid);
         };
         match read_kind(kind) {
-            Ok(()) => Ok(Parts { kind, number }),
+            Ok(()) => Ok(IdRef { kind, number }),
             Err(at) => Err(IdRefusal::BadKind { at }),
         }
     }
 }
 
-/// What stands before the mark and the 36 bytes behind it.
-fn cut_at_mark(text: &str) -> Option<(&str, &[u8])>
+/// What stands before the separator and the 36 bytes behind it.
+fn split_at_separator(text: &str) -> Option<(&str, &[u8])>
     ensures some { IfSome result (λ cut. IsCut text.now cut.0.now cut.1.now) }
-    ensures none { IfNone result (¬ HasMark text.now) }
+    ensures none { IfNone result (¬ HasSeparator text.now) }
 {
-    let at = text.len().checked_sub(MARKED_LENGTH)?;
+    let at = text.len().checked_sub(SUFFIX_LENGTH)?;
     let bytes = text.as_bytes();
     if bytes[at] != b'-' || bytes[at + 1] != b'-' {
         return None;

@@ -5,7 +5,7 @@ ghost use Rattle.stix_ids.specs.declared.refusal.IdRefusal.TheVariants.{NoMemory
 ghost use Rattle.stix_ids.specs.Identifier.{IsTextOf, IsOfKind};
 ghost use Rattle.stix_ids.specs.Reading.{IsRefused};
 
-use crate::parts::Parts;
+use crate::parts::IdRef;
 use crate::{Id, IdRefusal};
 use std::alloc::Global;
 use flow_values::Name;
@@ -19,7 +19,7 @@ pub fn read_id(alloc: Global, text: &str) -> Result<Id, IdRefusal>
     ensures refused { (refusal : IdRefusal) → refusal ≢ NoMemory → IsRefused text.now refusal
         → result ≡ Err refusal }
 {
-    let parts = Parts::read(text)?;
+    let parts = IdRef::read(text)?;
     let kind = Name::from_text(alloc, parts.kind)?;
     Ok(Id {
         kind,
@@ -31,7 +31,7 @@ pub fn read_id(alloc: Global, text: &str) -> Result<Id, IdRefusal>
 pub fn is_of_kind(text: &str, kind: &str) -> bool
     ensures { IsTrue result ↔ IsOfKind text.now kind.now }
 {
-    match Parts::read(text) {
+    match IdRef::read(text) {
         Ok(parts) => parts.kind == kind,
         Err(_) => false,
     }
@@ -41,7 +41,7 @@ pub fn is_of_kind(text: &str, kind: &str) -> bool
 pub fn is_text_of(id: &Id, text: &str) -> bool
     ensures { IsTrue result ↔ IsTextOf text.now id.now }
 {
-    match Parts::read(text) {
+    match IdRef::read(text) {
         Ok(parts) => parts.number == id.number && parts.kind == id.kind.as_str(),
         Err(_) => false,
     }

@@ -6,11 +6,11 @@ use thiserror::Error;
 pub enum IdRefusal {
     /// No `--` stands before the last 36 bytes, or there are fewer than 38 bytes.
     #[error("no `--` before the last 36 bytes")]
-    NoMark,
+    NoSeparator,
     /// The last 36 bytes are no UUID in hyphenated form.
     #[error("the last 36 bytes are no UUID")]
     BadUuid,
-    /// What stands before the mark is no kind: only its first `at` bytes begin one.
+    /// What stands before the separator is no kind: only its first `at` bytes begin one.
     #[error("not a kind after {at} bytes")]
     BadKind { at: usize },
     /// The text is an identifier's, and memory ran out.

@@ -4,7 +4,7 @@ ghost use Rattle.stix_ids.specs.Identifier.{IsCanonicalTextOf};
 
 use crate::Id;
 use crate::hyphenated::write_uuid;
-use crate::parts::MARKED_LENGTH;
+use crate::parts::SUFFIX_LENGTH;
 use flow_values::{NoMemory, Text};
 use std::alloc::Global;
 
@@ -16,7 +16,7 @@ pub fn write_id(alloc: Global, id: &Id) -> Result<Text, NoMemory>
     let kind = id.kind.as_str();
     let mut buffer = [0; 36];
     let uuid = write_uuid(id.number, &mut buffer);
-    let mut text = String::with_capacity(alloc, kind.len() + MARKED_LENGTH)?;
+    let mut text = String::with_capacity(alloc, kind.len() + SUFFIX_LENGTH)?;
     text.push_str(kind)?;
     text.push_str("--")?;
     text.push_str(uuid)?;

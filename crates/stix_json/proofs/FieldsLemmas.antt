@@ -1,4 +1,4 @@
--- Fields whose names rise: each stands before all later ones, and a name finds one of them at most.
+-- Fields whose names ascend: each stands before all later ones, and a name finds one of them at most.
 use Rattle.std.proofs.Common.{◌≡◌, ◌≢◌, ◌⊎◌, inl, inr, ℕ, zero, suc, ◌<◌, ◌≤◌, List, [], ◌∷◌, length, map, Some, None, Option, Result, Ok, Err, slice_get, unwrap_or, IsTrue, ◌↔◌, ◌+◌, Bool, true, drop, is_lt, Ordering, Less, Equal, Greater, nat_cmp, get_or, refl, sym, ap, subst, ◌∙◌, arith}
 use Rattle.std.specs.Ordering.{ordering_index, ordering_reverse, match_ordering}
 use Rattle.std.specs.List.{HoldsAt}
@@ -27,12 +27,12 @@ after_first name (f ∷ fs) before ordered (suc j) d within =
     nat_list_cmp_total.trans name f.name (get_or fs j d).name before (after_first f.name fs ordered.0 ordered.2 j d (omega arith))
 
 -- an earlier field's name is before a later one's
-rising : (fields : List Field) → MembersAreOrdered (named fields) → (i j : ℕ) (d : Field) → i < j → j < length fields
+ascending : (fields : List Field) → MembersAreOrdered (named fields) → (i j : ℕ) (d : Field) → i < j → j < length fields
     → slice_cmp nat_cmp (get_or fields i d).name (get_or fields j d).name ≡ Less
-rising [] ordered i j d below within = absurd (omega arith)
-rising (f ∷ fs) ordered i zero d below within = absurd (omega arith)
-rising (f ∷ fs) ordered zero (suc j) d below within = after_first f.name fs ordered.0 ordered.2 j d (omega arith)
-rising (f ∷ fs) ordered (suc i) (suc j) d below within = rising fs ordered.2 i j d (omega arith) (omega arith)
+ascending [] ordered i j d below within = absurd (omega arith)
+ascending (f ∷ fs) ordered i zero d below within = absurd (omega arith)
+ascending (f ∷ fs) ordered zero (suc j) d below within = after_first f.name fs ordered.0 ordered.2 j d (omega arith)
+ascending (f ∷ fs) ordered (suc i) (suc j) d below within = ascending fs ordered.2 i j d (omega arith) (omega arith)
 
 -- what is before a name that is this one is before this one
 less_of_equal : (a b name : List ℕ) → slice_cmp nat_cmp a b ≡ Less → slice_cmp nat_cmp b name ≡ Equal → slice_cmp nat_cmp a name ≡ Less
@@ -61,7 +61,7 @@ step_by a b name less Greater is = greater_highest (slice_cmp nat_cmp a name)
 at_places : (name : List ℕ) (fields : List Field) → MembersAreOrdered (named fields) → (i j : ℕ) (d : Field) → j < length fields → (i < j) ⊎ (i ≡ j)
     → ordering_index (slice_cmp nat_cmp (get_or fields i d).name name) ≤ ordering_index (slice_cmp nat_cmp (get_or fields j d).name name)
 at_places name fields ordered i j d within (inl below) =
-    step_by (get_or fields i d).name (get_or fields j d).name name (rising fields ordered i j d below within) (slice_cmp nat_cmp (get_or fields j d).name name) refl
+    step_by (get_or fields i d).name (get_or fields j d).name name (ascending fields ordered i j d below within) (slice_cmp nat_cmp (get_or fields j d).name name) refl
 at_places name fields ordered i j d within (inr same) =
     rw same (omega arith)
 

@@ -1,4 +1,4 @@
-pub mod FlawsLemmas
+pub mod ValueErrorsLemmas
 pub mod WalkLemmas
 pub mod OrderedLemmas
 pub mod NamingLemmas
@@ -6,11 +6,11 @@ pub mod WriteLemmas
 pub mod ReadingLemmas
 pub mod DataOfLemmas
 pub mod FieldsLemmas
-pub mod PuttingLemmas
-pub mod DefectLemmas
-pub mod JudgedLemmas
+pub mod InsertionLemmas
+pub mod FirstErrorLemmas
+pub mod CheckedLemmas
 pub mod TokensLemmas
-pub mod HeldLemmas
+pub mod PropertyValueLemmas
 mod SomeJsonLemmas
 mod OneJsonLemmas
 pub mod PropertiesLemmas

@@ -1,4 +1,4 @@
--- What is read has its names in rising order.
+-- What is read has its names in ascending order.
 use Rattle.std.proofs.Common.{◌≡◌, ℕ, List, Option, Some, None, option_map, option_and_then, Ordering, Less, Equal, Greater, nat_cmp, refl, sym, ap, subst, ◌∙◌}
 use Rattle.std.specs.Prelude.{⊤}
 use Rattle.std.proofs.lemmas.Cmp.{nat_list_cmp_total}
@@ -24,23 +24,23 @@ before_by l k m d e ms more less h Less = less
 before_by l k m d e ms more less h Equal = h
 before_by l k m d e ms more less h Greater = h
 
-pub put_before : (l k : List ℕ) (d : Data) (ms : Members) → slice_cmp nat_cmp l k ≡ Less → IsNameBefore l ms → IsNameBefore l (put k d ms)
-put_before l k d no_members less h = less
-put_before l k d (member m e ms) less h = before_by l k m d e ms (put k d ms) less h (slice_cmp nat_cmp k m)
+pub insert_before : (l k : List ℕ) (d : Data) (ms : Members) → slice_cmp nat_cmp l k ≡ Less → IsNameBefore l ms → IsNameBefore l (put k d ms)
+insert_before l k d no_members less h = less
+insert_before l k d (member m e ms) less h = before_by l k m d e ms (put k d ms) less h (slice_cmp nat_cmp k m)
 
 pub turned : (k l : List ℕ) → slice_cmp nat_cmp k l ≡ Greater → slice_cmp nat_cmp l k ≡ Less
 turned k l is = nat_list_cmp_total.antisymm l k ∙ ap ordering_reverse is
 
-put_by : (k l : List ℕ) (d e : Data) (ms more : Members) → IsOrdered d → MembersAreOrdered (member l e ms) → (slice_cmp nat_cmp l k ≡ Less → IsNameBefore l more) → MembersAreOrdered more
+insert_by : (k l : List ℕ) (d e : Data) (ms more : Members) → IsOrdered d → MembersAreOrdered (member l e ms) → (slice_cmp nat_cmp l k ≡ Less → IsNameBefore l more) → MembersAreOrdered more
     → (o : Ordering) → slice_cmp nat_cmp k l ≡ o → MembersAreOrdered (match_ordering o (member k d (member l e ms)) (member l d ms) (member l e more))
-put_by k l d e ms more hd h above rest Less is = (is, hd, h)
-put_by k l d e ms more hd h above rest Equal is = (h.0, hd, h.2)
-put_by k l d e ms more hd h above rest Greater is = (above (turned k l is), h.1, rest)
+insert_by k l d e ms more hd h above rest Less is = (is, hd, h)
+insert_by k l d e ms more hd h above rest Equal is = (h.0, hd, h.2)
+insert_by k l d e ms more hd h above rest Greater is = (above (turned k l is), h.1, rest)
 
-pub put_ordered : (k : List ℕ) (d : Data) (ms : Members) → IsOrdered d → MembersAreOrdered ms → MembersAreOrdered (put k d ms)
-put_ordered k d no_members hd h = (tt, hd, tt)
-put_ordered k d (member l e ms) hd h =
-    put_by k l d e ms (put k d ms) hd h (λ less. put_before l k d ms less h.0) (put_ordered k d ms hd h.2) (slice_cmp nat_cmp k l) refl
+pub insert_ordered : (k : List ℕ) (d : Data) (ms : Members) → IsOrdered d → MembersAreOrdered ms → MembersAreOrdered (put k d ms)
+insert_ordered k d no_members hd h = (tt, hd, tt)
+insert_ordered k d (member l e ms) hd h =
+    insert_by k l d e ms (put k d ms) hd h (λ less. insert_before l k d ms less h.0) (insert_ordered k d ms hd h.2) (slice_cmp nat_cmp k l) refl
 
 bound : {B : Type 0} (P : B → Type 0) (f : Data → Option B) → ((d : Data) → IsOrdered d → On P (f d)) → (o : Option Data) → On IsOrdered o → On P (option_and_then f o)
 bound P f next None h = tt
@@ -79,7 +79,7 @@ mutual
   members_ordered : (ms : json.Members) (found : Members) → MembersAreOrdered found → On MembersAreOrdered (of_members ms found)
   members_ordered json.no_members found h = h
   members_ordered (json.member k j ms) found h =
-      bound MembersAreOrdered (λ d. of_members ms (put k d found)) (λ d hd. members_ordered ms (put k d found) (put_ordered k d found hd h)) (of_json j) (json_ordered j)
+      bound MembersAreOrdered (λ d. of_members ms (put k d found)) (λ d hd. members_ordered ms (put k d found) (insert_ordered k d found hd h)) (of_json j) (json_ordered j)
 
 whole_ordered : (o : Option json.Json) → On IsOrdered (option_and_then of_json o)
 whole_ordered None = tt

@@ -1,51 +1,51 @@
 -- The properties of an object: the last of a name as they are gone through, and what an object has under a name by what they hold.
 use Rattle.std.proofs.Common.{◌≡◌, ℕ, ◌+◌, ◌<◌, List, ◌∷◌, [], ◌++◌, Bool, true, false, bytes_eq, ◌⊎◌, inl, inr, Option, None, Some, option_map, take, length, get_or, if◌then◌else◌, refl, sym, ap, subst, ◌∙◌}
 use Rattle.std.proofs.lemmas.List.{take_more}
-use Rattle.stix_json.specs.declared.held.Property.{Property}
-use Rattle.stix_json.specs.declared.held.Held.{Held}
-use Rattle.stix_json.specs.inner.Putting.{last_named}
+use Rattle.stix_json.specs.declared.property_value.Property.{Property}
+use Rattle.stix_json.specs.declared.property_value.PropertyValue.{PropertyValue}
+use Rattle.stix_json.specs.inner.Insertion.{last_named}
 use Rattle.serde_json.specs.Data.{Data, Members, object, no_items}
 use Rattle.serde_json.specs.Find.{get_member}
 use Rattle.stix_json.specs.Entries.{list_or_none}
-use Rattle.stix_json.specs.inner.Held.{property_name, MayBeHeld, HoldsProperties}
+use Rattle.stix_json.specs.inner.PropertyValue.{property_name, MayBePropertyValue, HoldsProperties}
 use Rattle.stix_json.specs.declared.refusal.JsonRefusal.{JsonRefusal}
 use Rattle.stix_json.specs.declared.refusal.JsonRefusal.TheVariants.{NotList, NoMemory as OutOfMemory}
 use Rattle.stix_json.specs.Envelopes.{more_in, next_in, IsNoPage, HasNoEnvelopeAs}
 use Rattle.stix_json.specs.Reading.{IsValueOf}
-use Rattle.stix_json.proofs.PuttingLemmas.{last_pushed}
+use Rattle.stix_json.proofs.InsertionLemmas.{last_pushed}
 
 -- the last of that name among those, and what it holds
-abbrev pub held_of : List ℕ → List Property → Option Held
-held_of name ps = option_map (λ (property : Property). property.held) (last_named property_name name ps)
+abbrev pub property_value_of : List ℕ → List Property → Option PropertyValue
+property_value_of name ps = option_map (λ (property : Property). property.property_value) (last_named property_name name ps)
 
-pub held_pushed : (name : List ℕ) (ps : List Property) (p : Property) → bytes_eq p.name name ≡ true → held_of name (ps ++ p ∷ []) ≡ Some p.held
-held_pushed name ps p is =
-    ap (option_map (λ (property : Property). property.held)) (last_pushed property_name name ps p ∙ ap (λ (b : Bool). if b then Some p else last_named property_name name ps) is)
+pub property_value_pushed : (name : List ℕ) (ps : List Property) (p : Property) → bytes_eq p.name name ≡ true → property_value_of name (ps ++ p ∷ []) ≡ Some p.property_value
+property_value_pushed name ps p is =
+    ap (option_map (λ (property : Property). property.property_value)) (last_pushed property_name name ps p ∙ ap (λ (b : Bool). if b then Some p else last_named property_name name ps) is)
 
 pub last_passed : (name : List ℕ) (ps : List Property) (p : Property) → bytes_eq p.name name ≡ false → last_named property_name name (ps ++ p ∷ []) ≡ last_named property_name name ps
 last_passed name ps p is = last_pushed property_name name ps p ∙ ap (λ (b : Bool). if b then Some p else last_named property_name name ps) is
 
 -- with the one behind the first so many
-pub held_found : (name : List ℕ) (ps : List Property) (i : ℕ) (p : Property) → i < length ps → p ≡ get_or ps i p → bytes_eq p.name name ≡ true
-    → held_of name (take (i + 1) ps) ≡ Some p.held
-held_found name ps i p within is same =
-    ap (held_of name) (take_more ps i p within ∙ ap (λ (q : Property). take i ps ++ q ∷ []) (sym is)) ∙ held_pushed name (take i ps) p same
+pub property_value_found : (name : List ℕ) (ps : List Property) (i : ℕ) (p : Property) → i < length ps → p ≡ get_or ps i p → bytes_eq p.name name ≡ true
+    → property_value_of name (take (i + 1) ps) ≡ Some p.property_value
+property_value_found name ps i p within is same =
+    ap (property_value_of name) (take_more ps i p within ∙ ap (λ (q : Property). take i ps ++ q ∷ []) (sym is)) ∙ property_value_pushed name (take i ps) p same
 
-pub held_passed : (name : List ℕ) (ps : List Property) (i : ℕ) (p : Property) → i < length ps → p ≡ get_or ps i p → bytes_eq p.name name ≡ false
-    → held_of name (take (i + 1) ps) ≡ held_of name (take i ps)
-held_passed name ps i p within is other =
-    ap (held_of name) (take_more ps i p within ∙ ap (λ (q : Property). take i ps ++ q ∷ []) (sym is)) ∙ ap (option_map (λ (property : Property). property.held)) (last_passed name (take i ps) p other)
+pub property_value_passed : (name : List ℕ) (ps : List Property) (i : ℕ) (p : Property) → i < length ps → p ≡ get_or ps i p → bytes_eq p.name name ≡ false
+    → property_value_of name (take (i + 1) ps) ≡ property_value_of name (take i ps)
+property_value_passed name ps i p within is other =
+    ap (property_value_of name) (take_more ps i p within ∙ ap (λ (q : Property). take i ps ++ q ∷ []) (sym is)) ∙ ap (option_map (λ (property : Property). property.property_value)) (last_passed name (take i ps) p other)
 
 -- ---- what an object has under a name
 
 -- nothing stands for no items
-no_list_by : (found : Option Data) (p : Option Property) → MayBeHeld found p → None ≡ option_map (λ (property : Property). property.held) p → list_or_none found ≡ Some no_items
-no_list_by None None held is = refl
-no_list_by None (Some p) held is = absurd held
-no_list_by (Some d) None held is = absurd held
-no_list_by (Some d) (Some p) held is = absurd cc
+no_list_by : (found : Option Data) (p : Option Property) → MayBePropertyValue found p → None ≡ option_map (λ (property : Property). property.property_value) p → list_or_none found ≡ Some no_items
+no_list_by None None property_value is = refl
+no_list_by None (Some p) property_value is = absurd property_value
+no_list_by (Some d) None property_value is = absurd property_value
+no_list_by (Some d) (Some p) property_value is = absurd cc
 
-pub no_list : (name : List ℕ) (ms : Members) (ps : List Property) → HoldsProperties ms ps → None ≡ held_of name ps → list_or_none (get_member name ms) ≡ Some no_items
+pub no_list : (name : List ℕ) (ms : Members) (ps : List Property) → HoldsProperties ms ps → None ≡ property_value_of name ps → list_or_none (get_member name ms) ≡ Some no_items
 no_list name ms ps holds is = no_list_by (get_member name ms) (last_named property_name name ps) (holds name) is
 
 -- an object that says that there is more and not what asks for it is no page

@@ -17,15 +17,15 @@ use Rattle.serde_json.specs.Read.{of_json, of_items, of_members, number_of, read
 use Rattle.serde_json.specs.Written.{outline, items_outline, members_outline, number_text}
 use Rattle.serde_json.proofs.Numbers.{number_of-decimal, number_of-negative}
 use Rattle.stix_json.specs.Ordered.{IsNameBefore, IsOrdered, ItemsAreOrdered, MembersAreOrdered}
-use Rattle.stix_json.specs.Walk.{place_part}
+use Rattle.stix_json.specs.Walk.{index_part}
 use Rattle.stix_json.specs.DataOf.{data_of}
 use Rattle.stix_json.specs.Refusal.{refusal_of}
 use Rattle.stix_json.specs.Reading.{IsJsonOf}
-use Rattle.stix_json.specs.inner.Flaws.{under, flaw_under, number_flaw, flaw_here, first_flaw, items_flaw, members_flaw, too_deep, items_too_deep, members_too_deep}
-use Rattle.stix_json.specs.declared.limits.TheConstants.{MAX_LEVELS, MAX_WHOLE}
-use Rattle.stix_json.specs.declared.flaw.Reason.TheVariants.{OutOfRange as PastRange}
+use Rattle.stix_json.specs.inner.ValueErrors.{under, value_error_under, number_value_error, value_error_here, first_value_error, items_value_error, members_value_error, too_deep, items_too_deep, members_too_deep}
+use Rattle.stix_json.specs.declared.limits.TheConstants.{MAX_LEVELS, MAX_SAFE_INTEGER}
+use Rattle.stix_json.specs.declared.value_error.Reason.TheVariants.{OutOfRange as PastRange}
 use Rattle.stix_json.specs.declared.value.Json.{Json}
-use Rattle.stix_json.proofs.FlawsLemmas.{option_or_none, option_map_none}
+use Rattle.stix_json.proofs.ValueErrorsLemmas.{option_or_none, option_map_none}
 use Rattle.stix_json.proofs.WalkLemmas.{nothing_found}
 use Rattle.stix_json.proofs.DataOfLemmas.{IsSigned, HasSigns, ItemsHaveSigns, MembersHaveSigns, json_signs}
 
@@ -46,11 +46,11 @@ abbrev IsNext : Members → Members → Type 0
 IsNext found no_members = ⊤
 IsNext found (member k d ms) = AllBelow k found
 
-put_end : (k : List ℕ) (d : Data) (found : Members) → AllBelow k found → put k d found ≡ snoc found k d
-put_end k d no_members h = refl
-put_end k d (member l e ms) h =
+insert_end : (k : List ℕ) (d : Data) (found : Members) → AllBelow k found → put k d found ≡ snoc found k d
+insert_end k d no_members h = refl
+insert_end k d (member l e ms) h =
     let above : slice_cmp nat_cmp k l ≡ Greater = nat_list_cmp_total.antisymm k l ∙ ap ordering_reverse h.0 in
-    rw above (ap (member l e) (put_end k d ms h.1))
+    rw above (ap (member l e) (insert_end k d ms h.1))
 
 below_grown : (k l : List ℕ) (d : Data) (found : Members) → AllBelow k found → slice_cmp nat_cmp k l ≡ Less → AllBelow l (snoc found k d)
 below_grown k l d no_members h less = (less, tt)
@@ -93,21 +93,21 @@ abbrev mutual
   MembersAreWritten no_members = ⊤
   MembersAreWritten (member k d ms) = IsNameBefore k ms × IsWritten d × MembersAreWritten ms
 
-in_range : (b : Bool) → flaw_here (cond b None (Some PastRange)) ≡ None → b ≡ true
+in_range : (b : Bool) → value_error_here (cond b None (Some PastRange)) ≡ None → b ≡ true
 in_range true h = refl
 in_range false h = absurd (cc)
 
-small : (n : ℕ) → nat_le n MAX_WHOLE ≡ true → n ≤ 9007199254740991
+small : (n : ℕ) → nat_le n MAX_SAFE_INTEGER ≡ true → n ≤ 9007199254740991
 small n h = grind (arith, nat_tests)
 
-whole : (n : Num) → IsSigned n → flaw_here (number_flaw n) ≡ None → IsWhole n
-whole (unsigned n) signed good = let h = small n (in_range (nat_le n MAX_WHOLE) good) in omega (arith, h)
+whole : (n : Num) → IsSigned n → value_error_here (number_value_error n) ≡ None → IsWhole n
+whole (unsigned n) signed good = let h = small n (in_range (nat_le n MAX_SAFE_INTEGER) good) in omega (arith, h)
 whole (negative (pos n)) signed good = absurd signed
-whole (negative (negsuc n)) signed good = let h = small (suc n) (in_range (nat_le (suc n) MAX_WHOLE) good) in omega (arith, h)
+whole (negative (negsuc n)) signed good = let h = small (suc n) (in_range (nat_le (suc n) MAX_SAFE_INTEGER) good) in omega (arith, h)
 whole (float x) signed good = absurd signed
 
 mutual
-  written : (d : Data) → IsOrdered d → HasSigns d → first_flaw d ≡ None → IsWritten d
+  written : (d : Data) → IsOrdered d → HasSigns d → first_value_error d ≡ None → IsWritten d
   written null ordered signs good = tt
   written (boolean b) ordered signs good = tt
   written (number n) ordered signs good = whole n signs good
@@ -115,17 +115,17 @@ mutual
   written (array ds) ordered signs good = items_written 0 ds ordered signs good
   written (object ms) ordered signs good = members_written ms ordered signs good
 
-  items_written : (at : ℕ) (ds : Items) → ItemsAreOrdered ds → ItemsHaveSigns ds → items_flaw at ds ≡ None → ItemsAreWritten ds
+  items_written : (at : ℕ) (ds : Items) → ItemsAreOrdered ds → ItemsHaveSigns ds → items_value_error at ds ≡ None → ItemsAreWritten ds
   items_written at no_items ordered signs good = tt
   items_written at (item d ds) ordered signs good =
-      let parts = option_or_none (option_map (flaw_under (place_part at)) (first_flaw d)) (items_flaw (at + 1) ds) good in
-      (written d ordered.0 signs.0 (option_map_none (flaw_under (place_part at)) (first_flaw d) parts.0), items_written (at + 1) ds ordered.1 signs.1 parts.1)
+      let parts = option_or_none (option_map (value_error_under (index_part at)) (first_value_error d)) (items_value_error (at + 1) ds) good in
+      (written d ordered.0 signs.0 (option_map_none (value_error_under (index_part at)) (first_value_error d) parts.0), items_written (at + 1) ds ordered.1 signs.1 parts.1)
 
-  members_written : (ms : Members) → MembersAreOrdered ms → MembersHaveSigns ms → members_flaw ms ≡ None → MembersAreWritten ms
+  members_written : (ms : Members) → MembersAreOrdered ms → MembersHaveSigns ms → members_value_error ms ≡ None → MembersAreWritten ms
   members_written no_members ordered signs good = tt
   members_written (member k d ms) ordered signs good =
-      let parts = option_or_none (option_map (flaw_under k) (first_flaw d)) (members_flaw ms) good in
-      (ordered.0, written d ordered.1 signs.0 (option_map_none (flaw_under k) (first_flaw d) parts.0), members_written ms ordered.2 signs.1 parts.1)
+      let parts = option_or_none (option_map (value_error_under k) (first_value_error d)) (members_value_error ms) good in
+      (ordered.0, written d ordered.1 signs.0 (option_map_none (value_error_under k) (first_value_error d) parts.0), members_written ms ordered.2 signs.1 parts.1)
 
 -- nothing too deep is nothing deeper than the levels left
 mutual
@@ -142,8 +142,8 @@ mutual
   items_shallow : (left at : ℕ) (ds : Items) → items_too_deep left at ds ≡ None → items_depth ds ≤ left
   items_shallow left at no_items h = omega arith
   items_shallow left at (item d ds) h =
-      let parts = option_or_none (option_map (under (place_part at)) (too_deep left d)) (items_too_deep left (at + 1) ds) h in
-      let first = shallow left d (option_map_none (under (place_part at)) (too_deep left d) parts.0) in
+      let parts = option_or_none (option_map (under (index_part at)) (too_deep left d)) (items_too_deep left (at + 1) ds) h in
+      let first = shallow left d (option_map_none (under (index_part at)) (too_deep left d) parts.0) in
       let later = items_shallow left (at + 1) ds parts.1 in omega (arith, first, later)
 
   members_shallow : (left : ℕ) (ms : Members) → members_too_deep left ms ≡ None → members_depth ms ≤ left
@@ -175,7 +175,7 @@ mutual
   of_members_outline : (found ms : Members) → IsNext found ms → MembersAreWritten ms → of_members (members_outline ms) found ≡ Some (joined found ms)
   of_members_outline found no_members next h = ap Some (sym (joined_none found))
   of_members_outline found (member k d ms) next h =
-      rw (of_outline d h.1, put_end k d found next)
+      rw (of_outline d h.1, insert_end k d found next)
       (of_members_outline (snoc found k d) ms (next_grown k d found ms next h.0) h.2 ∙ ap Some (joined_snoc found k d ms))
 
   next_none : (ms : Members) → IsNext no_members ms

@@ -18,18 +18,18 @@ use Rattle.stix_json.specs.declared.value.Json.TheVariants as value
 use Rattle.stix_json.specs.declared.value.Field.{Field}
 use Rattle.stix_json.specs.declared.value.Json.TheViews.{roll-Field}
 use Rattle.stix_json.specs.declared.limits.TheConstants.{MAX_LEVELS}
-use Rattle.stix_json.specs.declared.place.Place.{Place}
-use Rattle.stix_json.specs.declared.flaw.Flaw.{Flaw}
+use Rattle.stix_json.specs.declared.location.Location.{Location}
+use Rattle.stix_json.specs.declared.value_error.ValueError.{ValueError}
 use Rattle.stix_json.specs.declared.refusal.JsonRefusal.{JsonRefusal}
 use Rattle.stix_json.specs.declared.refusal.JsonRefusal.TheVariants.{NotJson, TooDeep, NotWhole, Null, OutOfRange, NotList, NoMemory}
 use Rattle.stix_json.specs.DataOf.{Member, members_of, data_of, field_data}
 use Rattle.stix_json.specs.Ordered.{IsOrdered}
-use Rattle.stix_json.specs.Walk.{place_part}
+use Rattle.stix_json.specs.Walk.{index_part}
 use Rattle.stix_json.specs.Reading.{IsValueOf, HasNoValue, IsJsonAs, IsRefusalOf, IsJsonOf, IsJsonRefusedAs}
-use Rattle.stix_json.specs.inner.Flaws.{path_of, flaw_under, refusal_at, number_flaw, flaw_here, first_flaw, items_flaw, members_flaw, too_deep}
-use Rattle.stix_json.proofs.FlawsLemmas.{data_of-Object, same_member, option_or_none, option_map_none}
+use Rattle.stix_json.specs.inner.ValueErrors.{path_of, value_error_under, refusal_at, number_value_error, value_error_here, first_value_error, items_value_error, members_value_error, too_deep}
+use Rattle.stix_json.proofs.ValueErrorsLemmas.{data_of-Object, same_member, option_or_none, option_map_none}
 use Rattle.stix_json.proofs.OrderedLemmas.{On, json_of, value_ordered}
-use Rattle.stix_json.proofs.WalkLemmas.{deep_refused, flaw_refused, nothing_refused}
+use Rattle.stix_json.proofs.WalkLemmas.{deep_refused, value_error_refused, nothing_refused}
 
 -- ---- the numbers that are read
 
@@ -93,15 +93,15 @@ number_of_true text =
     on_cond IsTrueToSign (slice_index text 0 == minus) (number_from true (scan_numeral (drop 1 text))) (number_from false (scan_numeral text))
     (λ below. number_from_true true (scan_numeral (drop 1 text))) (number_from_true false (scan_numeral text))
 
-put_by : (k l : List ℕ) (d e : Data) (ms more : Members) → HasTrueSigns d → MembersHaveTrueSigns (member l e ms) → MembersHaveTrueSigns more → (o : Ordering)
+insert_by : (k l : List ℕ) (d e : Data) (ms more : Members) → HasTrueSigns d → MembersHaveTrueSigns (member l e ms) → MembersHaveTrueSigns more → (o : Ordering)
     → MembersHaveTrueSigns (match_ordering o (member k d (member l e ms)) (member l d ms) (member l e more))
-put_by k l d e ms more its are rest Less = (its, are)
-put_by k l d e ms more its are rest Equal = (its, are.1)
-put_by k l d e ms more its are rest Greater = (are.0, rest)
+insert_by k l d e ms more its are rest Less = (its, are)
+insert_by k l d e ms more its are rest Equal = (its, are.1)
+insert_by k l d e ms more its are rest Greater = (are.0, rest)
 
-put_true : (k : List ℕ) (d : Data) (ms : Members) → HasTrueSigns d → MembersHaveTrueSigns ms → MembersHaveTrueSigns (put k d ms)
-put_true k d no_members its are = (its, tt)
-put_true k d (member l e ms) its are = put_by k l d e ms (put k d ms) its are (put_true k d ms its are.1) (slice_cmp nat_cmp k l)
+insert_true : (k : List ℕ) (d : Data) (ms : Members) → HasTrueSigns d → MembersHaveTrueSigns ms → MembersHaveTrueSigns (put k d ms)
+insert_true k d no_members its are = (its, tt)
+insert_true k d (member l e ms) its are = insert_by k l d e ms (put k d ms) its are (insert_true k d ms its are.1) (slice_cmp nat_cmp k l)
 
 mutual
   json_true : (j : json.Json) → On HasTrueSigns (of_json j)
@@ -121,7 +121,7 @@ mutual
   members_true : (ms : json.Members) (found : Members) → MembersHaveTrueSigns found → On MembersHaveTrueSigns (of_members ms found)
   members_true json.no_members found are = are
   members_true (json.member k j ms) found are =
-      on_then HasTrueSigns MembersHaveTrueSigns (λ d. of_members ms (put k d found)) (λ d its. members_true ms (put k d found) (put_true k d found its are)) (of_json j) (json_true j)
+      on_then HasTrueSigns MembersHaveTrueSigns (λ d. of_members ms (put k d found)) (λ d its. members_true ms (put k d found) (insert_true k d found its are)) (of_json j) (json_true j)
 
 on_some : {A : Type 0} (P : A → Type 0) (o : Option A) (a : A) → o ≡ Some a → On P o → P a
 on_some P o a is h = rw is at h
@@ -151,14 +151,14 @@ data_of-Array values = search (rules, the_lemmas)
 abbrev HasJson : Data → Type 0
 HasJson d = (json : Json) × (data_of json ≡ d)
 
-some_number : (n : Num) → IsTrueToSign n → flaw_here (number_flaw n) ≡ None → HasJson (number n)
+some_number : (n : Num) → IsTrueToSign n → value_error_here (number_value_error n) ≡ None → HasJson (number n)
 some_number (unsigned n) signed good = (value.Integer (pos n), data_of-Integer (pos n))
 some_number (negative (pos n)) signed good = absurd signed
 some_number (negative (negsuc n)) signed good = (value.Integer (negsuc n), data_of-Integer (negsuc n))
 some_number (float x) signed good = absurd cc
 
 mutual
-  some_json : (d : Data) → HasTrueSigns d → first_flaw d ≡ None → HasJson d
+  some_json : (d : Data) → HasTrueSigns d → first_value_error d ≡ None → HasJson d
   some_json null signed good = absurd cc
   some_json (boolean b) signed good = (value.Bool b, data_of-Bool b)
   some_json (number n) signed good = some_number n signed good
@@ -170,19 +170,19 @@ mutual
       let fields = some_members ms signed good in
       (value.Object fields.0, data_of-Object fields.0 ∙ ap object fields.1)
 
-  some_items : (at : ℕ) (ds : Items) → ItemsHaveTrueSigns ds → items_flaw at ds ≡ None → (values : List Json) × (items_of (map data_of values) ≡ ds)
+  some_items : (at : ℕ) (ds : Items) → ItemsHaveTrueSigns ds → items_value_error at ds ≡ None → (values : List Json) × (items_of (map data_of values) ≡ ds)
   some_items at no_items signed good = ([], refl)
   some_items at (item d ds) signed good =
-      let parts = option_or_none (option_map (flaw_under (place_part at)) (first_flaw d)) (items_flaw (at + 1) ds) good in
-      let first = some_json d signed.0 (option_map_none (flaw_under (place_part at)) (first_flaw d) parts.0) in
+      let parts = option_or_none (option_map (value_error_under (index_part at)) (first_value_error d)) (items_value_error (at + 1) ds) good in
+      let first = some_json d signed.0 (option_map_none (value_error_under (index_part at)) (first_value_error d) parts.0) in
       let rest = some_items (at + 1) ds signed.1 parts.1 in
       (first.0 ∷ rest.0, ap (λ (e : Data). item e (items_of (map data_of rest.0))) first.1 ∙ ap (item d) rest.1)
 
-  some_members : (ms : Members) → MembersHaveTrueSigns ms → members_flaw ms ≡ None → (fields : List Field) × (members_of (map field_data fields) ≡ ms)
+  some_members : (ms : Members) → MembersHaveTrueSigns ms → members_value_error ms ≡ None → (fields : List Field) × (members_of (map field_data fields) ≡ ms)
   some_members no_members signed good = ([], refl)
   some_members (member k d ms) signed good =
-      let parts = option_or_none (option_map (flaw_under k) (first_flaw d)) (members_flaw ms) good in
-      let first = some_json d signed.0 (option_map_none (flaw_under k) (first_flaw d) parts.0) in
+      let parts = option_or_none (option_map (value_error_under k) (first_value_error d)) (members_value_error ms) good in
+      let first = some_json d signed.0 (option_map_none (value_error_under k) (first_value_error d) parts.0) in
       let rest = some_members ms signed.1 parts.1 in (
         roll-Field (record { name = k; value = first.0 }) ∷ rest.0,
         ap (λ (m : Member). member m.name m.value (members_of (map field_data rest.0))) (same_member {name = k} {bytes = k} first.0 refl first.1) ∙ ap (member k d) rest.1,
@@ -191,18 +191,18 @@ mutual
 -- ---- a value, and bytes
 
 -- a value is a Json's, or is refused
-abbrev IsJudged : Data → Type 0
-IsJudged d = ((json : Json) × IsJsonAs d json) ⊎ ((refusal : JsonRefusal) × IsRefusalOf d refusal)
+abbrev IsChecked : Data → Type 0
+IsChecked d = ((json : Json) × IsJsonAs d json) ⊎ ((refusal : JsonRefusal) × IsRefusalOf d refusal)
 
-by_flaw : (d : Data) → IsOrdered d → HasTrueSigns d → too_deep MAX_LEVELS d ≡ None → (found : Option Flaw) → first_flaw d ≡ found → IsJudged d
-by_flaw d ordered signed shallow None is =
+by_value_error : (d : Data) → IsOrdered d → HasTrueSigns d → too_deep MAX_LEVELS d ≡ None → (found : Option ValueError) → first_value_error d ≡ found → IsChecked d
+by_value_error d ordered signed shallow None is =
     let json = some_json d signed is in
     inl (json.0, record { same = json.1; good = nothing_refused d shallow is; ordered = ordered })
-by_flaw d ordered signed shallow (Some flaw) is = inr (refusal_at flaw, flaw_refused d flaw shallow is)
+by_value_error d ordered signed shallow (Some value_error) is = inr (refusal_at value_error, value_error_refused d value_error shallow is)
 
-by_depth : (d : Data) → IsOrdered d → HasTrueSigns d → (deep : Option Place) → too_deep MAX_LEVELS d ≡ deep → IsJudged d
-by_depth d ordered signed None is = by_flaw d ordered signed is (first_flaw d) refl
-by_depth d ordered signed (Some place) is = inr (TooDeep (path_of place), deep_refused d (path_of place) (sym (ap (option_map path_of) is)))
+by_depth : (d : Data) → IsOrdered d → HasTrueSigns d → (deep : Option Location) → too_deep MAX_LEVELS d ≡ deep → IsChecked d
+by_depth d ordered signed None is = by_value_error d ordered signed is (first_value_error d) refl
+by_depth d ordered signed (Some location) is = inr (TooDeep (path_of location), deep_refused d (path_of location) (sym (ap (option_map path_of) is)))
 
 refused_as : (bytes : List ℕ) (d : Data) (refusal : JsonRefusal) → IsValueOf bytes d → IsRefusalOf d refusal → (refusal ≢ NoMemory) × IsJsonRefusedAs bytes refusal
 refused_as bytes d NotJson value is = absurd is
@@ -217,9 +217,9 @@ refused_as bytes d NoMemory value is = absurd is
 abbrev AreRead : List ℕ → Type 0
 AreRead bytes = ((json : Json) × IsJsonOf bytes json) ⊎ ((refusal : JsonRefusal) × (refusal ≢ NoMemory) × IsJsonRefusedAs bytes refusal)
 
-judged_read : (bytes : List ℕ) (d : Data) → IsValueOf bytes d → IsJudged d → AreRead bytes
-judged_read bytes d value (inl (json, is)) = inl (json, json_of bytes d json value is)
-judged_read bytes d value (inr (refusal, is)) = let told = refused_as bytes d refusal value is in inr (refusal, told.0, told.1)
+checked_read : (bytes : List ℕ) (d : Data) → IsValueOf bytes d → IsChecked d → AreRead bytes
+checked_read bytes d value (inl (json, is)) = inl (json, json_of bytes d json value is)
+checked_read bytes d value (inr (refusal, is)) = let told = refused_as bytes d refusal value is in inr (refusal, told.0, told.1)
 
 none_read : (bytes : List ℕ) → HasNoValue bytes → AreRead bytes
 none_read bytes none = inr (NotJson, (λ e. absurd cc), none)
@@ -228,7 +228,7 @@ by_value : (bytes : List ℕ) → IsUtf8 bytes → (found : Option Data) → rea
 by_value bytes utf8 None is = none_read bytes (λ d its. let value = its.value in absurd cc)
 by_value bytes utf8 (Some d) is =
     let value : IsValueOf bytes d = record { text = utf8; value = is } in
-    judged_read bytes d value (by_depth d (value_ordered bytes d value) (read_true bytes d is) (too_deep MAX_LEVELS d) refl)
+    checked_read bytes d value (by_depth d (value_ordered bytes d value) (read_true bytes d is) (too_deep MAX_LEVELS d) refl)
 
 by_text : (bytes : List ℕ) (utf8 : Bool) → is_utf8 bytes ≡ utf8 → AreRead bytes
 by_text bytes false is = none_read bytes (λ d its. false≢true (sym is ∙ is_utf8-from_IsUtf8 bytes its.text))

@@ -1,30 +1,30 @@
--- The first flaw of a value is the first in walk order, and so is the first value past the last level.
+-- The first value error of a value is the first in walk order, and so is the first value past the last level.
 use Rattle.std.proofs.Common.{◌≡◌, ℕ, zero, suc, ◌+◌, List, [], ◌∷◌, ◌++◌, length, length-append, Bool, true, false, cond, nat_le, nat_lt, unsigned_abs, ℤ, Option, Some, None, option_map, refl, sym, ap, ◌∙◌, arith}
 use Rattle.std.proofs.lemmas.Bool.Decides.{nat_tests}
 use Rattle.std.specs.Option.{option_or}
 use Rattle.serde_json.specs.Data.{Data, null, boolean, number, string, array, object, Items, no_items, item, Members, no_members, member}
 use Rattle.serde_json.specs.Find.{as_integer}
-use Rattle.stix_json.specs.declared.limits.TheConstants.{MAX_LEVELS, MAX_WHOLE}
-use Rattle.stix_json.specs.declared.place.Place.{Place}
-use Rattle.stix_json.specs.declared.place.Place.TheVariants.{Here, Below}
-use Rattle.stix_json.specs.declared.flaw.Reason.{Reason}
-use Rattle.stix_json.specs.declared.flaw.Reason.TheVariants.{NotWhole as NoWhole, Null as IsNull, OutOfRange as PastRange}
-use Rattle.stix_json.specs.declared.flaw.Flaw.{Flaw}
+use Rattle.stix_json.specs.declared.limits.TheConstants.{MAX_LEVELS, MAX_SAFE_INTEGER}
+use Rattle.stix_json.specs.declared.location.Location.{Location}
+use Rattle.stix_json.specs.declared.location.Location.TheVariants.{Here, Below}
+use Rattle.stix_json.specs.declared.value_error.Reason.{Reason}
+use Rattle.stix_json.specs.declared.value_error.Reason.TheVariants.{NotWhole as NoWhole, Null as IsNull, OutOfRange as PastRange}
+use Rattle.stix_json.specs.declared.value_error.ValueError.{ValueError}
 use Rattle.stix_json.specs.declared.refusal.JsonRefusal.{JsonRefusal}
 use Rattle.stix_json.specs.declared.refusal.JsonRefusal.TheVariants.{TooDeep, NotWhole, Null, OutOfRange}
-use Rattle.stix_json.specs.Walk.{Visit, walk, walk_items, walk_members, path_text, place_part}
-use Rattle.stix_json.specs.Refusal.{first_told, depth_refusal, visit_refusal, number_refusal, refusal_of}
+use Rattle.stix_json.specs.Walk.{Visit, walk, walk_items, walk_members, path_text, index_part}
+use Rattle.stix_json.specs.Refusal.{first_reported, depth_refusal, visit_refusal, number_refusal, refusal_of}
 use Rattle.stix_json.specs.Reading.{IsRefusalOf}
-use Rattle.stix_json.specs.inner.Flaws.{under, path_of, flaw_under, refusal_for, refusal_at, whole_flaw, flaw_here, first_flaw, items_flaw, members_flaw, too_deep, items_too_deep, members_too_deep}
+use Rattle.stix_json.specs.inner.ValueErrors.{under, path_of, value_error_under, refusal_for, refusal_at, whole_value_error, value_error_here, first_value_error, items_value_error, members_value_error, too_deep, items_too_deep, members_too_deep}
 
 -- a place under some parts
-abbrev placed : List (List ℕ) → Place → Place
-placed [] place = place
-placed (part ∷ parts) place = under part (placed parts place)
+abbrev placed : List (List ℕ) → Location → Location
+placed [] location = location
+placed (part ∷ parts) location = under part (placed parts location)
 
-placed_more : (parts : List (List ℕ)) (part : List ℕ) (place : Place) → placed (parts ++ part ∷ []) place ≡ placed parts (under part place)
-placed_more [] part place = refl
-placed_more (first ∷ parts) part place = ap (under first) (placed_more parts part place)
+placed_more : (parts : List (List ℕ)) (part : List ℕ) (location : Location) → placed (parts ++ part ∷ []) location ≡ placed parts (under part location)
+placed_more [] part location = refl
+placed_more (first ∷ parts) part location = ap (under first) (placed_more parts part location)
 
 under_below : (part : List ℕ) (parts : List (List ℕ)) → under part (placed parts Here) ≡ Below (path_text (part ∷ parts))
 under_below part [] = refl
@@ -38,53 +38,53 @@ or_again : (a b c : Option JsonRefusal) → option_or a (option_or b c) ≡ opti
 or_again None b c = refl
 or_again (Some x) b c = refl
 
-first_told_append : (tell : Visit → Option JsonRefusal) (xs ys : List Visit) → first_told tell (xs ++ ys) ≡ option_or (first_told tell xs) (first_told tell ys)
+first_told_append : (tell : Visit → Option JsonRefusal) (xs ys : List Visit) → first_reported tell (xs ++ ys) ≡ option_or (first_reported tell xs) (first_reported tell ys)
 first_told_append tell [] ys = refl
-first_told_append tell (x ∷ xs) ys = ap (option_or (tell x)) (first_told_append tell xs ys) ∙ or_again (tell x) (first_told tell xs) (first_told tell ys)
+first_told_append tell (x ∷ xs) ys = ap (option_or (tell x)) (first_told_append tell xs ys) ∙ or_again (tell x) (first_reported tell xs) (first_reported tell ys)
 
--- ---- flaws
+-- ---- value errors
 
-abbrev flaw_placed : List (List ℕ) → Flaw → JsonRefusal
-flaw_placed parts flaw = refusal_for flaw.reason (path_of (placed parts flaw.place))
+abbrev value_error_placed : List (List ℕ) → ValueError → JsonRefusal
+value_error_placed parts value_error = refusal_for value_error.reason (path_of (placed parts value_error.location))
 
-range_told : (parts : List (List ℕ)) (b : Bool) → option_or (cond b None (Some (OutOfRange (path_text parts)))) None ≡ option_map (flaw_placed parts) (flaw_here (cond b None (Some PastRange)))
+range_told : (parts : List (List ℕ)) (b : Bool) → option_or (cond b None (Some (OutOfRange (path_text parts)))) None ≡ option_map (value_error_placed parts) (value_error_here (cond b None (Some PastRange)))
 range_told parts true = refl
 range_told parts false = ap (λ path. Some (OutOfRange path)) (sym (path_placed parts))
 
-number_told : (parts : List (List ℕ)) (whole : Option ℤ) → option_or (number_refusal (path_text parts) whole) None ≡ option_map (flaw_placed parts) (flaw_here (whole_flaw whole))
+number_told : (parts : List (List ℕ)) (whole : Option ℤ) → option_or (number_refusal (path_text parts) whole) None ≡ option_map (value_error_placed parts) (value_error_here (whole_value_error whole))
 number_told parts None = ap (λ path. Some (NotWhole path)) (sym (path_placed parts))
-number_told parts (Some whole) = range_told parts (nat_le (unsigned_abs whole) MAX_WHOLE)
+number_told parts (Some whole) = range_told parts (nat_le (unsigned_abs whole) MAX_SAFE_INTEGER)
 
-flaw_of_part : (parts : List (List ℕ)) (part : List ℕ) (found later : Option Flaw)
-    → option_or (option_map (flaw_placed (parts ++ part ∷ [])) found) (option_map (flaw_placed parts) later) ≡ option_map (flaw_placed parts) (option_or (option_map (flaw_under part) found) later)
-flaw_of_part parts part None later = refl
-flaw_of_part parts part (Some flaw) later = ap (λ place. Some (refusal_for flaw.reason (path_of place))) (placed_more parts part flaw.place)
+value_error_of_part : (parts : List (List ℕ)) (part : List ℕ) (found later : Option ValueError)
+    → option_or (option_map (value_error_placed (parts ++ part ∷ [])) found) (option_map (value_error_placed parts) later) ≡ option_map (value_error_placed parts) (option_or (option_map (value_error_under part) found) later)
+value_error_of_part parts part None later = refl
+value_error_of_part parts part (Some value_error) later = ap (λ location. Some (refusal_for value_error.reason (path_of location))) (placed_more parts part value_error.location)
 
 mutual
-  walk_flaw : (parts : List (List ℕ)) (d : Data) → first_told visit_refusal (walk parts d) ≡ option_map (flaw_placed parts) (first_flaw d)
-  walk_flaw parts null = ap (λ path. Some (Null path)) (sym (path_placed parts))
-  walk_flaw parts (boolean b) = refl
-  walk_flaw parts (number n) = number_told parts (as_integer n)
-  walk_flaw parts (string s) = refl
-  walk_flaw parts (array items) = walk_items_flaw parts 0 items
-  walk_flaw parts (object members) = walk_members_flaw parts members
+  walk_value_error : (parts : List (List ℕ)) (d : Data) → first_reported visit_refusal (walk parts d) ≡ option_map (value_error_placed parts) (first_value_error d)
+  walk_value_error parts null = ap (λ path. Some (Null path)) (sym (path_placed parts))
+  walk_value_error parts (boolean b) = refl
+  walk_value_error parts (number n) = number_told parts (as_integer n)
+  walk_value_error parts (string s) = refl
+  walk_value_error parts (array items) = walk_items_value_error parts 0 items
+  walk_value_error parts (object members) = walk_members_value_error parts members
 
-  walk_items_flaw : (parts : List (List ℕ)) (at : ℕ) (items : Items) → first_told visit_refusal (walk_items parts at items) ≡ option_map (flaw_placed parts) (items_flaw at items)
-  walk_items_flaw parts at no_items = refl
-  walk_items_flaw parts at (item d items) =
-      first_told_append visit_refusal (walk (parts ++ place_part at ∷ []) d) (walk_items parts (at + 1) items)
-      ∙ rw (walk_flaw (parts ++ place_part at ∷ []) d, walk_items_flaw parts (at + 1) items) (flaw_of_part parts (place_part at) (first_flaw d) (items_flaw (at + 1) items))
+  walk_items_value_error : (parts : List (List ℕ)) (at : ℕ) (items : Items) → first_reported visit_refusal (walk_items parts at items) ≡ option_map (value_error_placed parts) (items_value_error at items)
+  walk_items_value_error parts at no_items = refl
+  walk_items_value_error parts at (item d items) =
+      first_told_append visit_refusal (walk (parts ++ index_part at ∷ []) d) (walk_items parts (at + 1) items)
+      ∙ rw (walk_value_error (parts ++ index_part at ∷ []) d, walk_items_value_error parts (at + 1) items) (value_error_of_part parts (index_part at) (first_value_error d) (items_value_error (at + 1) items))
 
-  walk_members_flaw : (parts : List (List ℕ)) (members : Members) → first_told visit_refusal (walk_members parts members) ≡ option_map (flaw_placed parts) (members_flaw members)
-  walk_members_flaw parts no_members = refl
-  walk_members_flaw parts (member name d members) =
+  walk_members_value_error : (parts : List (List ℕ)) (members : Members) → first_reported visit_refusal (walk_members parts members) ≡ option_map (value_error_placed parts) (members_value_error members)
+  walk_members_value_error parts no_members = refl
+  walk_members_value_error parts (member name d members) =
       first_told_append visit_refusal (walk (parts ++ name ∷ []) d) (walk_members parts members)
-      ∙ rw (walk_flaw (parts ++ name ∷ []) d, walk_members_flaw parts members) (flaw_of_part parts name (first_flaw d) (members_flaw members))
+      ∙ rw (walk_value_error (parts ++ name ∷ []) d, walk_members_value_error parts members) (value_error_of_part parts name (first_value_error d) (members_value_error members))
 
 -- ---- levels
 
-abbrev deep_placed : List (List ℕ) → Place → JsonRefusal
-deep_placed parts place = TooDeep (path_of (placed parts place))
+abbrev deep_placed : List (List ℕ) → Location → JsonRefusal
+deep_placed parts location = TooDeep (path_of (placed parts location))
 
 past_last : (n : ℕ) → n ≡ MAX_LEVELS → nat_lt MAX_LEVELS (n + 1) ≡ true
 past_last n is = grind (arith, nat_tests)
@@ -92,10 +92,10 @@ past_last n is = grind (arith, nat_tests)
 not_past : (n left : ℕ) → suc left + n ≡ MAX_LEVELS → nat_lt MAX_LEVELS (n + 1) ≡ false
 not_past n left is = grind (arith, nat_tests)
 
-deep_of_part : (parts : List (List ℕ)) (part : List ℕ) (found later : Option Place)
+deep_of_part : (parts : List (List ℕ)) (part : List ℕ) (found later : Option Location)
     → option_or (option_map (deep_placed (parts ++ part ∷ [])) found) (option_map (deep_placed parts) later) ≡ option_map (deep_placed parts) (option_or (option_map (under part) found) later)
 deep_of_part parts part None later = refl
-deep_of_part parts part (Some place) later = ap (λ place. Some (TooDeep (path_of place))) (placed_more parts part place)
+deep_of_part parts part (Some location) later = ap (λ location. Some (TooDeep (path_of location))) (placed_more parts part location)
 
 told_here : (parts : List (List ℕ)) (later : Option JsonRefusal) → length parts ≡ MAX_LEVELS
     → option_or (cond (nat_lt MAX_LEVELS (length parts + 1)) (Some (TooDeep (path_text parts))) None) later ≡ Some (deep_placed parts Here)
@@ -109,28 +109,28 @@ one_less : (parts : List (List ℕ)) (part : List ℕ) (left : ℕ) → suc left
 one_less parts part left is = let e : length (parts ++ part ∷ []) ≡ length parts + 1 = length-append parts (part ∷ []) in omega (arith, e)
 
 mutual
-  walk_deep : (parts : List (List ℕ)) (left : ℕ) (d : Data) → left + length parts ≡ MAX_LEVELS → first_told depth_refusal (walk parts d) ≡ option_map (deep_placed parts) (too_deep left d)
+  walk_deep : (parts : List (List ℕ)) (left : ℕ) (d : Data) → left + length parts ≡ MAX_LEVELS → first_reported depth_refusal (walk parts d) ≡ option_map (deep_placed parts) (too_deep left d)
   walk_deep parts left null is = refl
   walk_deep parts left (boolean b) is = refl
   walk_deep parts left (number n) is = refl
   walk_deep parts left (string s) is = refl
-  walk_deep parts zero (array items) is = told_here parts (first_told depth_refusal (walk_items parts 0 items)) (omega arith)
+  walk_deep parts zero (array items) is = told_here parts (first_reported depth_refusal (walk_items parts 0 items)) (omega arith)
   walk_deep parts (suc left) (array items) is =
-      told_later parts left (first_told depth_refusal (walk_items parts 0 items)) is ∙ walk_items_deep parts left 0 items is
-  walk_deep parts zero (object members) is = told_here parts (first_told depth_refusal (walk_members parts members)) (omega arith)
+      told_later parts left (first_reported depth_refusal (walk_items parts 0 items)) is ∙ walk_items_deep parts left 0 items is
+  walk_deep parts zero (object members) is = told_here parts (first_reported depth_refusal (walk_members parts members)) (omega arith)
   walk_deep parts (suc left) (object members) is =
-      told_later parts left (first_told depth_refusal (walk_members parts members)) is ∙ walk_members_deep parts left members is
+      told_later parts left (first_reported depth_refusal (walk_members parts members)) is ∙ walk_members_deep parts left members is
 
   walk_items_deep : (parts : List (List ℕ)) (left at : ℕ) (items : Items) → suc left + length parts ≡ MAX_LEVELS
-      → first_told depth_refusal (walk_items parts at items) ≡ option_map (deep_placed parts) (items_too_deep left at items)
+      → first_reported depth_refusal (walk_items parts at items) ≡ option_map (deep_placed parts) (items_too_deep left at items)
   walk_items_deep parts left at no_items is = refl
   walk_items_deep parts left at (item d items) is =
-      first_told_append depth_refusal (walk (parts ++ place_part at ∷ []) d) (walk_items parts (at + 1) items)
-      ∙ rw (walk_deep (parts ++ place_part at ∷ []) left d (one_less parts (place_part at) left is), walk_items_deep parts left (at + 1) items is)
-      (deep_of_part parts (place_part at) (too_deep left d) (items_too_deep left (at + 1) items))
+      first_told_append depth_refusal (walk (parts ++ index_part at ∷ []) d) (walk_items parts (at + 1) items)
+      ∙ rw (walk_deep (parts ++ index_part at ∷ []) left d (one_less parts (index_part at) left is), walk_items_deep parts left (at + 1) items is)
+      (deep_of_part parts (index_part at) (too_deep left d) (items_too_deep left (at + 1) items))
 
   walk_members_deep : (parts : List (List ℕ)) (left : ℕ) (members : Members) → suc left + length parts ≡ MAX_LEVELS
-      → first_told depth_refusal (walk_members parts members) ≡ option_map (deep_placed parts) (members_too_deep left members)
+      → first_reported depth_refusal (walk_members parts members) ≡ option_map (deep_placed parts) (members_too_deep left members)
   walk_members_deep parts left no_members is = refl
   walk_members_deep parts left (member name d members) is =
       first_told_append depth_refusal (walk (parts ++ name ∷ []) d) (walk_members parts members)
@@ -140,17 +140,17 @@ mutual
 -- ---- refusals
 
 -- what the two walks find is the refusal of the value
-refusal_found : (d : Data) → refusal_of d ≡ option_or (option_map (deep_placed []) (too_deep MAX_LEVELS d)) (option_map (flaw_placed []) (first_flaw d))
-refusal_found d = rw (walk_deep [] MAX_LEVELS d (omega arith), walk_flaw [] d) refl
+refusal_found : (d : Data) → refusal_of d ≡ option_or (option_map (deep_placed []) (too_deep MAX_LEVELS d)) (option_map (value_error_placed []) (first_value_error d))
+refusal_found d = rw (walk_deep [] MAX_LEVELS d (omega arith), walk_value_error [] d) refl
 
-some_path : (found : Option Place) (later : Option JsonRefusal) (path : List ℕ) → Some path ≡ option_map path_of found → option_or (option_map (deep_placed []) found) later ≡ Some (TooDeep path)
+some_path : (found : Option Location) (later : Option JsonRefusal) (path : List ℕ) → Some path ≡ option_map path_of found → option_or (option_map (deep_placed []) found) later ≡ Some (TooDeep path)
 some_path None later path is = absurd (cc)
-some_path (Some place) later path is = let e : path_of place ≡ path = cc in ap (λ path. Some (TooDeep path)) e
+some_path (Some location) later path is = let e : path_of location ≡ path = cc in ap (λ path. Some (TooDeep path)) e
 
 pub deep_refused : (d : Data) (path : List ℕ) → Some path ≡ option_map path_of (too_deep MAX_LEVELS d) → refusal_of d ≡ Some (TooDeep path)
-deep_refused d path is = refusal_found d ∙ some_path (too_deep MAX_LEVELS d) (option_map (flaw_placed []) (first_flaw d)) path is
+deep_refused d path is = refusal_found d ∙ some_path (too_deep MAX_LEVELS d) (option_map (value_error_placed []) (first_value_error d)) path is
 
-pub nothing_refused : (d : Data) → too_deep MAX_LEVELS d ≡ None → first_flaw d ≡ None → refusal_of d ≡ None
+pub nothing_refused : (d : Data) → too_deep MAX_LEVELS d ≡ None → first_value_error d ≡ None → refusal_of d ≡ None
 nothing_refused d shallow good = refusal_found d ∙ rw (shallow, good) refl
 
 told_reason : (d : Data) (reason : Reason) (path : List ℕ) → refusal_of d ≡ Some (refusal_for reason path) → IsRefusalOf d (refusal_for reason path)
@@ -158,13 +158,13 @@ told_reason d NoWhole path is = is
 told_reason d IsNull path is = is
 told_reason d PastRange path is = is
 
-pub flaw_refused : (d : Data) (flaw : Flaw) → too_deep MAX_LEVELS d ≡ None → first_flaw d ≡ Some flaw → IsRefusalOf d (refusal_at flaw)
-flaw_refused d flaw shallow found = told_reason d flaw.reason (path_of flaw.place) (refusal_found d ∙ rw (shallow, found) refl)
+pub value_error_refused : (d : Data) (value_error : ValueError) → too_deep MAX_LEVELS d ≡ None → first_value_error d ≡ Some value_error → IsRefusalOf d (refusal_at value_error)
+value_error_refused d value_error shallow found = told_reason d value_error.reason (path_of value_error.location) (refusal_found d ∙ rw (shallow, found) refl)
 
-both_none : (found : Option Place) (flaw : Option Flaw) → option_or (option_map (deep_placed []) found) (option_map (flaw_placed []) flaw) ≡ None → (found ≡ None) × (flaw ≡ None)
+both_none : (found : Option Location) (value_error : Option ValueError) → option_or (option_map (deep_placed []) found) (option_map (value_error_placed []) value_error) ≡ None → (found ≡ None) × (value_error ≡ None)
 both_none None None is = (refl, refl)
-both_none None (Some flaw) is = absurd (cc)
-both_none (Some place) flaw is = absurd (cc)
+both_none None (Some value_error) is = absurd (cc)
+both_none (Some location) value_error is = absurd (cc)
 
-pub nothing_found : (d : Data) → refusal_of d ≡ None → (too_deep MAX_LEVELS d ≡ None) × (first_flaw d ≡ None)
-nothing_found d good = both_none (too_deep MAX_LEVELS d) (first_flaw d) (sym (refusal_found d) ∙ good)
+pub nothing_found : (d : Data) → refusal_of d ≡ None → (too_deep MAX_LEVELS d ≡ None) × (first_value_error d ≡ None)
+nothing_found d good = both_none (too_deep MAX_LEVELS d) (first_value_error d) (sym (refusal_found d) ∙ good)

@@ -9,7 +9,7 @@ use Rattle.std.proofs.lemmas.List.{take_more, take_all}
 use Rattle.stix_json.specs.DataOf.{Member, members_of, field_data, data_of}
 use Rattle.stix_json.specs.declared.value.Json.{Json}
 use Rattle.stix_json.specs.declared.value.Field.{Field}
-use Rattle.stix_json.proofs.FlawsLemmas.{map_pushed}
+use Rattle.stix_json.proofs.ValueErrorsLemmas.{map_pushed}
 
 abbrev pub front : List Data → List Token
 front [] = []

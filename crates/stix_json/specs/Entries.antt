@@ -1,4 +1,4 @@
--- The list under a name of an object, and each entry judged by itself.
+-- The list under a name of an object, and each entry checked by itself.
 use Rattle.std.specs.Prelude.{◌≡◌, ⊤, ℕ, List, [], ◌∷◌, Option, Some, None}
 use Rattle.serde_json.specs.Data.{Data, null, boolean, number, string, array, object, Items, no_items, item}
 use Rattle.serde_json.specs.Find.{get_member}
@@ -30,7 +30,7 @@ list_under name (string s) = None
 list_under name (array ds) = None
 list_under name (object ms) = list_or_none (get_member name ms)
 
--- each entry is its item judged by itself
+-- each entry is its item checked by itself
 abbrev pub AreEntriesFor : Items → List Entry → Type 0
 AreEntriesFor no_items [] = ⊤
 AreEntriesFor no_items (e ∷ es) = ⊥
@@ -43,7 +43,7 @@ pub record AreEntriesOf (bytes name : List ℕ) (entries : List Entry) : Type 0 
   pub list : Items
   pub value : IsValueOf bytes whole
   pub under : list_under name whole ≡ Some list
-  pub judged : AreEntriesFor list entries
+  pub checked : AreEntriesFor list entries
 
 -- the bytes have no list under a name
 pub record HasNoList (bytes name : List ℕ) : Type 0 where

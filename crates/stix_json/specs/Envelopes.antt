@@ -1,5 +1,5 @@
 -- A page of a collection as a client reads it (TAXII 2.1, section 3.7): whether there is more behind it, what asks for that,
--- and its objects, each judged by itself.
+-- and its objects, each checked by itself.
 use Rattle.std.specs.Prelude.{◌≡◌, ◌⊎◌, ⊤, ℕ, List, Bool, true, false, codes, Option, Some, None, option_map}
 use Rattle.serde_json.specs.Data.{Data, Items}
 use Rattle.serde_json.specs.Find.{get, as_bool}
@@ -30,7 +30,7 @@ pub record IsEnvelopeOf (bytes : List ℕ) (envelope : Envelope) : Type 0 where
   pub list : Items
   pub value : IsValueOf bytes whole
   pub objects : list_under (codes "objects") whole ≡ Some list
-  pub judged : AreEntriesFor list envelope.entries
+  pub checked : AreEntriesFor list envelope.entries
   pub more : more_in whole ≡ Some envelope.more
   pub next : next_in envelope.more whole ≡ Some envelope.next
 

@@ -1,4 +1,4 @@
--- In each object the names rise strictly by their bytes, so that none stands twice.
+-- In each object the names ascend strictly by their bytes, so that none stands twice.
 use Rattle.std.specs.Prelude.{◌≡◌, ℕ, List, ⊤}
 use Rattle.std.specs.Ordering.{nat_cmp}
 use Rattle.std.specs.declared.cmp.Ordering.TheVariants.{Less}

@@ -20,7 +20,7 @@ pub record IsValueOf (bytes : List ℕ) (d : Data) : Type 0 where
 abbrev pub HasNoValue : List ℕ → Type 0
 HasNoValue bytes = (d : Data) → ¬ (IsValueOf bytes d)
 
--- the Json is that value, nothing in it is refused, and its names rise
+-- the Json is that value, nothing in it is refused, and its names ascend
 pub record IsJsonAs (d : Data) (json : Json) : Type 0 where
   pub same : data_of json ≡ d
   pub good : refusal_of d ≡ None
@@ -36,7 +36,7 @@ IsRefusalOf d (OutOfRange path) = refusal_of d ≡ Some (OutOfRange path)
 IsRefusalOf d NotList = ⊥
 IsRefusalOf d NoMemory = ⊥
 
--- a value judged by itself
+-- a value checked by itself
 abbrev pub IsEntryFor : Data → Entry → Type 0
 IsEntryFor d (Good json) = IsJsonAs d json
 IsEntryFor d (Bad refusal) = IsRefusalOf d refusal

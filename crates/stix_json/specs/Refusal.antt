@@ -3,15 +3,15 @@ use Rattle.std.specs.Prelude.{ℕ, ◌+◌, ◌&&◌, List, [], ◌∷◌, lengt
 use Rattle.std.specs.Option.{option_or}
 use Rattle.serde_json.specs.Data.{Data, null, boolean, number, string, array, object}
 use Rattle.serde_json.specs.Find.{as_integer}
-use Rattle.stix_json.specs.declared.limits.TheConstants.{MAX_LEVELS, MAX_WHOLE}
+use Rattle.stix_json.specs.declared.limits.TheConstants.{MAX_LEVELS, MAX_SAFE_INTEGER}
 use Rattle.stix_json.specs.declared.refusal.JsonRefusal.{JsonRefusal}
 use Rattle.stix_json.specs.declared.refusal.JsonRefusal.TheVariants.{TooDeep, NotWhole, Null, OutOfRange}
 use Rattle.stix_json.specs.Walk.{Visit, walk, path_text}
 
 -- the first that is told of these values in turn
-abbrev pub first_told : (Visit → Option JsonRefusal) → List Visit → Option JsonRefusal
-first_told tell [] = None
-first_told tell (v ∷ vs) = option_or (tell v) (first_told tell vs)
+abbrev pub first_reported : (Visit → Option JsonRefusal) → List Visit → Option JsonRefusal
+first_reported tell [] = None
+first_reported tell (v ∷ vs) = option_or (tell v) (first_reported tell vs)
 
 -- only lists and objects have a level
 abbrev pub has_level : Data → Bool
@@ -33,7 +33,7 @@ depth_refusal v = if has_level v.value && nat_lt MAX_LEVELS (level v) then Some 
 -- a number at a path, with its whole number where it is read as one
 abbrev pub number_refusal : List ℕ → Option ℤ → Option JsonRefusal
 number_refusal path None = Some (NotWhole path)
-number_refusal path (Some whole) = if nat_le (unsigned_abs whole) MAX_WHOLE then None else Some (OutOfRange path)
+number_refusal path (Some whole) = if nat_le (unsigned_abs whole) MAX_SAFE_INTEGER then None else Some (OutOfRange path)
 
 -- a value at a path that Json doesn't hold
 abbrev pub value_refusal : List ℕ → Data → Option JsonRefusal
@@ -49,4 +49,4 @@ visit_refusal v = value_refusal (path_text v.parts) v.value
 
 -- the first value that nests too deep, else the first that Json doesn't hold
 abbrev pub refusal_of : Data → Option JsonRefusal
-refusal_of d = option_or (first_told depth_refusal (walk [] d)) (first_told visit_refusal (walk [] d))
+refusal_of d = option_or (first_reported depth_refusal (walk [] d)) (first_reported visit_refusal (walk [] d))

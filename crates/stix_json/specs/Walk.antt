@@ -11,8 +11,8 @@ pub record Visit : Type 0 where
   pub value : Data
 
 -- the part for the place of an item, counted from 0: [n]
-abbrev pub place_part : ℕ → List ℕ
-place_part at = 91 ∷ (decimal at ++ 93 ∷ [])
+abbrev pub index_part : ℕ → List ℕ
+index_part at = 91 ∷ (decimal at ++ 93 ∷ [])
 
 -- the text of a path: its parts joined by dots
 abbrev pub path_text : List (List ℕ) → List ℕ
@@ -31,7 +31,7 @@ abbrev mutual
   -- the items from a place on
   pub walk_items : List (List ℕ) → ℕ → Items → List Visit
   walk_items parts at no_items = []
-  walk_items parts at (item d ds) = walk (parts ++ place_part at ∷ []) d ++ walk_items parts (at + 1) ds
+  walk_items parts at (item d ds) = walk (parts ++ index_part at ∷ []) d ++ walk_items parts (at + 1) ds
 
   pub walk_members : List (List ℕ) → Members → List Visit
   walk_members parts no_members = []

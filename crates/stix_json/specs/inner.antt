@@ -1,7 +1,7 @@
 pub mod Texts
 pub mod Naming
-pub mod Putting
-pub mod Flaws
-pub mod Defects
-pub mod Judging
-pub mod Held
+pub mod Insertion
+pub mod ValueErrors
+pub mod FirstErrors
+pub mod Checking
+pub mod PropertyValue

@@ -2,14 +2,14 @@ ghost use Rattle.std.specs.Prelude.{◌≡◌, None, Some, IfOk, IfErr};
 ghost use Rattle.serde_json.specs.Data.{Members, Items as DataItems, object};
 ghost use Rattle.stix_json.specs.Entries.{AreEntriesFor, AreEntriesOf, HasNoEntriesAs, list_under};
 ghost use Rattle.stix_json.specs.declared.refusal.JsonRefusal.TheVariants.{NotList};
-ghost use Rattle.stix_json.specs.inner.Held.{HoldsProperties};
+ghost use Rattle.stix_json.specs.inner.PropertyValue.{HoldsProperties};
 
-use crate::held::{Held, Property, read_properties, take_held_under};
+use crate::property_value::{PropertyValue, Property, read_properties, take_property_value_under};
 use crate::{Entry, JsonRefusal};
 use flow_values::Items;
 use std::alloc::Global;
 
-/// The entries of the list that an object has under a name, each judged by itself as by `read_json`:
+/// The entries of the list that an object has under a name, each checked by itself as by `read_json`:
 /// its levels begin at 1 and its paths at the entry. An absent list is empty. `NotJson` where the
 /// bytes are no JSON, `NotList` where they are no object or have another value under the name.
 pub fn read_entries(alloc: Global, bytes: &[u8], name: &str) -> Result<Items<Entry>, JsonRefusal>
@@ -30,9 +30,9 @@ pub(crate) fn entries_under(
         → (list : DataItems) × (list_under name.now (object ms) ≡ Some list) × AreEntriesFor list entries) }
     ensures err { IfErr result (λ refusal. (refusal ≡ NotList) × ((ms : Members) → HoldsProperties ms properties.items → list_under name.now (object ms) ≡ None)) }
 {
-    match take_held_under(properties, name) {
+    match take_property_value_under(properties, name) {
         None => Ok(Items::new(alloc)),
-        Some(Held::List(entries)) => Ok(entries),
-        Some(Held::Value(_)) => Err(JsonRefusal::NotList),
+        Some(PropertyValue::List(entries)) => Ok(entries),
+        Some(PropertyValue::Value(_)) => Err(JsonRefusal::NotList),
     }
 }

@@ -1,6 +1,6 @@
 use crate::{Json, JsonRefusal};
 
-/// A value judged by itself: a JSON value, or why it is none.
+/// A value checked by itself: a JSON value, or why it is none.
 #[derive(Drop)]
 pub enum Entry {
     Good(Json),

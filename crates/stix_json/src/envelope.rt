@@ -2,11 +2,11 @@ ghost use Rattle.std.specs.Prelude.{◌≡◌, ◌⊎◌, None, Some, IfOk, IfEr
 ghost use Rattle.serde_json.specs.Data.{Members, object};
 ghost use Rattle.stix_json.specs.declared.refusal.JsonRefusal.TheVariants.{NotList, NoMemory as OutOfMemory};
 ghost use Rattle.stix_json.specs.Envelopes.{more_in, next_in, IsEnvelopeOf, HasNoEnvelopeAs};
-ghost use Rattle.stix_json.specs.inner.Held.{HoldsProperties};
+ghost use Rattle.stix_json.specs.inner.PropertyValue.{HoldsProperties};
 
 use crate::entries::entries_under;
-use crate::held::{Held, Property, held_under, read_properties};
-use crate::judged::Judged;
+use crate::property_value::{PropertyValue, Property, property_value_under, read_properties};
+use crate::checked::Checked;
 use crate::{Entry, Json, JsonRefusal};
 use flow_values::{Items, Text};
 use std::alloc::Global;
@@ -18,7 +18,7 @@ pub struct Envelope {
     pub more: bool,
     /// What asks for the next page. None where there are no more.
     pub next: Option<Text>,
-    /// The objects, each judged by itself.
+    /// The objects, each checked by itself.
     pub entries: Items<Entry>,
 }
 
@@ -26,9 +26,9 @@ pub struct Envelope {
 fn more_of(properties: &[Property]) -> Option<bool>
     ensures { (ms : Members) → HoldsProperties ms properties.now → result ≡ more_in (object ms) }
 {
-    match held_under(properties, "more") {
+    match property_value_under(properties, "more") {
         None => Some(false),
-        Some(Held::Value(Judged::Good(Json::Bool(more)))) => Some(*more),
+        Some(PropertyValue::Value(Checked::Good(Json::Bool(more)))) => Some(*more),
         Some(_) => None,
     }
 }
@@ -42,8 +42,8 @@ fn next_of(alloc: Global, properties: &[Property], more: bool) -> Result<Option<
     if !more {
         return Ok(None);
     }
-    match held_under(properties, "next") {
-        Some(Held::Value(Judged::Good(Json::String(next)))) => {
+    match property_value_under(properties, "next") {
+        Some(PropertyValue::Value(Checked::Good(Json::String(next)))) => {
             Ok(Some(Text::from_text(alloc, next.as_str())?))
         }
         _ => Err(JsonRefusal::NotList),

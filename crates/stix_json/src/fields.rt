@@ -1,12 +1,12 @@
 ghost use Rattle.std.specs.Prelude.{◌≡◌, [], ◌∷◌, ◌++◌, suc, ℕ, List, None, Some, IfOk, OnOk};
 ghost use Rattle.serde_json.specs.Data.{Data, Members, object};
 ghost use Rattle.stix_json.specs.DataOf.{Member, members_of};
-ghost use Rattle.stix_json.specs.inner.Defects.{defect_under, sooner};
-ghost use Rattle.stix_json.specs.inner.Judging.{IsJudgedAs, AreGathered};
+ghost use Rattle.stix_json.specs.inner.FirstErrors.{first_error_under, first_of};
+ghost use Rattle.stix_json.specs.inner.Checking.{IsCheckedAs, AreRawMembers};
 
-use crate::defect::Defect;
-use crate::gathered::Gathered;
-use crate::judged::Judged;
+use crate::first_error::FirstError;
+use crate::raw_members::RawMember;
+use crate::checked::Checked;
 use crate::{Field, Json};
 use flow_values::{Items, NoMemory};
 use std::alloc::Global;
@@ -15,30 +15,30 @@ use std::alloc::Global;
 #[derive(Drop)]
 pub(crate) struct Fields {
     pub fields: Vec<Field>,
-    pub defect: Option<Defect>,
+    pub first_error: Option<FirstError>,
 }
 
 impl Fields {
-    ghost use Rattle.stix_json.specs.inner.Judging.{AreFields};
+    ghost use Rattle.stix_json.specs.inner.Checking.{AreFields};
 
     /// Adds the next field.
-    fn push(&mut self, alloc: Global, member: Gathered) -> Result<(), NoMemory>
-        ensures { OnOk result ((levels : ℕ) (done : List Member) («data» : Data) → AreFields levels done self.old → IsJudgedAs levels «data» member.judged
+    fn push(&mut self, alloc: Global, member: RawMember) -> Result<(), NoMemory>
+        ensures { OnOk result ((levels : ℕ) (done : List Member) («data» : Data) → AreFields levels done self.old → IsCheckedAs levels «data» member.checked
             → AreFields levels (done ++ record { name = member.name; value = «data» } ∷ []) self.new) }
     {
-        let Gathered { name, judged } = member;
-        match judged {
-            Judged::Good(value) => self.add(Field { name, value }),
-            Judged::Bad(defect) => self.note(alloc, name.as_str(), defect),
+        let RawMember { name, checked } = member;
+        match checked {
+            Checked::Good(value) => self.add(Field { name, value }),
+            Checked::Bad(first_error) => self.note(alloc, name.as_str(), first_error),
         }
     }
 
     /// Adds a field, unless something stands against one.
     fn add(&mut self, field: Field) -> Result<(), NoMemory>
-        ensures defect { self.new.defect ≡ self.old.defect }
-        ensures fields { OnOk result (self.old.defect ≡ None → self.new.fields.items ≡ self.old.fields.items ++ field ∷ []) }
+        ensures first_error { self.new.first_error ≡ self.old.first_error }
+        ensures fields { OnOk result (self.old.first_error ≡ None → self.new.fields.items ≡ self.old.fields.items ++ field ∷ []) }
     {
-        if self.defect.is_some() {
+        if self.first_error.is_some() {
             return Ok(());
         }
         self.fields.push(field)?;
@@ -46,37 +46,37 @@ impl Fields {
     }
 
     /// Notes what stands against the value of that name, if it counts.
-    fn note(&mut self, alloc: Global, name: &str, defect: Defect) -> Result<(), NoMemory>
-        ensures { OnOk result (self.new.defect ≡ sooner self.old.defect (Some (defect_under name.now defect))) }
+    fn note(&mut self, alloc: Global, name: &str, first_error: FirstError) -> Result<(), NoMemory>
+        ensures { OnOk result (self.new.first_error ≡ first_of self.old.first_error (Some (first_error_under name.now first_error))) }
     {
-        if defect.counts_behind(&self.defect) {
-            self.defect = Some(defect.below(alloc, name)?);
+        if first_error.overrides(&self.first_error) {
+            self.first_error = Some(first_error.below(alloc, name)?);
         }
         Ok(())
     }
 
-    /// The whole object, judged.
-    fn into_judged(self) -> Judged
-        ensures { (levels : ℕ) (done : List Member) → AreFields levels done self → IsJudgedAs (suc levels) (object (members_of done)) result }
+    /// The whole object, checked.
+    fn into_checked(self) -> Checked
+        ensures { (levels : ℕ) (done : List Member) → AreFields levels done self → IsCheckedAs (suc levels) (object (members_of done)) result }
     {
-        let Fields { fields, defect } = self;
-        match defect {
-            Some(defect) => Judged::Bad(defect),
-            None => Judged::Good(Json::Object(Items::from_vec(fields))),
+        let Fields { fields, first_error } = self;
+        match first_error {
+            Some(first_error) => Checked::Bad(first_error),
+            None => Checked::Good(Json::Object(Items::from_vec(fields))),
         }
     }
 }
 
-/// The object that has these members, judged.
-pub(crate) fn judge_members(alloc: Global, members: Vec<Gathered>) -> Result<Judged, NoMemory>
-    ensures { IfOk result (λ judged. (levels : ℕ) (ms : Members) → AreGathered levels ms members.items → IsJudgedAs (suc levels) (object ms) judged) }
+/// The object that has these members, checked.
+pub(crate) fn check_members(alloc: Global, members: Vec<RawMember>) -> Result<Checked, NoMemory>
+    ensures { IfOk result (λ checked. (levels : ℕ) (ms : Members) → AreRawMembers levels ms members.items → IsCheckedAs (suc levels) (object ms) checked) }
 {
     let mut fields = Fields {
         fields: Vec::with_capacity(alloc, members.len())?,
-        defect: None,
+        first_error: None,
     };
     for member in members {
         fields.push(alloc, member)?;
     }
-    Ok(fields.into_judged())
+    Ok(fields.into_checked())
 }

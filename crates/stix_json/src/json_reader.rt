@@ -7,7 +7,7 @@ use flow_values::NoMemory;
 use json::Scratch;
 use std::alloc::Global;
 
-/// Reads texts, one after the other, in memory that is kept from one to the next: room for the longest of
+/// Reads texts, one after the other, in memory that is kept from one to the next: capacity for the longest of
 /// them, and a table of 16 KB, which `read_json` makes anew for each text.
 #[derive(Drop)]
 pub struct JsonReader {

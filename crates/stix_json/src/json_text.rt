@@ -15,13 +15,13 @@ pub struct JsonText {
 
 #[derive(Drop)]
 enum TextForm {
-    Part(Part),
-    Own(Box<Text>),
+    TextSlice(TextSlice),
+    Owned(Box<Text>),
 }
 
 /// A part of a text, which it keeps, from one of its places to another.
 #[derive(Drop)]
-struct Part {
+struct TextSlice {
     whole: Rc<Text>,
     start: u32,
     end: u32,
@@ -46,7 +46,7 @@ impl JsonText {
     {
         let text = Box::new(alloc, text)?;
         Ok(JsonText {
-            form: TextForm::Own(text),
+            form: TextForm::Owned(text),
         })
     }
 
@@ -55,8 +55,8 @@ impl JsonText {
         ensures { result.now ≡ self.now }
     {
         match &self.form {
-            TextForm::Part(part) => part.as_str(),
-            TextForm::Own(text) => text.as_str(),
+            TextForm::TextSlice(part) => part.as_str(),
+            TextForm::Owned(text) => text.as_str(),
         }
     }
 
@@ -64,39 +64,39 @@ impl JsonText {
     pub(crate) fn within(
         alloc: Global,
         whole: &Rc<Text>,
-        place: usize,
+        location: usize,
         text: &str,
     ) -> Result<JsonText, NoMemory>
         ensures { IfOk result (λ found. found ≡ text.now) }
     {
-        if let Some(part) = Part::at(whole, place, text) {
+        if let Some(part) = TextSlice::at(whole, location, text) {
             return Ok(JsonText {
-                form: TextForm::Part(part),
+                form: TextForm::TextSlice(part),
             });
         }
         JsonText::from_text(alloc, Text::from_text(alloc, text)?)
     }
 }
 
-impl Part {
+impl TextSlice {
     ghost use Rattle.stix_json.specs.inner.Texts.{part_text};
 
     /// The part of the whole that begins at the place and is this text.
-    fn at(whole: &Rc<Text>, place: usize, text: &str) -> Option<Part>
+    fn at(whole: &Rc<Text>, location: usize, text: &str) -> Option<TextSlice>
         ensures { IfSome result (λ part. part_text part ≡ text.now) }
     {
-        let end = place.checked_add(text.len())?;
+        let end = location.checked_add(text.len())?;
         let lent = whole.as_str();
-        if !lent.is_char_boundary(place) || !lent.is_char_boundary(end) {
+        if !lent.is_char_boundary(location) || !lent.is_char_boundary(end) {
             return None;
         }
-        if &lent[place..end] != text {
+        if &lent[location..end] != text {
             return None;
         }
         let whole = whole.clone().ok()?;
-        let start = u32::try_from(place).ok()?;
+        let start = u32::try_from(location).ok()?;
         let end = u32::try_from(end).ok()?;
-        Some(Part { whole, start, end })
+        Some(TextSlice { whole, start, end })
     }
 
     fn as_str(&self) -> &str

@@ -5,29 +5,29 @@
 //! against it, with its path. `write_json` writes a value so that it reads back.
 #![tactic(auto)]
 
-mod defect;
+mod first_error;
 mod elements;
 mod entries;
 mod entry;
 mod envelope;
 mod fields;
-mod flaw;
-mod gathered;
-mod held;
+mod value_error;
+mod raw_members;
+mod property_value;
 mod json_reader;
 mod json_text;
-mod judged;
+mod checked;
 pub mod laws;
 mod limits;
 mod lookup;
 mod number;
 mod ordered;
-mod place;
+mod location;
 mod property;
 mod read;
 mod refusal;
 mod tokens;
-mod unread;
+mod read_error;
 mod value;
 mod write;
 
@@ -36,11 +36,11 @@ pub use entry::Entry;
 pub use envelope::{Envelope, read_envelope};
 pub use json_reader::JsonReader;
 pub use json_text::JsonText;
-pub use limits::{MAX_LEVELS, MAX_WHOLE};
+pub use limits::{MAX_LEVELS, MAX_SAFE_INTEGER};
 pub use lookup::{get, get_ordered, take};
 pub use ordered::is_ordered;
 pub use property::{list_at, list_of, text_at, text_of};
 pub use read::{read_json, read_owned};
 pub use refusal::JsonRefusal;
 pub use value::{Field, Json};
-pub use write::{write_json, write_json_with_room};
+pub use write::{write_json, write_json_with_capacity};

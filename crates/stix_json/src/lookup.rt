@@ -64,12 +64,12 @@ fn named_in_order<'a>(fields: &'a [Field], name: &str) -> Option<&'a Json>
     ensures value { option_map (λ value. data_of value.now) result ≡ get_member name.now (members_of (map field_data fields.now)) }
     ensures ordered { IfSome result (λ value. IsOrdered (data_of value.now)) }
 {
-    let at = place_in_order(fields, name)?;
+    let at = sorted_index_of(fields, name)?;
     Some(&fields[at].value)
 }
 
-/// Where the field of that name stands among fields whose names rise.
-fn place_in_order(fields: &[Field], name: &str) -> Option<usize>
+/// Where the field of that name stands among fields whose names ascend.
+fn sorted_index_of(fields: &[Field], name: &str) -> Option<usize>
     requires { MembersAreOrdered (members_of (map field_data fields.now)) }
     ensures some { IfSome result (λ at. IsFieldAt name.now fields.now at) }
     ensures none { IfNone result (get_member name.now (members_of (map field_data fields.now)) ≡ None) }
@@ -83,14 +83,14 @@ fn place_in_order(fields: &[Field], name: &str) -> Option<usize>
 fn take_first_named(fields: Vec<Field>, name: &str) -> Option<Json>
     ensures { option_map data_of result ≡ get_member name.now (members_of (map field_data fields.items)) }
 {
-    let at = place_of(&fields, name)?;
+    let at = index_of(&fields, name)?;
     let mut fields = fields;
     let field = fields.swap_remove(at);
     Some(field.value)
 }
 
 /// Where the first field of that name stands.
-fn place_of(fields: &[Field], name: &str) -> Option<usize>
+fn index_of(fields: &[Field], name: &str) -> Option<usize>
     ensures some { IfSome result (λ at. IsFieldAt name.now fields.now at) }
     ensures none { IfNone result (get_member name.now (members_of (map field_data fields.now)) ≡ None) }
 {

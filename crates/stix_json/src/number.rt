@@ -1,39 +1,39 @@
-//! The number that a text of JSON is, judged.
+//! The number that a text of JSON is, checked.
 
 ghost use Rattle.std.specs.Prelude.{◌≡◌, ◌==◌, ◌<◌, ℕ, true, false, None, Some, IfOk, IfErr, IsTrue, length, slice_index, option_map};
 ghost use Rattle.serde_json.specs.Data.{Num, number as number_data};
 ghost use Rattle.serde_json.specs.Find.{of_integer};
 ghost use Rattle.serde_json.specs.Read.{number_of as number_text_of, number_from, float_of};
 ghost use Rattle.serde_json.specs.View.{number_view};
-ghost use Rattle.stix_json.specs.inner.Flaws.{number_flaw};
-ghost use Rattle.stix_json.specs.inner.Judging.{IsJudgedAs, IsUnread};
+ghost use Rattle.stix_json.specs.inner.ValueErrors.{number_value_error};
+ghost use Rattle.stix_json.specs.inner.Checking.{IsCheckedAs, IsReadError};
 
-use crate::defect::Defect;
-use crate::flaw::Reason;
-use crate::judged::Judged;
-use crate::unread::Unread;
-use crate::{Json, MAX_WHOLE};
+use crate::first_error::FirstError;
+use crate::value_error::Reason;
+use crate::checked::Checked;
+use crate::read_error::ReadError;
+use crate::{Json, MAX_SAFE_INTEGER};
 use fast_float::Numeral;
 use serde_json::Number;
 
-/// The number that a text is, judged. None is read from one too large for a float.
-pub(crate) fn judge_number(text: &str) -> Result<Judged, Unread>
-    ensures ok { IfOk result (λ judged. (n : Num) × (number_text_of text.now ≡ Some n)
-        × ((levels : ℕ) → IsJudgedAs levels (number_data n) judged)) }
-    ensures err { IfErr result (λ unread. IsUnread (number_text_of text.now) unread) }
+/// The number that a text is, checked. None is read from one too large for a float.
+pub(crate) fn check_number(text: &str) -> Result<Checked, ReadError>
+    ensures ok { IfOk result (λ checked. (n : Num) × (number_text_of text.now ≡ Some n)
+        × ((levels : ℕ) → IsCheckedAs levels (number_data n) checked)) }
+    ensures err { IfErr result (λ read_error. IsReadError (number_text_of text.now) read_error) }
 {
-    let number = number_of(text).ok_or(Unread::NotJson)?;
+    let number = number_of(text).ok_or(ReadError::NotJson)?;
     match whole_of(number) {
-        Ok(whole) => Ok(Judged::Good(Json::Integer(whole))),
-        Err(reason) => Ok(Judged::Bad(Defect::here(reason))),
+        Ok(whole) => Ok(Checked::Good(Json::Integer(whole))),
+        Err(reason) => Ok(Checked::Bad(FirstError::here(reason))),
     }
 }
 
 /// The whole number that a number is, where it is one in range.
 fn whole_of(number: Number) -> Result<i64, Reason>
     ensures ok { IfOk result
-        (λ whole. (number_flaw (number_view number) ≡ None) × (of_integer whole ≡ number_view number)) }
-    ensures err { IfErr result (λ reason. number_flaw (number_view number) ≡ Some reason) }
+        (λ whole. (number_value_error (number_view number) ≡ None) × (of_integer whole ≡ number_view number)) }
+    ensures err { IfErr result (λ reason. number_value_error (number_view number) ≡ Some reason) }
 {
     if number.is_f64() {
         return Err(Reason::NotWhole);
@@ -41,7 +41,7 @@ fn whole_of(number: Number) -> Result<i64, Reason>
     let Some(whole) = number.as_i64() else {
         return Err(Reason::OutOfRange);
     };
-    if whole.unsigned_abs() > MAX_WHOLE {
+    if whole.unsigned_abs() > MAX_SAFE_INTEGER {
         return Err(Reason::OutOfRange);
     }
     Ok(whole)

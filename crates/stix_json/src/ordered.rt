@@ -6,7 +6,7 @@ ghost use Rattle.stix_json.specs.Ordered.{IsNameBefore, IsOrdered, ItemsAreOrder
 
 use crate::{Field, Json};
 
-/// Whether in each object of the value the names rise strictly by their bytes. What `read_json` gives
+/// Whether in each object of the value the names ascend strictly by their bytes. What `read_json` gives
 /// is so. Takes no memory.
 #[cycle(ordered)]
 pub fn is_ordered(value: &Json) -> bool

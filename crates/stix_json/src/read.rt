@@ -1,13 +1,13 @@
 ghost use Rattle.std.specs.Prelude.{◌≡◌, IfOk, IfErr};
 ghost use Rattle.serde_json.specs.Data.{Data};
 ghost use Rattle.stix_json.specs.Reading.{IsValueOf, IsJsonOf, IsJsonRefusedAs};
-ghost use Rattle.stix_json.specs.inner.Judging.{IsJudgedAs, IsNoText};
+ghost use Rattle.stix_json.specs.inner.Checking.{IsCheckedAs, IsNoText};
 ghost use Rattle.stix_json.specs.declared.limits.TheConstants.{MAX_LEVELS as LEVELS};
 
-use crate::judged::Judged;
+use crate::checked::Checked;
 use crate::limits::MAX_TEXT_LEVELS;
 use crate::tokens::take_value;
-use crate::unread::Unread;
+use crate::read_error::ReadError;
 use crate::{Json, JsonRefusal, MAX_LEVELS};
 use flow_values::{Items, NoMemory, Text};
 use json::{Reader, Scratch};
@@ -55,17 +55,17 @@ pub fn read_owned(alloc: Global, bytes: Items<u8>) -> Result<Json, JsonRefusal>
 }
 
 /// The text that bytes are, which the texts of its value keep.
-pub(crate) fn whole_text(alloc: Global, bytes: &[u8]) -> Result<Rc<Text>, Unread>
+pub(crate) fn whole_text(alloc: Global, bytes: &[u8]) -> Result<Rc<Text>, ReadError>
     ensures ok { IfOk result (λ whole. whole.value ≡ bytes.now) }
-    ensures err { IfErr result (λ unread. IsNoText bytes.now unread) }
+    ensures err { IfErr result (λ read_error. IsNoText bytes.now read_error) }
 {
     let Ok(text) = std::str::from_utf8(bytes) else {
-        return Err(Unread::NotJson);
+        return Err(ReadError::NotJson);
     };
     let text = Text::from_text(alloc, text)?;
     match Rc::new(alloc, text) {
         Ok(whole) => Ok(whole),
-        Err(_) => Err(Unread::NoMemory),
+        Err(_) => Err(ReadError::NoMemory),
     }
 }
 
@@ -74,25 +74,25 @@ fn read_whole(alloc: Global, scratch: &mut Scratch, whole: &Rc<Text>) -> Result<
     ensures ok { IfOk result (λ json. IsJsonOf whole.now.value json) }
     ensures err { IfErr result (λ refusal. IsJsonRefusedAs whole.now.value refusal) }
 {
-    match judge_whole(alloc, scratch, whole)? {
-        Judged::Good(json) => Ok(json),
-        Judged::Bad(defect) => Err(defect.into_refusal(alloc)),
+    match check_whole(alloc, scratch, whole)? {
+        Checked::Good(json) => Ok(json),
+        Checked::Bad(first_error) => Err(first_error.into_refusal(alloc)),
     }
 }
 
-/// The value of a whole text, judged.
-fn judge_whole(alloc: Global, scratch: &mut Scratch, whole: &Rc<Text>) -> Result<Judged, Unread>
-    ensures ok { IfOk result (λ judged. («data» : Data) × IsValueOf whole.now.value «data» × IsJudgedAs LEVELS «data» judged) }
-    ensures err { IfErr result (λ unread. IsNoText whole.now.value unread) }
+/// The value of a whole text, checked.
+fn check_whole(alloc: Global, scratch: &mut Scratch, whole: &Rc<Text>) -> Result<Checked, ReadError>
+    ensures ok { IfOk result (λ checked. («data» : Data) × IsValueOf whole.now.value «data» × IsCheckedAs LEVELS «data» checked) }
+    ensures err { IfErr result (λ read_error. IsNoText whole.now.value read_error) }
 {
     let mut reader = match Reader::new(whole.as_str(), scratch) {
         Ok(reader) => reader,
-        Err(_) => return Err(Unread::NoMemory),
+        Err(_) => return Err(ReadError::NoMemory),
     };
-    let judged = take_value(alloc, whole, &mut reader, MAX_TEXT_LEVELS, MAX_LEVELS)?;
+    let checked = take_value(alloc, whole, &mut reader, MAX_TEXT_LEVELS, MAX_LEVELS)?;
     if reader.next().is_some() {
-        drop(judged);
-        return Err(Unread::NotJson);
+        drop(checked);
+        return Err(ReadError::NotJson);
     }
-    Ok(judged)
+    Ok(checked)
 }

@@ -15,7 +15,7 @@ pub enum JsonRefusal {
     NotWhole { path: Text },
     /// The first such value is null.
     Null { path: Text },
-    /// The first such value is a whole number outside -`MAX_WHOLE` to `MAX_WHOLE`.
+    /// The first such value is a whole number outside -`MAX_SAFE_INTEGER` to `MAX_SAFE_INTEGER`.
     OutOfRange { path: Text },
     /// No list stands under the name, or the value is no object.
     NotList,

@@ -14,7 +14,7 @@ pub enum Json {
     String(JsonText),
     /// A list.
     Array(Items<Json>),
-    /// An object. It is ordered where its names rise strictly by bytes.
+    /// An object. It is ordered where its names ascend strictly by bytes.
     Object(Items<Field>),
 }
 

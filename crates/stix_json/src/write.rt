@@ -19,16 +19,16 @@ pub fn write_json(alloc: Global, value: &Json) -> Result<Text, NoMemory>
     ensures text { IfOk result (λ text. text ≡ compact_text (data_of value.now)) }
     ensures reads_back { IfOk result (λ text. refusal_of (data_of value.now) ≡ None → IsJsonOf text value.now) }
 {
-    write_json_with_room(alloc, value, 0)
+    write_json_with_capacity(alloc, value, 0)
 }
 
-/// The same, with room for so many bytes from the start: for a text whose length is known.
-pub fn write_json_with_room(alloc: Global, value: &Json, room: usize) -> Result<Text, NoMemory>
+/// The same, with capacity for so many bytes from the start: for a text whose length is known.
+pub fn write_json_with_capacity(alloc: Global, value: &Json, capacity: usize) -> Result<Text, NoMemory>
     requires { IsOrdered (data_of value.now) }
     ensures text { IfOk result (λ text. text ≡ compact_text (data_of value.now)) }
     ensures reads_back { IfOk result (λ text. refusal_of (data_of value.now) ≡ None → IsJsonOf text value.now) }
 {
-    let mut out = Writer::new(Vec::with_capacity(alloc, room)?);
+    let mut out = Writer::new(Vec::with_capacity(alloc, capacity)?);
     write_value(value, &mut out)?;
     match String::from_utf8(out.into_inner()) {
         Ok(text) => Ok(Text::from_string(without_slack(text))),

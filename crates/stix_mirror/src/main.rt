@@ -1,7 +1,7 @@
 //! The program `stix_mirror`: a collection of a TAXII 2.1 server, copied page by page into a store in a file.
 #![tactic(auto)]
 
-use command_line::program_words;
+use command_line::program_arguments;
 use command_mirror::run_mirror;
 use command_reasons::write_no_memory;
 use flow_edges::WriteSink;
@@ -11,8 +11,8 @@ use std::process::ExitCode;
 use taxii_sqlite::{SqliteKeeper, Start, Unknown};
 
 fn main(rt: HostRuntime) -> ExitCode {
-    match program_words(&rt) {
-        Ok(words) => ExitCode::from(mirror(rt, &words, Unknown)),
+    match program_arguments(&rt) {
+        Ok(arguments) => ExitCode::from(mirror(rt, &arguments, Unknown)),
         Err(NoMemory) => {
             let _ = write_no_memory(&mut WriteSink::new(rt.stderr()));
             ExitCode::from(1)
@@ -20,12 +20,12 @@ fn main(rt: HostRuntime) -> ExitCode {
     }
 }
 
-/// Does what the words ask for, over a file that held what `S` stands for, and answers the program's status.
-fn mirror<S: Start>(rt: HostRuntime, words: &[String], start: S) -> u8 {
+/// Does what the arguments ask for, over a file that held what `S` stands for, and answers the program's status.
+fn mirror<S: Start>(rt: HostRuntime, arguments: &[String], start: S) -> u8 {
     let mut keeper = SqliteKeeper::new(rt, start);
     let status = run_mirror(
         rt.alloc(),
-        words,
+        arguments,
         &mut TcpDial::new(&rt),
         &mut keeper,
         &mut SystemClock::new(&rt),

@@ -8,17 +8,17 @@ use Rattle.stix_objects.specs.BreakAt.{BreakAt, break_of}
 use Rattle.stix_objects.specs.Row.{Row, CommonRow, ObjectType}
 use Rattle.stix_objects.specs.CommonRows.{common_rows}
 use Rattle.stix_objects.specs.Types.{group_in, rows_in}
-use Rattle.stix_objects.specs.Breaks.{rows_for, JudgesRows, AreBreaksBy}
-use Rattle.stix_objects.specs.inner.Adding.{with_break, Adds, standing_rows}
+use Rattle.stix_objects.specs.Breaks.{rows_for, ChecksRows, AreBreaksBy}
+use Rattle.stix_objects.specs.inner.Adding.{with_break, Adds, applicable_rows}
 
 adds_from : (rows : List Row) (d : Data) (before mid after : List Break) → mid ≡ before → Adds rows d mid after → Adds rows d before after
 adds_from rows d before mid after is adds = subst (λ (from : List Break). Adds rows d from after) is adds
 
 -- first the row that may stand, then the others
-pub adds_standing : (row : Option Row) (rows : List Row) (d : Data) (before mid after : List Break) → Adds (option_to_list row) d before mid → Adds rows d mid after
+pub adds_applicable : (row : Option Row) (rows : List Row) (d : Data) (before mid after : List Break) → Adds (option_to_list row) d before mid → Adds rows d mid after
     → Adds (cons_option row rows) d before after
-adds_standing None rows d before mid after first rest = adds_from rows d before mid after first rest
-adds_standing (Some row) rows d before mid after first rest =
+adds_applicable None rows d before mid after first rest = adds_from rows d before mid after first rest
+adds_applicable (Some row) rows d before mid after first rest =
     (first.0, first.1, adds_from rows d (with_break before first.0) mid after first.2 rest)
 
 adds_append : (first rest : List Row) (d : Data) (before mid after : List Break) → Adds first d before mid → Adds rest d mid after → Adds (first ++ rest) d before after
@@ -36,31 +36,31 @@ append_nil (x ∷ xs) = ap (λ ys. x ∷ ys) (append_nil xs)
 -- what is added is told by the outcomes
 pub record Told (rows : List Row) (d : Data) (before after : List Break) : Type 0 where
   pub outcomes : List (Option BreakAt)
-  pub judged : JudgesRows rows d outcomes
+  pub checked : ChecksRows rows d outcomes
   pub told : after ≡ before ++ filter_map (option_map break_of) outcomes
 
 adds_told : (rows : List Row) (d : Data) (before after : List Break) → Adds rows d before after → Told rows d before after
-adds_told [] d before after adds = record { outcomes = []; judged = tt; told = adds ∙ sym (append_nil before) }
+adds_told [] d before after adds = record { outcomes = []; checked = tt; told = adds ∙ sym (append_nil before) }
 adds_told (row ∷ rows) d before after adds =
     let outcome = adds.0 in
     let later = adds_told rows d (with_break before outcome) after adds.2 in
     let rest = filter_map (option_map break_of) later.outcomes in
     record {
       outcomes = outcome ∷ later.outcomes;
-      judged = (adds.1, later.judged);
+      checked = (adds.1, later.checked);
       told = later.told ∙ append_assoc before (option_to_list (option_map break_of outcome)) rest ∙ ap (λ ys. before ++ ys) (told_first (option_map break_of outcome) rest);
     }
 
 same_rows : (g h : Group) (own other : List Row) (cs ds : List CommonRow) → g ≡ h → own ≡ other → cs ≡ ds
-    → standing_rows g own cs ++ own ≡ standing_rows h other ds ++ other
+    → applicable_rows g own cs ++ own ≡ applicable_rows h other ds ++ other
 same_rows g h own other cs ds group rows commons = cc
 
 -- the common rows that stand, and then the own rows, are the rows of the type
 pub breaks_by : (group : Group) (own : List Row) (commons : List CommonRow) (type : Option ObjectType) (d : Data) (mid after : List Break)
     → group ≡ group_in type → own ≡ rows_in type → commons ≡ common_rows
-    → Adds (standing_rows group own commons) d [] mid → Adds own d mid after → AreBreaksBy (rows_for type) d after
+    → Adds (applicable_rows group own commons) d [] mid → Adds own d mid after → AreBreaksBy (rows_for type) d after
 breaks_by group own commons type d mid after g o cs first rest =
-    let both : Adds (standing_rows group own commons ++ own) d [] after = adds_append (standing_rows group own commons) own d [] mid after first rest in
+    let both : Adds (applicable_rows group own commons ++ own) d [] after = adds_append (applicable_rows group own commons) own d [] mid after first rest in
     let all : Adds (rows_for type) d [] after = subst (λ (rows : List Row). Adds rows d [] after) (same_rows group (group_in type) own (rows_in type) commons common_rows g o cs) both in
     let told = adds_told (rows_for type) d [] after all in
-    record { outcomes = told.outcomes; judged = told.judged; told = told.told }
+    record { outcomes = told.outcomes; checked = told.checked; told = told.told }

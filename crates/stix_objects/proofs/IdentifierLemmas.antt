@@ -4,7 +4,7 @@ use Rattle.std.proofs.lemmas.Slice.Eq.{bytes_eq-Decides}
 use Rattle.flow_values.specs.Answers.{FindsExactly}
 use Rattle.serde_json.specs.Data.{Data}
 use Rattle.stix_ids.specs.declared.id.Id.{Id}
-use Rattle.stix_ids.specs.declared.parts.Parts.{Parts}
+use Rattle.stix_ids.specs.declared.parts.IdRef.{IdRef}
 use Rattle.stix_ids.specs.Identifier.{IsTextOf, IsIdText}
 use Rattle.stix_ids.specs.PartsOf.{id_of}
 use Rattle.stix_objects.specs.Types.{is_among}
@@ -50,7 +50,7 @@ one_id one d first second is also =
     one is.text first second is.reads (subst (λ (t : List ℕ). IsTextOf t second) text also.reads)
 
 -- the identifier that is read of the text of `id`, if it is one
-pub identified : (d : Data) (s : List ℕ) → Some s ≡ text_at (codes "id") d → (found : Option Parts) → IfSome found (λ parts. IsTextOf s (id_of parts))
+pub identified : (d : Data) (s : List ℕ) → Some s ≡ text_at (codes "id") d → (found : Option IdRef) → IfSome found (λ parts. IsTextOf s (id_of parts))
     → IsOnly s (option_map id_of found) → FindsExactly (HasId d) (option_map id_of found)
 identified d s there None some only = λ id has.
     let text : has.text ≡ s = ap (λ (o : Option (List ℕ)). unwrap_or o s) (sym has.there ∙ sym there) in

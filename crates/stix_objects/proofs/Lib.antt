@@ -2,7 +2,7 @@ mod TimestampLemmas
 mod IdentifierLemmas
 mod ListLemmas
 mod NamesLemmas
-mod JudgingLemmas
+mod CheckingLemmas
 mod BreaksLemmas
 mod SomeBreaksLemmas
 mod SoundLemmas

@@ -16,20 +16,20 @@ use Rattle.stix_objects.specs.Row.{Row, required, own_id, order}
 use Rattle.stix_objects.specs.CommonRows.{common_rows}
 use Rattle.stix_objects.specs.DomainTypes.{observed_data}
 use Rattle.stix_objects.specs.Types.{type_named, group_in, rows_in}
-use Rattle.stix_objects.specs.Judging.{Asks, OfKind}
-use Rattle.stix_objects.specs.Singles.{IsTimestamp, NamesOwn, JudgesSingle, JudgesOwnId}
-use Rattle.stix_objects.specs.Forms.{JudgesValue, JudgesForm}
+use Rattle.stix_objects.specs.Checking.{Asks, OfKind}
+use Rattle.stix_objects.specs.Singles.{IsTimestamp, NamesOwn, ChecksSingle, ChecksOwnId}
+use Rattle.stix_objects.specs.Forms.{ChecksValue, ChecksForm}
 use Rattle.stix_objects.specs.Properties.{IsTimestampAt}
 use Rattle.stix_json.specs.Properties.{text_at}
-use Rattle.stix_objects.specs.Rows.{Judges, JudgesOwn}
-use Rattle.stix_objects.specs.Breaks.{standing, rows_for, type_of, JudgesRows, AreBreaksBy, AreBreaksOf}
+use Rattle.stix_objects.specs.Rows.{Checks, ChecksOwn}
+use Rattle.stix_objects.specs.Breaks.{applicable, rows_for, type_of, ChecksRows, AreBreaksBy, AreBreaksOf}
 use Rattle.stix_objects.specs.Sound.{MeetsAll, IsNamed, IsTimed}
 
-meets_all : (rows : List Row) (d : Data) (outcomes : List (Option BreakAt)) → JudgesRows rows d outcomes → [] ≡ filter_map (option_map break_of) outcomes → MeetsAll rows d
-meets_all [] d outcomes judged told = tt
-meets_all (row ∷ rows) d [] judged told = absurd judged
-meets_all (row ∷ rows) d (None ∷ outcomes) judged told = (judged.0, meets_all rows d outcomes judged.1 told)
-meets_all (row ∷ rows) d (Some found ∷ outcomes) judged told = absurd (cc)
+meets_all : (rows : List Row) (d : Data) (outcomes : List (Option BreakAt)) → ChecksRows rows d outcomes → [] ≡ filter_map (option_map break_of) outcomes → MeetsAll rows d
+meets_all [] d outcomes checked told = tt
+meets_all (row ∷ rows) d [] checked told = absurd checked
+meets_all (row ∷ rows) d (None ∷ outcomes) checked told = (checked.0, meets_all rows d outcomes checked.1 told)
+meets_all (row ∷ rows) d (Some found ∷ outcomes) checked told = absurd (cc)
 
 -- a value without breaks is an object that meets its rows
 pub record IsMet (d : Data) : Type 0 where
@@ -39,7 +39,7 @@ pub record IsMet (d : Data) : Type 0 where
 met_object : {B : Type 0} (o : Option B) (d : Data) → MatchOption o ([] ≡ break_of (here NotObject) ∷ []) (λ b. AreBreaksBy (rows_for (type_of d)) d [])
     → IsSome o × MeetsAll (rows_for (type_of d)) d
 met_object None d breaks = absurd (cc)
-met_object (Some b) d breaks = (refl, meets_all (rows_for (type_of d)) d breaks.outcomes breaks.judged breaks.told)
+met_object (Some b) d breaks = (refl, meets_all (rows_for (type_of d)) d breaks.outcomes breaks.checked breaks.told)
 
 pub is_met : (d : Data) → AreBreaksOf d [] → IsMet d
 is_met d breaks = let met = met_object (as_object d) d breaks in record { object = met.0; rows = met.1 }
@@ -49,8 +49,8 @@ own_met [] rest d met = met
 own_met (row ∷ rows) rest d met = own_met rows rest d met.1
 
 -- each group has the rows of the type and of the identifier
-common_met : (group : Group) (own : List Row) (d : Data) → MeetsAll (filter_map (standing group own) common_rows ++ own) d
-    → Judges (required (codes "type") (one kind)) d None × Judges own_id d None
+common_met : (group : Group) (own : List Row) (d : Data) → MeetsAll (filter_map (applicable group own) common_rows ++ own) d
+    → Checks (required (codes "type") (one kind)) d None × Checks own_id d None
 common_met Domain own d met = (met.0, met.1.1.0)
 common_met Marking own d met = (met.0, met.1.1.0)
 common_met Observable own d met = (met.0, met.1.1.0)
@@ -61,35 +61,35 @@ met_inside None tell is = refl
 met_inside (Some a) tell is = absurd (cc)
 
 -- a required property that is met is there and meets its form
-met_value : (name : List ℕ) (J : Data → Option BreakAt → Type 0) (o : Option Data) → JudgesValue (Unit {0}) name J o None → (v : Data) × (o ≡ Some v) × J v None
-met_value name J None judged = absurd (judged tt)
-met_value name J (Some v) judged =
-    (v, refl, subst (λ (o : Option BreakAt). J v o) (met_inside judged.0 (under name) judged.2) judged.1)
+met_value : (name : List ℕ) (J : Data → Option BreakAt → Type 0) (o : Option Data) → ChecksValue (Unit {0}) name J o None → (v : Data) × (o ≡ Some v) × J v None
+met_value name J None checked = absurd (checked tt)
+met_value name J (Some v) checked =
+    (v, refl, subst (λ (o : Option BreakAt). J v o) (met_inside checked.0 (under name) checked.2) checked.1)
 
 met_here : (J : Option Rule → Type 0) → ((rule : Option Rule) × J rule × (None ≡ option_map here rule)) → J None
-met_here J judged = subst (λ (o : Option Rule). J o) (met_inside judged.0 here judged.2) judged.1
+met_here J checked = subst (λ (o : Option Rule). J o) (met_inside checked.0 here checked.2) checked.1
 
 met_kind : {A : Type 0} (of : Option A) (J : A → Option Rule → Type 0) → OfKind of J None → (a : A) × (of ≡ Some a) × J a None
-met_kind None J judged = absurd (cc)
-met_kind (Some a) J judged = (a, refl, judged)
+met_kind None J checked = absurd (cc)
+met_kind (Some a) J checked = (a, refl, checked)
 
 text_there : (name : List ℕ) (d v : Data) (s : List ℕ) → get name d ≡ Some v → as_str v ≡ Some s → text_at name d ≡ Some s
 text_there name d v s there is = ap (option_and_then as_str) there ∙ is
 
-met_time : (name : List ℕ) (d : Data) → Judges (required name time) d None → (i : ℤ) × IsTimestampAt Any name d i
-met_time name d judged =
-    let v = met_value name (JudgesForm time) (get name d) judged in
-    let s = met_kind (as_str v.0) (λ s. Asks (IsTimestamp Any s) BadTime) (met_here (JudgesSingle (timestamp Any) v.0) v.2) in
+met_time : (name : List ℕ) (d : Data) → Checks (required name time) d None → (i : ℤ) × IsTimestampAt Any name d i
+met_time name d checked =
+    let v = met_value name (ChecksForm time) (get name d) checked in
+    let s = met_kind (as_str v.0) (λ s. Asks (IsTimestamp Any s) BadTime) (met_here (ChecksSingle (timestamp Any) v.0) v.2) in
     (s.2.0, record { text = s.0; there = text_there name d v.0 s.0 v.1 s.1; names = s.2.1 })
 
-named_met : (d : Data) → IsSome (as_object d) → Judges (required (codes "type") (one kind)) d None → Judges own_id d None → IsNamed d
+named_met : (d : Data) → IsSome (as_object d) → Checks (required (codes "type") (one kind)) d None → Checks own_id d None → IsNamed d
 named_met d object typed owned =
-    let t = met_value (codes "type") (JudgesForm (one kind)) (get (codes "type") d) typed in
-    let s = met_kind (as_str t.0) (λ s. Asks (IsKind s) BadWord) (met_here (JudgesSingle kind t.0) t.2) in
+    let t = met_value (codes "type") (ChecksForm (one kind)) (get (codes "type") d) typed in
+    let s = met_kind (as_str t.0) (λ s. Asks (IsKind s) BadWord) (met_here (ChecksSingle kind t.0) t.2) in
     let type_is : text_at (codes "type") d ≡ Some s.0 = text_there (codes "type") d t.0 s.0 t.1 s.1 in
     let own = text_at (codes "type") d in
-    let i = met_value (codes "id") (JudgesOwn own) (get (codes "id") d) owned in
-    let n = met_kind (as_str i.0) (λ s. Asks (NamesOwn own s) BadId) (met_here (JudgesOwnId own i.0) i.2) in
+    let i = met_value (codes "id") (ChecksOwn own) (get (codes "id") d) owned in
+    let n = met_kind (as_str i.0) (λ s. Asks (NamesOwn own s) BadId) (met_here (ChecksOwnId own i.0) i.2) in
     let id = subst (λ (o : Option (List ℕ)). NamesOwn o n.0) type_is n.2 in
     record {
       object = object;
@@ -108,7 +108,7 @@ is_named d met =
     let common = common_met (group_in type) (rows_in type) d met.rows in
     named_met d met.object common.0 common.1
 
-timed : (first second : List ℕ) (d : Data) → Judges (required first time) d None → Judges (required second time) d None → Judges (order Any first second) d None → IsTimed first second d
+timed : (first second : List ℕ) (d : Data) → Checks (required first time) d None → Checks (required second time) d None → Checks (order Any first second) d None → IsTimed first second d
 timed first second d begins ends ordered =
     let from = met_time first d begins in
     let to = met_time second d ends in
@@ -128,6 +128,6 @@ observed_rows d is = ap (λ name. rows_in (option_and_then type_named name)) is
 pub is_timed : (d : Data) → IsMet d → text_at (codes "type") d ≡ Some (codes "observed-data") → IsTimed (codes "first_observed") (codes "last_observed") d
 is_timed d met is =
     let type = type_of d in
-    let own = own_met (filter_map (standing (group_in type) (rows_in type)) common_rows) (rows_in type) d met.rows in
+    let own = own_met (filter_map (applicable (group_in type) (rows_in type)) common_rows) (rows_in type) d met.rows in
     let rows = subst (λ (rows : List Row). MeetsAll rows d) (observed_rows d is) own in
     timed (codes "first_observed") (codes "last_observed") d rows.0 rows.1.0 rows.1.1.0

@@ -12,7 +12,7 @@ use Rattle.stix_objects.specs.Row.{Row, required, optional, required_where, Comm
 use Rattle.stix_objects.specs.CommonRows.{common_rows}
 use Rattle.stix_objects.specs.Types.{type_named, group_in, rows_in}
 use Rattle.stix_json.specs.Properties.{text_at}
-use Rattle.stix_objects.specs.Rows.{Judges}
+use Rattle.stix_objects.specs.Rows.{Checks}
 
 -- whether two groups are one
 abbrev pub same_group : Group → Group → Bool
@@ -30,30 +30,30 @@ is_row_of name (required_where own form condition) = bytes_eq own name
 is_row_of name _ = false
 
 -- the common row as it stands for a group and beside a type's own rows
-abbrev pub standing : Group → List Row → CommonRow → Option Row
-standing group own (for groups row) = if list_any (same_group group) groups then Some row else None
-standing group own (unless_own groups name row) =
+abbrev pub applicable : Group → List Row → CommonRow → Option Row
+applicable group own (for groups row) = if list_any (same_group group) groups then Some row else None
+applicable group own (unless_own groups name row) =
     if list_any (same_group group) groups && not (list_any (is_row_of name) own) then Some row else None
 
 -- the rows of a type: the common rows that stand for it, then its own
 abbrev pub rows_for : Option ObjectType → List Row
-rows_for type = filter_map (standing (group_in type) (rows_in type)) common_rows ++ rows_in type
+rows_for type = filter_map (applicable (group_in type) (rows_in type)) common_rows ++ rows_in type
 
 -- the type of an object, where it has rows of its own
 abbrev pub type_of : Data → Option ObjectType
 type_of d = option_and_then type_named (text_at (codes "type") d)
 
 -- each row's outcome, in order
-abbrev pub JudgesRows : List Row → Data → List (Option BreakAt) → Type 0
-JudgesRows [] d [] = ⊤
-JudgesRows [] d (outcome ∷ outcomes) = ⊥
-JudgesRows (row ∷ rows) d [] = ⊥
-JudgesRows (row ∷ rows) d (outcome ∷ outcomes) = Judges row d outcome × JudgesRows rows d outcomes
+abbrev pub ChecksRows : List Row → Data → List (Option BreakAt) → Type 0
+ChecksRows [] d [] = ⊤
+ChecksRows [] d (outcome ∷ outcomes) = ⊥
+ChecksRows (row ∷ rows) d [] = ⊥
+ChecksRows (row ∷ rows) d (outcome ∷ outcomes) = Checks row d outcome × ChecksRows rows d outcomes
 
 -- these are the breaks of the rows
 pub record AreBreaksBy (rows : List Row) (d : Data) (breaks : List Break) : Type 0 where
   pub outcomes : List (Option BreakAt)
-  pub judged : JudgesRows rows d outcomes
+  pub checked : ChecksRows rows d outcomes
   pub told : breaks ≡ filter_map (option_map break_of) outcomes
 
 -- these are the breaks of a value: of an object those of its rows, and of another value the one that it is none

@@ -7,7 +7,7 @@ use Rattle.stix_json.specs.Properties.{text_at}
 use Rattle.stix_objects.specs.declared.form.Precision.{Precision}
 use Rattle.stix_objects.specs.Form.{Form}
 use Rattle.stix_objects.specs.Row.{Condition, is_true, is_false, meets, absent}
-use Rattle.stix_objects.specs.Singles.{JudgesOwnId}
+use Rattle.stix_objects.specs.Singles.{ChecksOwnId}
 use Rattle.stix_objects.specs.Forms.{MeetsForm}
 use Rattle.stix_objects.specs.Properties.{IsTimestampAt, HasId}
 
@@ -83,7 +83,7 @@ HasNumber d number = (id : Id) × HasId d id × (id.number ≡ number)
 -- the object's identifier, where there is one, is of the object's type
 abbrev pub HasOwnIdOrNone : Data → Type 0
 HasOwnIdOrNone d =
-    MatchOption (get (codes "id") d) ⊤ (λ v. JudgesOwnId (text_at (codes "type") d) v None)
+    MatchOption (get (codes "id") d) ⊤ (λ v. ChecksOwnId (text_at (codes "type") d) v None)
 
 -- the object defines a colour, and its identifier isn't the colour's
 pub record HasOtherColour (d : Data) : Type 0 where

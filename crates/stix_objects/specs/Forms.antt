@@ -2,32 +2,32 @@
 use Rattle.std.specs.Prelude.{◌≡◌, ⊤, ℕ, ◌+◌, List, [], ◌∷◌, Option, Some, None, MatchOption, option_map}
 use Rattle.serde_json.specs.Data.{Data, Items, no_items, item}
 use Rattle.serde_json.specs.Find.{get, as_array}
-use Rattle.stix_json.specs.Walk.{place_part}
+use Rattle.stix_json.specs.Walk.{index_part}
 use Rattle.stix_objects.specs.declared.rule.Rule.{Rule}
 use Rattle.stix_objects.specs.declared.rule.Rule.TheVariants.{WrongKind, EmptyList, Missing, NeedsOneOf}
 use Rattle.stix_objects.specs.BreakAt.{BreakAt, here, under}
 use Rattle.stix_objects.specs.Form.{Single, Part, must, may, some_of, Form, one, list, records, object}
-use Rattle.stix_objects.specs.Judging.{Forbids, InTurn}
-use Rattle.stix_objects.specs.Singles.{JudgesSingle}
+use Rattle.stix_objects.specs.Checking.{Forbids, InTurn}
+use Rattle.stix_objects.specs.Singles.{ChecksSingle}
 
--- a value judged by itself
-abbrev pub JudgesHere : Single → Data → Option BreakAt → Type 0
-JudgesHere single d outcome = (rule : Option Rule) × JudgesSingle single d rule × (outcome ≡ option_map here rule)
+-- a value checked by itself
+abbrev pub ChecksHere : Single → Data → Option BreakAt → Type 0
+ChecksHere single d outcome = (rule : Option Rule) × ChecksSingle single d rule × (outcome ≡ option_map here rule)
 
 -- what is found in a value, told by the part under which it stands
-abbrev pub JudgesUnder : List ℕ → (Option BreakAt → Type 0) → Option BreakAt → Type 0
-JudgesUnder part Judges outcome = (inner : Option BreakAt) × Judges inner × (outcome ≡ option_map (under part) inner)
+abbrev pub ChecksUnder : List ℕ → (Option BreakAt → Type 0) → Option BreakAt → Type 0
+ChecksUnder part Checks outcome = (inner : Option BreakAt) × Checks inner × (outcome ≡ option_map (under part) inner)
 
 -- the first thing found in the items from a place on
-abbrev pub JudgesItems : (Data → Option BreakAt → Type 0) → ℕ → Items → Option BreakAt → Type 0
-JudgesItems Judges at no_items outcome = outcome ≡ None
-JudgesItems Judges at (item d ds) outcome =
-    InTurn (JudgesUnder (place_part at) (Judges d)) (JudgesItems Judges (at + 1) ds) outcome
+abbrev pub ChecksItems : (Data → Option BreakAt → Type 0) → ℕ → Items → Option BreakAt → Type 0
+ChecksItems Checks at no_items outcome = outcome ≡ None
+ChecksItems Checks at (item d ds) outcome =
+    InTurn (ChecksUnder (index_part at) (Checks d)) (ChecksItems Checks (at + 1) ds) outcome
 
 -- the first thing found in a list, which isn't empty
-abbrev pub JudgesList : (Data → Option BreakAt → Type 0) → Items → Option BreakAt → Type 0
-JudgesList Judges no_items outcome = outcome ≡ Some (here EmptyList)
-JudgesList Judges (item d ds) outcome = JudgesItems Judges 0 (item d ds) outcome
+abbrev pub ChecksList : (Data → Option BreakAt → Type 0) → Items → Option BreakAt → Type 0
+ChecksList Checks no_items outcome = outcome ≡ Some (here EmptyList)
+ChecksList Checks (item d ds) outcome = ChecksItems Checks 0 (item d ds) outcome
 
 -- none of the properties is there
 abbrev pub LacksAll : List (List ℕ) → Data → Type 0
@@ -35,35 +35,35 @@ LacksAll [] d = ⊤
 LacksAll (name ∷ names) d = (get name d ≡ None) × LacksAll names d
 
 -- a property of some form, where it is there; else whether it must be
-abbrev pub JudgesValue : Type 0 → List ℕ → (Data → Option BreakAt → Type 0) → Option Data → Option BreakAt → Type 0
-JudgesValue Needed name Judges None outcome = Forbids Needed (under name (here Missing)) outcome
-JudgesValue Needed name Judges (Some d) outcome = JudgesUnder name (Judges d) outcome
+abbrev pub ChecksValue : Type 0 → List ℕ → (Data → Option BreakAt → Type 0) → Option Data → Option BreakAt → Type 0
+ChecksValue Needed name Checks None outcome = Forbids Needed (under name (here Missing)) outcome
+ChecksValue Needed name Checks (Some d) outcome = ChecksUnder name (Checks d) outcome
 
 -- what an object in a list breaks of one of its parts
-abbrev pub JudgesPart : Part → Data → Option BreakAt → Type 0
-JudgesPart (must name single) d outcome = JudgesValue ⊤ name (JudgesHere single) (get name d) outcome
-JudgesPart (may name single) d outcome = JudgesValue ⊥ name (JudgesHere single) (get name d) outcome
-JudgesPart (some_of names) d outcome = Forbids (LacksAll names d) (here NeedsOneOf) outcome
+abbrev pub ChecksPart : Part → Data → Option BreakAt → Type 0
+ChecksPart (must name single) d outcome = ChecksValue ⊤ name (ChecksHere single) (get name d) outcome
+ChecksPart (may name single) d outcome = ChecksValue ⊥ name (ChecksHere single) (get name d) outcome
+ChecksPart (some_of names) d outcome = Forbids (LacksAll names d) (here NeedsOneOf) outcome
 
 -- the first of its parts that it breaks
-abbrev pub JudgesParts : List Part → Data → Option BreakAt → Type 0
-JudgesParts [] d outcome = outcome ≡ None
-JudgesParts (part ∷ parts) d outcome = InTurn (JudgesPart part d) (JudgesParts parts d) outcome
+abbrev pub ChecksParts : List Part → Data → Option BreakAt → Type 0
+ChecksParts [] d outcome = outcome ≡ None
+ChecksParts (part ∷ parts) d outcome = InTurn (ChecksPart part d) (ChecksParts parts d) outcome
 
 -- a value that is a list, else WrongKind
 abbrev pub OfList : (Items → Option BreakAt → Type 0) → Data → Option BreakAt → Type 0
-OfList Judges d outcome = MatchOption (as_array d) (outcome ≡ Some (here WrongKind)) (λ ds. Judges ds outcome)
+OfList Checks d outcome = MatchOption (as_array d) (outcome ≡ Some (here WrongKind)) (λ ds. Checks ds outcome)
 
 -- a list of objects, and then the parts of each
-abbrev pub JudgesRecords : List Part → Items → Option BreakAt → Type 0
-JudgesRecords parts ds outcome = InTurn (JudgesList (JudgesHere object) ds) (JudgesItems (JudgesParts parts) 0 ds) outcome
+abbrev pub ChecksRecords : List Part → Items → Option BreakAt → Type 0
+ChecksRecords parts ds outcome = InTurn (ChecksList (ChecksHere object) ds) (ChecksItems (ChecksParts parts) 0 ds) outcome
 
 -- what a property's value breaks of its form
-abbrev pub JudgesForm : Form → Data → Option BreakAt → Type 0
-JudgesForm (one single) d outcome = JudgesHere single d outcome
-JudgesForm (list single) d outcome = OfList (JudgesList (JudgesHere single)) d outcome
-JudgesForm (records parts) d outcome = OfList (JudgesRecords parts) d outcome
+abbrev pub ChecksForm : Form → Data → Option BreakAt → Type 0
+ChecksForm (one single) d outcome = ChecksHere single d outcome
+ChecksForm (list single) d outcome = OfList (ChecksList (ChecksHere single)) d outcome
+ChecksForm (records parts) d outcome = OfList (ChecksRecords parts) d outcome
 
 -- the value meets the form
 abbrev pub MeetsForm : Form → Data → Type 0
-MeetsForm form d = JudgesForm form d None
+MeetsForm form d = ChecksForm form d None

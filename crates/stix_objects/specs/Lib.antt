@@ -5,7 +5,7 @@ pub mod CommonRows
 pub mod DomainTypes
 pub mod ObservableTypes
 pub mod Types
-pub mod Judging
+pub mod Checking
 pub mod Singles
 pub mod Forms
 pub mod Properties

@@ -13,7 +13,7 @@ use Rattle.stix_objects.specs.declared.form.Precision.TheVariants.{Any, Millis}
 use Rattle.stix_objects.specs.Form.{Single, any_text, kind, version, one_of, timestamp, any_reference, reference, any_boolean, integer_in, texts_by_name}
 use Rattle.stix_objects.specs.Form as forms
 use Rattle.stix_objects.specs.Types.{is_among}
-use Rattle.stix_objects.specs.Judging.{Asks, InTurn, OfKind}
+use Rattle.stix_objects.specs.Checking.{Asks, InTurn, OfKind}
 
 -- nothing is found
 abbrev pub Met : Option Rule → Type 0
@@ -38,17 +38,17 @@ abbrev pub IsTimestamp : Precision → List ℕ → Type 0
 IsTimestamp precision s = (instant : ℤ) × IsTimestampOf precision s instant
 
 -- what a text breaks of a timestamp
-abbrev pub JudgesTimestamp : Precision → List ℕ → Option Rule → Type 0
-JudgesTimestamp Any s outcome = Asks (IsTimestamp Any s) BadTime outcome
-JudgesTimestamp Millis s outcome = InTurn (Asks (IsTimestamp Any s) BadTime) (Asks (IsTimestamp Millis s) NotMillis) outcome
+abbrev pub ChecksTimestamp : Precision → List ℕ → Option Rule → Type 0
+ChecksTimestamp Any s outcome = Asks (IsTimestamp Any s) BadTime outcome
+ChecksTimestamp Millis s outcome = InTurn (Asks (IsTimestamp Any s) BadTime) (Asks (IsTimestamp Millis s) NotMillis) outcome
 
 -- the text is an identifier of one of these kinds
 abbrev pub Refers : List (List ℕ) → List ℕ → Type 0
 Refers kinds s = (id : Id) × IsTextOf s id × IsTrue (is_among id.kind kinds)
 
 -- what a text breaks of an identifier of these kinds
-abbrev pub JudgesReference : List (List ℕ) → List ℕ → Option Rule → Type 0
-JudgesReference kinds s outcome = InTurn (Asks (IsIdText s) BadId) (Asks (Refers kinds s) BadReference) outcome
+abbrev pub ChecksReference : List (List ℕ) → List ℕ → Option Rule → Type 0
+ChecksReference kinds s outcome = InTurn (Asks (IsIdText s) BadId) (Asks (Refers kinds s) BadReference) outcome
 
 -- each member is a text
 abbrev pub AreTexts : Members → Type 0
@@ -61,22 +61,22 @@ HasMember no_members = ⊥
 HasMember (member name d ms) = ⊤
 
 -- what the members of an object of hashes break
-abbrev pub JudgesTexts : Members → Option Rule → Type 0
-JudgesTexts ms outcome = InTurn (Asks (AreTexts ms) WrongKind) (Asks (HasMember ms) EmptyList) outcome
+abbrev pub ChecksTexts : Members → Option Rule → Type 0
+ChecksTexts ms outcome = InTurn (Asks (AreTexts ms) WrongKind) (Asks (HasMember ms) EmptyList) outcome
 
 -- what a value breaks of a form
-abbrev pub JudgesSingle : Single → Data → Option Rule → Type 0
-JudgesSingle any_text d outcome = OfKind (as_str d) (λ s. Met) outcome
-JudgesSingle kind d outcome = OfKind (as_str d) (λ s. Asks (IsKind s) BadWord) outcome
-JudgesSingle version d outcome = OfKind (as_str d) (λ s. Asks (s ≡ codes "2.1") BadSpec) outcome
-JudgesSingle (one_of known) d outcome = OfKind (as_str d) (λ s. Asks (IsTrue (is_among s known)) BadWord) outcome
-JudgesSingle (timestamp precision) d outcome = OfKind (as_str d) (JudgesTimestamp precision) outcome
-JudgesSingle any_reference d outcome = OfKind (as_str d) (λ s. Asks (IsIdText s) BadId) outcome
-JudgesSingle (reference kinds) d outcome = OfKind (as_str d) (JudgesReference kinds) outcome
-JudgesSingle any_boolean d outcome = OfKind (as_bool d) (λ b. Met) outcome
-JudgesSingle (integer_in least most) d outcome = OfKind (integer_of d) (λ z. Asks ((least ≤ℤ z) × (z ≤ℤ most)) OutOfRange) outcome
-JudgesSingle forms.object d outcome = OfKind (as_object d) (λ ms. Met) outcome
-JudgesSingle texts_by_name d outcome = OfKind (as_object d) JudgesTexts outcome
+abbrev pub ChecksSingle : Single → Data → Option Rule → Type 0
+ChecksSingle any_text d outcome = OfKind (as_str d) (λ s. Met) outcome
+ChecksSingle kind d outcome = OfKind (as_str d) (λ s. Asks (IsKind s) BadWord) outcome
+ChecksSingle version d outcome = OfKind (as_str d) (λ s. Asks (s ≡ codes "2.1") BadSpec) outcome
+ChecksSingle (one_of known) d outcome = OfKind (as_str d) (λ s. Asks (IsTrue (is_among s known)) BadWord) outcome
+ChecksSingle (timestamp precision) d outcome = OfKind (as_str d) (ChecksTimestamp precision) outcome
+ChecksSingle any_reference d outcome = OfKind (as_str d) (λ s. Asks (IsIdText s) BadId) outcome
+ChecksSingle (reference kinds) d outcome = OfKind (as_str d) (ChecksReference kinds) outcome
+ChecksSingle any_boolean d outcome = OfKind (as_bool d) (λ b. Met) outcome
+ChecksSingle (integer_in least most) d outcome = OfKind (integer_of d) (λ z. Asks ((least ≤ℤ z) × (z ≤ℤ most)) OutOfRange) outcome
+ChecksSingle forms.object d outcome = OfKind (as_object d) (λ ms. Met) outcome
+ChecksSingle texts_by_name d outcome = OfKind (as_object d) ChecksTexts outcome
 
 -- the text is an identifier of the object's own kind, or of any where the object tells none
 abbrev pub NamesOwn : Option (List ℕ) → List ℕ → Type 0
@@ -84,5 +84,5 @@ NamesOwn None s = IsIdText s
 NamesOwn (Some own) s = (number : ℕ) × IsTextOf s (record { kind = own; number = number })
 
 -- what an object's identifier breaks
-abbrev pub JudgesOwnId : Option (List ℕ) → Data → Option Rule → Type 0
-JudgesOwnId own d outcome = OfKind (as_str d) (λ s. Asks (NamesOwn own s) BadId) outcome
+abbrev pub ChecksOwnId : Option (List ℕ) → Data → Option Rule → Type 0
+ChecksOwnId own d outcome = OfKind (as_str d) (λ s. Asks (NamesOwn own s) BadId) outcome

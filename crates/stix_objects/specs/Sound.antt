@@ -8,12 +8,12 @@ use Rattle.stix_objects.specs.declared.form.Precision.TheVariants.{Any}
 use Rattle.stix_objects.specs.Row.{Row}
 use Rattle.stix_objects.specs.Properties.{IsTimestampAt}
 use Rattle.stix_json.specs.Properties.{text_at}
-use Rattle.stix_objects.specs.Rows.{Judges}
+use Rattle.stix_objects.specs.Rows.{Checks}
 
 -- the value meets each row
 abbrev pub MeetsAll : List Row → Data → Type 0
 MeetsAll [] d = ⊤
-MeetsAll (row ∷ rows) d = Judges row d None × MeetsAll rows d
+MeetsAll (row ∷ rows) d = Checks row d None × MeetsAll rows d
 
 -- the value is an object with a type, and with an identifier of that type
 pub record IsNamed (d : Data) : Type 0 where

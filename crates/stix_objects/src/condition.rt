@@ -6,7 +6,7 @@ ghost use Rattle.stix_objects.specs.Conditions.{Meets, Holds, HoldAll};
 ghost use Rattle.stix_objects.specs.inner.Views.{form_view, condition_view};
 
 use crate::form::Form;
-use crate::list::judge_form;
+use crate::list::check_form;
 use crate::object::Object;
 use crate::row::Condition;
 use stix_json::Json;
@@ -50,7 +50,7 @@ fn meets(object: &Object<'_>, name: &str, form: &Form) -> bool
     ensures { IsTrue result ↔ Meets name.now (form_view form.now) (data_of object.now) }
 {
     match object.get(name) {
-        Some(value) => judge_form(form, value).is_none(),
+        Some(value) => check_form(form, value).is_none(),
         None => false,
     }
 }

@@ -5,27 +5,27 @@ ghost use Rattle.stix_ids.specs.PartsOf.{id_of};
 ghost use Rattle.flow_values.specs.Answers.{FindsExactly};
 ghost use Rattle.stix_json.specs.DataOf.{data_of};
 ghost use Rattle.stix_objects.specs.Form.{any_reference, reference};
-ghost use Rattle.stix_objects.specs.Singles.{NamesOwn, JudgesOwnId, JudgesSingle};
+ghost use Rattle.stix_objects.specs.Singles.{NamesOwn, ChecksOwnId, ChecksSingle};
 ghost use Rattle.stix_objects.specs.Properties.{HasId};
 ghost use Rattle.stix_objects.specs.Conditions.{HasNumber};
 
 use crate::Rule;
 use crate::object::Object;
-use stix_ids::Parts;
+use stix_ids::IdRef;
 use stix_ids::laws::one_identifier;
 use stix_json::{Json, text_at, text_of};
 
 /// The identifier that a text is, which is the only one.
-fn identifier_of(text: &str) -> Option<Parts<'_>>
+fn identifier_of(text: &str) -> Option<IdRef<'_>>
     ensures some { IfSome result (λ parts. IsTextOf text.now (id_of parts)) }
     ensures only { (id : Id) → IsTextOf text.now id → option_map id_of result ≡ Some id }
 {
-    Parts::read(text).ok()
+    IdRef::read(text).ok()
 }
 
 /// What a value breaks of an identifier of any kind.
-pub(crate) fn judge_any_reference(value: &Json) -> Option<Rule>
-    ensures { JudgesSingle any_reference (data_of value.now) result }
+pub(crate) fn check_any_reference(value: &Json) -> Option<Rule>
+    ensures { ChecksSingle any_reference (data_of value.now) result }
 {
     let Some(text) = text_of(value) else {
         return Some(Rule::WrongKind);
@@ -37,8 +37,8 @@ pub(crate) fn judge_any_reference(value: &Json) -> Option<Rule>
 }
 
 /// What a value breaks of an identifier of one of these kinds.
-pub(crate) fn judge_reference(kinds: &[&str], value: &Json) -> Option<Rule>
-    ensures { JudgesSingle (reference (map (λ kind. kind.now) kinds.now)) (data_of value.now) result }
+pub(crate) fn check_reference(kinds: &[&str], value: &Json) -> Option<Rule>
+    ensures { ChecksSingle (reference (map (λ kind. kind.now) kinds.now)) (data_of value.now) result }
 {
     let Some(text) = text_of(value) else {
         return Some(Rule::WrongKind);
@@ -54,8 +54,8 @@ pub(crate) fn judge_reference(kinds: &[&str], value: &Json) -> Option<Rule>
 }
 
 /// What a value breaks of the identifier of an object of that type, where it tells one.
-pub(crate) fn judge_own_id(own: Option<&str>, value: &Json) -> Option<Rule>
-    ensures { JudgesOwnId (option_map (λ kind. kind.now) own.entry) (data_of value.now) result }
+pub(crate) fn check_own_id(own: Option<&str>, value: &Json) -> Option<Rule>
+    ensures { ChecksOwnId (option_map (λ kind. kind.now) own.entry) (data_of value.now) result }
 {
     let Some(text) = text_of(value) else {
         return Some(Rule::WrongKind);
@@ -80,7 +80,7 @@ fn names_own(own: Option<&str>, text: &str) -> bool
 }
 
 /// The identifier of an object. Takes no memory.
-pub fn object_id(object: &Json) -> Option<Parts<'_>>
+pub fn object_id(object: &Json) -> Option<IdRef<'_>>
     ensures { FindsExactly (HasId (data_of object.now)) (option_map id_of result) }
 {
     identifier_of(text_at(object, "id")?)

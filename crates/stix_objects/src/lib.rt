@@ -1,6 +1,6 @@
 //! The rules of STIX 2.1 for one object: the properties that its type names, their forms, and what
 //! they ask of each other (sections 2 to 7). `breaks` tells each row that an object doesn't meet,
-//! with the rule that is broken and its path; the rows are tables, which one judge walks.
+//! with the rule that is broken and its path; the rows are tables, which one check walks.
 //!
 //! A type's rows stand in `tables`, and in the definitions of specs/ beside them.
 #![tactic(auto)]
@@ -9,7 +9,7 @@ mod condition;
 mod form;
 mod groups;
 mod identifier;
-mod judge;
+mod check;
 mod kinds;
 pub mod laws;
 mod list;

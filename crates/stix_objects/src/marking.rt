@@ -3,7 +3,7 @@ ghost use Rattle.stix_json.specs.DataOf.{data_of};
 ghost use Rattle.stix_objects.specs.Conditions.{defined_text as text_defined, defined_colour as colour_defined, number_of_colour, DefinesObjectOrNone, IsMarking, HasOwnIdOrNone, HasOtherColour};
 ghost use Rattle.stix_objects.specs.Rows.{LacksStatement, LacksColour};
 
-use crate::identifier::{has_number, judge_own_id};
+use crate::identifier::{has_number, check_own_id};
 use crate::object::Object;
 use stix_json::{Json, text_at};
 
@@ -55,7 +55,7 @@ fn has_own_id_or_none(object: &Object<'_>) -> bool
     ensures { IsTrue result ↔ HasOwnIdOrNone (data_of object.now) }
 {
     match object.get("id") {
-        Some(id) => judge_own_id(object.text_at("type"), id).is_none(),
+        Some(id) => check_own_id(object.text_at("type"), id).is_none(),
         None => true,
     }
 }

@@ -10,7 +10,7 @@ use stix_json::{Field, Json, get, text_of};
 /// How many slots there are for names.
 const SLOTS: usize = 64;
 
-/// An object that is judged. Most rows ask for a property that isn't there, and are told so by the
+/// An object that is checked. Most rows ask for a property that isn't there, and are told so by the
 /// slot of its name, without a walk over the fields.
 #[derive(Drop)]
 pub(crate) struct Object<'a> {
@@ -57,7 +57,7 @@ impl<'a> Object<'a> {
     pub(crate) fn get(&self, name: &str) -> Option<&'a Json>
         ensures { option_map (λ value. data_of value.now) result ≡ member_of name.now (data_of self.now) }
     {
-        if self.plainly_lacks(name) {
+        if self.definitely_lacks(name) {
             None
         } else {
             get(self.json, name)
@@ -65,7 +65,7 @@ impl<'a> Object<'a> {
     }
 
     /// Whether the slot of the name tells that it has no such property.
-    pub(crate) fn plainly_lacks(&self, name: &str) -> bool
+    pub(crate) fn definitely_lacks(&self, name: &str) -> bool
         ensures { IsTrue result → member_of name.now (data_of self.now) ≡ None }
     {
         !self.taken[slot_of(name)]

@@ -2,25 +2,25 @@ ghost use Rattle.std.specs.Prelude.{◌↔◌, IsTrue, option_map, map};
 ghost use Rattle.serde_json.specs.View.{items_of};
 ghost use Rattle.stix_json.specs.DataOf.{data_of};
 ghost use Rattle.stix_objects.specs.Form.{records};
-ghost use Rattle.stix_objects.specs.Forms.{JudgesHere, JudgesItems, LacksAll, JudgesUnder, JudgesPart, JudgesParts, JudgesForm};
+ghost use Rattle.stix_objects.specs.Forms.{ChecksHere, ChecksItems, LacksAll, ChecksUnder, ChecksPart, ChecksParts, ChecksForm};
 ghost use Rattle.stix_objects.specs.inner.Views.{single_view, part_view, item_break_view, value_break_view};
 
 use crate::Rule;
 use crate::form::{Part, Single};
-use crate::list::judge_filled;
+use crate::list::check_filled;
 use crate::object::Object;
 use crate::row_break::{ItemBreak, ValueBreak};
-use crate::single::judge_single;
+use crate::single::check_single;
 use stix_json::Json;
 
 /// What a value breaks of a list of objects with these parts.
-pub(crate) fn judge_records(parts: &[Part], value: &Json) -> Option<ValueBreak>
-    ensures { JudgesForm (records (map part_view parts.now)) (data_of value.now) (option_map value_break_view result) }
+pub(crate) fn check_records(parts: &[Part], value: &Json) -> Option<ValueBreak>
+    ensures { ChecksForm (records (map part_view parts.now)) (data_of value.now) (option_map value_break_view result) }
 {
     let Json::Array(items) = value else {
         return Some(ValueBreak::here(Rule::WrongKind));
     };
-    match judge_filled(&Single::Object, items.as_slice()) {
+    match check_filled(&Single::Object, items.as_slice()) {
         Some(value_break) => Some(value_break),
         None => first_broken_record(parts, items.as_slice()),
     }
@@ -28,11 +28,11 @@ pub(crate) fn judge_records(parts: &[Part], value: &Json) -> Option<ValueBreak>
 
 /// What the first object breaks that breaks one of the parts.
 fn first_broken_record(parts: &[Part], items: &[Json]) -> Option<ValueBreak>
-    ensures { JudgesItems (JudgesParts (map part_view parts.now)) 0 (items_of (map data_of items.now))
+    ensures { ChecksItems (ChecksParts (map part_view parts.now)) 0 (items_of (map data_of items.now))
         (option_map value_break_view result) }
 {
     for (at, item) in items.iter().enumerate() {
-        if let Some(item_break) = judge_parts(parts, &Object::new(item)) {
+        if let Some(item_break) = check_parts(parts, &Object::new(item)) {
             return Some(item_break.in_item(at));
         }
     }
@@ -40,30 +40,30 @@ fn first_broken_record(parts: &[Part], items: &[Json]) -> Option<ValueBreak>
 }
 
 /// What an object breaks of the first part that it breaks.
-fn judge_parts(parts: &[Part], object: &Object<'_>) -> Option<ItemBreak>
-    ensures { JudgesParts (map part_view parts.now) (data_of object.now) (option_map item_break_view result) }
+fn check_parts(parts: &[Part], object: &Object<'_>) -> Option<ItemBreak>
+    ensures { ChecksParts (map part_view parts.now) (data_of object.now) (option_map item_break_view result) }
 {
     for part in parts {
-        if let Some(item_break) = judge_part(part, object) {
+        if let Some(item_break) = check_part(part, object) {
             return Some(item_break);
         }
     }
     None
 }
 
-fn judge_part(part: &Part, object: &Object<'_>) -> Option<ItemBreak>
-    ensures { JudgesPart (part_view part.now) (data_of object.now) (option_map item_break_view result) }
+fn check_part(part: &Part, object: &Object<'_>) -> Option<ItemBreak>
+    ensures { ChecksPart (part_view part.now) (data_of object.now) (option_map item_break_view result) }
 {
     match part {
         Part::Must(name, single) => match object.get(name) {
-            Some(value) => judge_in(name, single, value),
+            Some(value) => check_in(name, single, value),
             None => Some(ItemBreak {
                 rule: Rule::Missing,
                 part: Some(name),
             }),
         },
         Part::May(name, single) => match object.get(name) {
-            Some(value) => judge_in(name, single, value),
+            Some(value) => check_in(name, single, value),
             None => None,
         },
         Part::SomeOf(names) => {
@@ -80,11 +80,11 @@ fn judge_part(part: &Part, object: &Object<'_>) -> Option<ItemBreak>
 }
 
 /// What the value of a part breaks of its form.
-fn judge_in(name: &'static str, single: &Single, value: &Json) -> Option<ItemBreak>
-    ensures { JudgesUnder name.now (JudgesHere (single_view single.now) (data_of value.now))
+fn check_in(name: &'static str, single: &Single, value: &Json) -> Option<ItemBreak>
+    ensures { ChecksUnder name.now (ChecksHere (single_view single.now) (data_of value.now))
         (option_map item_break_view result) }
 {
-    match judge_single(single, value) {
+    match check_single(single, value) {
         Some(rule) => Some(ItemBreak {
             rule,
             part: Some(name),

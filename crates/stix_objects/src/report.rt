@@ -2,13 +2,13 @@ ghost use Rattle.std.specs.Prelude.{◌≡◌, [], ◌∷◌, IfOk, OnOk, option
 ghost use Rattle.stix_json.specs.DataOf.{data_of};
 ghost use Rattle.stix_objects.specs.declared.rule.Rule.TheVariants.{NotObject};
 ghost use Rattle.stix_objects.specs.BreakAt.{here, break_of};
-ghost use Rattle.stix_objects.specs.Breaks.{type_of, AreBreaksBy, AreBreaksOf, rows_for, standing};
+ghost use Rattle.stix_objects.specs.Breaks.{type_of, AreBreaksBy, AreBreaksOf, rows_for, applicable};
 ghost use Rattle.stix_objects.specs.Types.{group_in as group_of_type, rows_in as rows_of_type};
 ghost use Rattle.stix_objects.specs.CommonRows.{common_rows as shared_rows};
-ghost use Rattle.stix_objects.specs.inner.Adding.{Adds, AddsOne, standing_rows};
+ghost use Rattle.stix_objects.specs.inner.Adding.{Adds, AddsOne, applicable_rows};
 ghost use Rattle.stix_objects.specs.inner.Views.{row_view, common_view, type_view, row_break_view};
 
-use crate::judge::{is_idle, judge};
+use crate::check::{is_trivially_met, check};
 use crate::object::Object;
 use crate::object_type::{ObjectType, group_in, rows_in, type_named};
 use crate::row::{CommonRow, Row};
@@ -80,17 +80,17 @@ fn add_common(
     found: &mut Items<Break>,
 ) -> Result<(), NoMemory>
     ensures { OnOk result (Adds
-        (standing_rows group (map row_view own.now) (map common_view commons.now))
+        (applicable_rows group (map row_view own.now) (map common_view commons.now))
         (data_of object.now) found.old found.new) }
 {
     for common in commons {
-        add_standing(alloc, common, group, own, object, found)?;
+        add_applicable(alloc, common, group, own, object, found)?;
     }
     Ok(())
 }
 
 /// Adds the break of a common row, if it stands there and there is one.
-fn add_standing(
+fn add_applicable(
     alloc: Global,
     common: &CommonRow,
     group: Group,
@@ -99,10 +99,10 @@ fn add_standing(
     found: &mut Items<Break>,
 ) -> Result<(), NoMemory>
     ensures { OnOk result (Adds
-        (option_to_list (standing group (map row_view own.now) (common_view common.now)))
+        (option_to_list (applicable group (map row_view own.now) (common_view common.now)))
         (data_of object.now) found.old found.new) }
 {
-    if let Some(row) = common.standing(group, own) {
+    if let Some(row) = common.applicable(group, own) {
         add_break(alloc, row, object, found)?;
     }
     Ok(())
@@ -132,10 +132,10 @@ fn add_break(
 ) -> Result<(), NoMemory>
     ensures { OnOk result (AddsOne (row_view row.now) (data_of object.now) found.old found.new) }
 {
-    if is_idle(row, object) {
+    if is_trivially_met(row, object) {
         return Ok(());
     }
-    if let Some(row_break) = judge(row, object) {
+    if let Some(row_break) = check(row, object) {
         found.push(row_break.into_break(alloc)?)?;
     }
     Ok(())

@@ -1,6 +1,6 @@
 ghost use Rattle.std.specs.Prelude.{◌≡◌, option_map, map};
 ghost use Rattle.std.specs.List.{list_any};
-ghost use Rattle.stix_objects.specs.Breaks.{is_row_of, standing as standing_row};
+ghost use Rattle.stix_objects.specs.Breaks.{is_row_of, applicable as applicable_row};
 ghost use Rattle.stix_objects.specs.inner.Views.{form_view, row_view, common_view};
 
 use crate::Group;
@@ -73,8 +73,8 @@ impl Row {
 
 impl CommonRow {
     /// The row as it stands for a group and beside a type's own rows.
-    pub(crate) fn standing(&self, group: Group, own: &[Row]) -> Option<&Row>
-        ensures { option_map (λ row. row_view row.now) result ≡ standing_row group (map row_view own.now) (common_view self.now) }
+    pub(crate) fn applicable(&self, group: Group, own: &[Row]) -> Option<&Row>
+        ensures { option_map (λ row. row_view row.now) result ≡ applicable_row group (map row_view own.now) (common_view self.now) }
     {
         match self {
             CommonRow::For(groups, row) => {

@@ -1,7 +1,7 @@
 ghost use Rattle.std.specs.Prelude.{◌≡◌, IfOk};
-ghost use Rattle.stix_json.specs.Walk.{path_text, place_part};
+ghost use Rattle.stix_json.specs.Walk.{path_text, index_part};
 ghost use Rattle.stix_objects.specs.BreakAt.{here, under, break_of};
-ghost use Rattle.stix_objects.specs.inner.Views.{item_break_view, value_break_view, site_parts, row_break_view};
+ghost use Rattle.stix_objects.specs.inner.Views.{item_break_view, value_break_view, object_location_parts, row_break_view};
 
 use crate::{Break, Rule};
 use flow_values::{NoMemory, Text};
@@ -17,22 +17,22 @@ pub(crate) struct ItemBreak {
 impl ItemBreak {
     /// The same, seen from the list.
     pub(crate) fn in_item(self, at: usize) -> ValueBreak
-        ensures { value_break_view result ≡ under (place_part at) (item_break_view self) }
+        ensures { value_break_view result ≡ under (index_part at) (item_break_view self) }
     {
-        let place = match self.part {
-            Some(name) => Place::ItemPart(at, name),
-            None => Place::Item(at),
+        let location = match self.part {
+            Some(name) => ValueLocation::ItemPart(at, name),
+            None => ValueLocation::Item(at),
         };
         ValueBreak {
             rule: self.rule,
-            place,
+            location,
         }
     }
 }
 
 /// Where something stands in the value of a property.
 #[derive(Clone, Copy)]
-pub(crate) enum Place {
+pub(crate) enum ValueLocation {
     /// It is that value.
     Here,
     /// It is the item at this place.
@@ -45,7 +45,7 @@ pub(crate) enum Place {
 #[derive(Clone, Copy)]
 pub(crate) struct ValueBreak {
     pub(crate) rule: Rule,
-    pub(crate) place: Place,
+    pub(crate) location: ValueLocation,
 }
 
 impl ValueBreak {
@@ -55,7 +55,7 @@ impl ValueBreak {
     {
         ValueBreak {
             rule,
-            place: Place::Here,
+            location: ValueLocation::Here,
         }
     }
 
@@ -65,35 +65,35 @@ impl ValueBreak {
     {
         RowBreak {
             rule: self.rule,
-            site: Site::Property(name, self.place),
+            object_location: ObjectLocation::Property(name, self.location),
         }
     }
 }
 
 /// Where something stands in an object.
 #[derive(Clone, Copy)]
-pub(crate) enum Site {
+pub(crate) enum ObjectLocation {
     /// It is the object.
     Whole,
     /// It stands in this property.
-    Property(&'static str, Place),
+    Property(&'static str, ValueLocation),
     /// It is a property of the object in a property.
     Within(&'static str, &'static str),
 }
 
-impl Site {
+impl ObjectLocation {
     /// The path from the object.
     fn path(self, alloc: Global) -> Result<Text, NoMemory>
-        ensures { IfOk result (λ path. path ≡ path_text (site_parts self)) }
+        ensures { IfOk result (λ path. path ≡ path_text (object_location_parts self)) }
     {
         let path = match self {
-            Site::Whole => String::new(alloc),
-            Site::Property(name, Place::Here) => String::from_str(alloc, name)?,
-            Site::Property(name, Place::Item(at)) => format!(in alloc; "{name}.[{at}]")?,
-            Site::Property(name, Place::ItemPart(at, part)) => {
+            ObjectLocation::Whole => String::new(alloc),
+            ObjectLocation::Property(name, ValueLocation::Here) => String::from_str(alloc, name)?,
+            ObjectLocation::Property(name, ValueLocation::Item(at)) => format!(in alloc; "{name}.[{at}]")?,
+            ObjectLocation::Property(name, ValueLocation::ItemPart(at, part)) => {
                 format!(in alloc; "{name}.[{at}].{part}")?
             }
-            Site::Within(outer, inner) => format!(in alloc; "{outer}.{inner}")?,
+            ObjectLocation::Within(outer, inner) => format!(in alloc; "{outer}.{inner}")?,
         };
         Ok(Text::from_string(path))
     }
@@ -103,7 +103,7 @@ impl Site {
 #[derive(Clone, Copy)]
 pub(crate) struct RowBreak {
     pub(crate) rule: Rule,
-    pub(crate) site: Site,
+    pub(crate) object_location: ObjectLocation,
 }
 
 impl RowBreak {
@@ -119,7 +119,7 @@ impl RowBreak {
     pub(crate) fn into_break(self, alloc: Global) -> Result<Break, NoMemory>
         ensures { IfOk result (λ found. found ≡ break_of (row_break_view self)) }
     {
-        let path = self.site.path(alloc)?;
+        let path = self.object_location.path(alloc)?;
         Ok(Break {
             rule: self.rule,
             path,

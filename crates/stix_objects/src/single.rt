@@ -1,37 +1,37 @@
 ghost use Rattle.std.specs.Prelude.{◌≡◌, ◌↔◌, ℕ, List, IsTrue, map};
 ghost use Rattle.stix_json.specs.DataOf.{data_of, field_data, members_of};
 ghost use Rattle.stix_objects.specs.Form.{any_text, kind as kind_form, version as version_form, one_of, any_boolean, integer_in, object, texts_by_name};
-ghost use Rattle.stix_objects.specs.Singles.{AreTexts, JudgesTexts, JudgesSingle};
+ghost use Rattle.stix_objects.specs.Singles.{AreTexts, ChecksTexts, ChecksSingle};
 ghost use Rattle.stix_objects.specs.inner.Views.{single_view};
 
 use crate::Rule;
 use crate::form::Single;
-use crate::identifier::{judge_any_reference, judge_reference};
-use crate::timestamp::judge_timestamp;
+use crate::identifier::{check_any_reference, check_reference};
+use crate::timestamp::check_timestamp;
 use stix_ids::read_kind;
 use stix_json::{Field, Json, text_of};
 
 /// What a value breaks of its form.
-pub(crate) fn judge_single(single: &Single, value: &Json) -> Option<Rule>
-    ensures { JudgesSingle (single_view single.now) (data_of value.now) result }
+pub(crate) fn check_single(single: &Single, value: &Json) -> Option<Rule>
+    ensures { ChecksSingle (single_view single.now) (data_of value.now) result }
 {
     match single {
-        Single::Text => judge_text(value),
-        Single::Kind => judge_kind(value),
-        Single::Version => judge_version(value),
-        Single::Word(known) => judge_word(known, value),
-        Single::Timestamp(precision) => judge_timestamp(*precision, value),
-        Single::AnyRef => judge_any_reference(value),
-        Single::Ref(kinds) => judge_reference(kinds, value),
-        Single::Boolean => judge_boolean(value),
-        Single::Integer(least, most) => judge_integer(*least, *most, value),
-        Single::Object => judge_object(value),
-        Single::Hashes => judge_hashes(value),
+        Single::Text => check_text(value),
+        Single::Kind => check_kind(value),
+        Single::Version => check_version(value),
+        Single::Word(known) => check_word(known, value),
+        Single::Timestamp(precision) => check_timestamp(*precision, value),
+        Single::AnyRef => check_any_reference(value),
+        Single::Ref(kinds) => check_reference(kinds, value),
+        Single::Boolean => check_boolean(value),
+        Single::Integer(least, most) => check_integer(*least, *most, value),
+        Single::Object => check_object(value),
+        Single::Hashes => check_hashes(value),
     }
 }
 
-fn judge_text(value: &Json) -> Option<Rule>
-    ensures { JudgesSingle any_text (data_of value.now) result }
+fn check_text(value: &Json) -> Option<Rule>
+    ensures { ChecksSingle any_text (data_of value.now) result }
 {
     match text_of(value) {
         Some(_) => None,
@@ -39,8 +39,8 @@ fn judge_text(value: &Json) -> Option<Rule>
     }
 }
 
-fn judge_kind(value: &Json) -> Option<Rule>
-    ensures { JudgesSingle kind_form (data_of value.now) result }
+fn check_kind(value: &Json) -> Option<Rule>
+    ensures { ChecksSingle kind_form (data_of value.now) result }
 {
     let Some(text) = text_of(value) else {
         return Some(Rule::WrongKind);
@@ -51,8 +51,8 @@ fn judge_kind(value: &Json) -> Option<Rule>
     }
 }
 
-fn judge_version(value: &Json) -> Option<Rule>
-    ensures { JudgesSingle version_form (data_of value.now) result }
+fn check_version(value: &Json) -> Option<Rule>
+    ensures { ChecksSingle version_form (data_of value.now) result }
 {
     let Some(text) = text_of(value) else {
         return Some(Rule::WrongKind);
@@ -64,8 +64,8 @@ fn judge_version(value: &Json) -> Option<Rule>
     }
 }
 
-fn judge_word(known: &[&str], value: &Json) -> Option<Rule>
-    ensures { JudgesSingle (one_of (map (λ word. word.now) known.now)) (data_of value.now) result }
+fn check_word(known: &[&str], value: &Json) -> Option<Rule>
+    ensures { ChecksSingle (one_of (map (λ word. word.now) known.now)) (data_of value.now) result }
 {
     let Some(text) = text_of(value) else {
         return Some(Rule::WrongKind);
@@ -77,8 +77,8 @@ fn judge_word(known: &[&str], value: &Json) -> Option<Rule>
     }
 }
 
-fn judge_boolean(value: &Json) -> Option<Rule>
-    ensures { JudgesSingle any_boolean (data_of value.now) result }
+fn check_boolean(value: &Json) -> Option<Rule>
+    ensures { ChecksSingle any_boolean (data_of value.now) result }
 {
     match value {
         Json::Bool(_) => None,
@@ -88,8 +88,8 @@ fn judge_boolean(value: &Json) -> Option<Rule>
     }
 }
 
-fn judge_integer(least: i64, most: i64, value: &Json) -> Option<Rule>
-    ensures { JudgesSingle (integer_in least most) (data_of value.now) result }
+fn check_integer(least: i64, most: i64, value: &Json) -> Option<Rule>
+    ensures { ChecksSingle (integer_in least most) (data_of value.now) result }
 {
     let Json::Integer(integer) = value else {
         return Some(Rule::WrongKind);
@@ -100,8 +100,8 @@ fn judge_integer(least: i64, most: i64, value: &Json) -> Option<Rule>
     None
 }
 
-fn judge_object(value: &Json) -> Option<Rule>
-    ensures { JudgesSingle object (data_of value.now) result }
+fn check_object(value: &Json) -> Option<Rule>
+    ensures { ChecksSingle object (data_of value.now) result }
 {
     match value {
         Json::Object(_) => None,
@@ -111,11 +111,11 @@ fn judge_object(value: &Json) -> Option<Rule>
     }
 }
 
-fn judge_hashes(value: &Json) -> Option<Rule>
-    ensures { JudgesSingle texts_by_name (data_of value.now) result }
+fn check_hashes(value: &Json) -> Option<Rule>
+    ensures { ChecksSingle texts_by_name (data_of value.now) result }
 {
     match value {
-        Json::Object(hashes) => judge_texts(hashes.as_slice()),
+        Json::Object(hashes) => check_texts(hashes.as_slice()),
         Json::Bool(_) | Json::Integer(_) | Json::String(_) | Json::Array(_) => Some(
             Rule::WrongKind,
         ),
@@ -123,8 +123,8 @@ fn judge_hashes(value: &Json) -> Option<Rule>
 }
 
 /// What the members of an object of hashes break.
-fn judge_texts(fields: &[Field]) -> Option<Rule>
-    ensures { JudgesTexts (members_of (map field_data fields.now)) result }
+fn check_texts(fields: &[Field]) -> Option<Rule>
+    ensures { ChecksTexts (members_of (map field_data fields.now)) result }
 {
     if !are_texts(fields) {
         return Some(Rule::WrongKind);

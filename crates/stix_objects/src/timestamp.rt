@@ -3,7 +3,7 @@ ghost use Rattle.flow_values.specs.Answers.{FindsExactly};
 ghost use Rattle.stix_json.specs.DataOf.{data_of};
 ghost use Rattle.stix_objects.specs.declared.form.Precision.TheVariants.{Any, Millis};
 ghost use Rattle.stix_objects.specs.Form.{timestamp};
-ghost use Rattle.stix_objects.specs.Singles.{IsTimestampOf, JudgesTimestamp, JudgesSingle};
+ghost use Rattle.stix_objects.specs.Singles.{IsTimestampOf, ChecksTimestamp, ChecksSingle};
 ghost use Rattle.stix_objects.specs.Conditions.{SecondIsEarlier, SecondIsNotLater};
 ghost use Rattle.stix_objects.specs.Properties.{IsTimestampAt};
 ghost use Rattle.stix_objects.specs.inner.InTurn.{AreInTurn};
@@ -16,26 +16,26 @@ use stix_times::laws::{is_before, one_instant};
 use stix_times::{Instant, TimeRefusal, read, read_millis};
 
 /// What a value breaks of a timestamp.
-pub(crate) fn judge_timestamp(precision: Precision, value: &Json) -> Option<Rule>
-    ensures { JudgesSingle (timestamp precision) (data_of value.now) result }
+pub(crate) fn check_timestamp(precision: Precision, value: &Json) -> Option<Rule>
+    ensures { ChecksSingle (timestamp precision) (data_of value.now) result }
 {
     let Some(text) = text_of(value) else {
         return Some(Rule::WrongKind);
     };
-    judge_timestamp_text(precision, text)
+    check_timestamp_text(precision, text)
 }
 
-fn judge_timestamp_text(precision: Precision, text: &str) -> Option<Rule>
-    ensures { JudgesTimestamp precision text.now result }
+fn check_timestamp_text(precision: Precision, text: &str) -> Option<Rule>
+    ensures { ChecksTimestamp precision text.now result }
 {
     match precision {
-        Precision::Any => judge_time(text),
-        Precision::Millis => judge_millis(text),
+        Precision::Any => check_time(text),
+        Precision::Millis => check_millis(text),
     }
 }
 
-fn judge_time(text: &str) -> Option<Rule>
-    ensures { JudgesTimestamp Any text.now result }
+fn check_time(text: &str) -> Option<Rule>
+    ensures { ChecksTimestamp Any text.now result }
 {
     match read(text) {
         Ok(_) => None,
@@ -43,8 +43,8 @@ fn judge_time(text: &str) -> Option<Rule>
     }
 }
 
-fn judge_millis(text: &str) -> Option<Rule>
-    ensures { JudgesTimestamp Millis text.now result }
+fn check_millis(text: &str) -> Option<Rule>
+    ensures { ChecksTimestamp Millis text.now result }
 {
     match read_millis(text) {
         Ok(_) => None,

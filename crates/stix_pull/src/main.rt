@@ -2,7 +2,7 @@
 //! lines, each page before the next one is asked for.
 #![tactic(auto)]
 
-use command_line::program_words;
+use command_line::program_arguments;
 use command_pull::run_pull;
 use command_reasons::write_no_memory;
 use flow_edges::WriteSink;
@@ -13,14 +13,14 @@ use std::process::ExitCode;
 fn main(rt: HostRuntime) -> ExitCode {
     let mut output = WriteSink::new(rt.stdout());
     let mut faults = WriteSink::new(rt.stderr());
-    let words = match program_words(&rt) {
-        Ok(words) => words,
+    let arguments = match program_arguments(&rt) {
+        Ok(arguments) => arguments,
         Err(NoMemory) => {
             let _ = write_no_memory(&mut faults);
             return ExitCode::from(1);
         }
     };
     let mut dial = TcpDial::new(&rt);
-    let status = run_pull(rt.alloc(), &words, &mut dial, &mut output, &mut faults);
+    let status = run_pull(rt.alloc(), &arguments, &mut dial, &mut output, &mut faults);
     ExitCode::from(status)
 }

@@ -42,30 +42,30 @@ shorter_fits value d low l =
     omega arith
 
 -- the scale of the next of n digits
-pub next_scale : (n place scale : ℕ) → place < n → scale ≡ 10 ^ (n - place) → scale / 10 ≡ 10 ^ (n - (place + 1))
-next_scale n place scale l e =
-    let step : 10 ^ (n - place) ≡ 10 ^ (n - (place + 1)) * 10 = ap (λ k. 10 ^ k) (let k : n - place ≡ (n - (place + 1)) + 1 = omega arith in k) ∙ pow-add 10 (n - (place + 1)) 1 in
+pub next_scale : (n offset scale : ℕ) → offset < n → scale ≡ 10 ^ (n - offset) → scale / 10 ≡ 10 ^ (n - (offset + 1))
+next_scale n offset scale l e =
+    let step : 10 ^ (n - offset) ≡ 10 ^ (n - (offset + 1)) * 10 = ap (λ k. 10 ^ k) (let k : n - offset ≡ (n - (offset + 1)) + 1 = omega arith in k) ∙ pow-add 10 (n - (offset + 1)) 1 in
     omega arith
 
-pub scale_positive : (n place scale : ℕ) → place < n → scale ≡ 10 ^ (n - place) → 1 ≤ scale / 10
-scale_positive n place scale l e =
-    omega (arith, next_scale n place scale l e, one-le-pow (n - (place + 1)) 10 (omega arith))
+pub scale_positive : (n offset scale : ℕ) → offset < n → scale ≡ 10 ^ (n - offset) → 1 ≤ scale / 10
+scale_positive n offset scale l e =
+    omega (arith, next_scale n offset scale l e, one-le-pow (n - (offset + 1)) 10 (omega arith))
 
-pub next_digit : (n place scale rest : ℕ) → place < n → scale ≡ 10 ^ (n - place) → rest < scale → rest / (scale / 10) < 10
-next_digit n place scale rest l e h =
-    let step : 10 ^ (n - place) ≡ 10 ^ (n - (place + 1)) * 10 = ap (λ k. 10 ^ k) (let k : n - place ≡ (n - (place + 1)) + 1 = omega arith in k) ∙ pow-add 10 (n - (place + 1)) 1 in
+pub next_digit : (n offset scale rest : ℕ) → offset < n → scale ≡ 10 ^ (n - offset) → rest < scale → rest / (scale / 10) < 10
+next_digit n offset scale rest l e h =
+    let step : 10 ^ (n - offset) ≡ 10 ^ (n - (offset + 1)) * 10 = ap (λ k. 10 ^ k) (let k : n - offset ≡ (n - (offset + 1)) + 1 = omega arith in k) ∙ pow-add 10 (n - (offset + 1)) 1 in
     let below : rest < 10 * (scale / 10) = omega arith in
-    (div-lt_iff_lt-mul (scale_positive n place scale l e)).1 below
+    (div-lt_iff_lt-mul (scale_positive n offset scale l e)).1 below
 
 -- the digits written and the digits left are the same as before
-pub next_text : (text : List ℕ) (n place scale rest : ℕ) → place < n → scale ≡ 10 ^ (n - place) → (text ++ (48 + rest / (scale / 10)) ∷ []) ++ digits_text (n - (place + 1)) (rest % (scale / 10)) ≡ text ++ digits_text (n - place) rest
-next_text text n place scale rest l e =
-    let k : n - place ≡ suc (n - (place + 1)) = omega arith in
-    let s : scale / 10 ≡ 10 ^ (n - (place + 1)) = next_scale n place scale l e in
+pub next_text : (text : List ℕ) (n offset scale rest : ℕ) → offset < n → scale ≡ 10 ^ (n - offset) → (text ++ (48 + rest / (scale / 10)) ∷ []) ++ digits_text (n - (offset + 1)) (rest % (scale / 10)) ≡ text ++ digits_text (n - offset) rest
+next_text text n offset scale rest l e =
+    let k : n - offset ≡ suc (n - (offset + 1)) = omega arith in
+    let s : scale / 10 ≡ 10 ^ (n - (offset + 1)) = next_scale n offset scale l e in
     rw (s, append_assoc) (ap (λ v. text ++ digits_text v rest) (sym k))
 
-pub next_rest : (n place scale rest : ℕ) → place < n → scale ≡ 10 ^ (n - place) → rest % (scale / 10) < scale / 10
-next_rest n place scale rest l e = mod-lt rest (scale_positive n place scale l e)
+pub next_rest : (n offset scale rest : ℕ) → offset < n → scale ≡ 10 ^ (n - offset) → rest % (scale / 10) < scale / 10
+next_rest n offset scale rest l e = mod-lt rest (scale_positive n offset scale l e)
 
 pub length-digits_text : (n value : ℕ) → length (digits_text n value) ≡ n
 length-digits_text zero value = refl

@@ -1,4 +1,4 @@
-pub mod PlaceLemmas
+pub mod OffsetLemmas
 pub mod ShapeLemmas
 pub mod PrefixLemmas
 pub mod FractionLemmas

@@ -1,105 +1,105 @@
--- The prefixes that begin a text of the shape are those whose bytes fit their places: any such prefix
+-- The prefixes that begin a text of the shape are those whose bytes fit their offsets: any such prefix
 -- goes on to a whole text. So where the bytes stop to fit is where a refusal points.
 use Rattle.std.proofs.Common.{◌≡◌, ℕ, ◌+◌, ◌<◌, ◌≤◌, ⊎_elim, List, [], ◌∷◌, ◌++◌, length, take, drop, refl, sym, ◌∙◌, subst, arith, below_more, below_none, length-append, length-drop}
 use Rattle.std.proofs.lemmas.Bool.Decides.{nat_tests}
 use Rattle.std.proofs.lemmas.Bool.{cases_lt, cases_eq}
 use Rattle.std.proofs.lemmas.List.{take_all}
 use Rattle.stix_times.specs.Timestamp.{Spells, HasShape, BeginsShape}
-use Rattle.stix_times.specs.Places.{fits, bounds_at, fits_fraction, fitting_end, parts_at}
+use Rattle.stix_times.specs.Offsets.{fits, bounds_at, fits_fraction, fitting_end, parts_at}
 use Rattle.stix_times.specs.Reading.{IsLongestShapePrefix}
-use Rattle.stix_times.proofs.PlaceLemmas.{AllFit, AllFit-front, AllFit-append, AllFit-take, fitting_end-longest, fitting_end-le, last_or}
+use Rattle.stix_times.proofs.OffsetLemmas.{AllFit, AllFit-front, AllFit-append, AllFit-take, fitting_end-longest, fitting_end-le, last_or}
 use Rattle.stix_times.proofs.ShapeLemmas.{Spells-ends, Spells-parts_at}
 
--- a whole text, whose bytes from each place on fit after any byte that may stand before them
+-- a whole text, whose bytes from each offset on fit after any byte that may stand before them
 abbrev sample : List ℕ
 sample = 48 ∷ 48 ∷ 48 ∷ 48 ∷ 45 ∷ 48 ∷ 49 ∷ 45 ∷ 48 ∷ 49 ∷ 84 ∷ 48 ∷ 48 ∷ 58 ∷ 48 ∷ 48 ∷ 58 ∷ 48 ∷ 48 ∷ 90 ∷ []
 
-record GoesOn (n : ℕ) : Type 0 where
+record Continues (n : ℕ) : Type 0 where
   fit : (b : ℕ) → AllFit n b (drop n sample)
   last : (b : ℕ) → last_or b (drop n sample) ≡ 90
 
-goes_on_19 : GoesOn 19
+continues_19 : Continues 19
 unfolding fits bounds_at
-goes_on_19 = record { fit = λ b. (refl, tt); last = λ b. refl }
+continues_19 = record { fit = λ b. (refl, tt); last = λ b. refl }
 
-goes_on_18 : GoesOn 18
+continues_18 : Continues 18
 unfolding fits bounds_at
-goes_on_18 = record { fit = λ b. (refl, goes_on_19.fit 48); last = λ b. refl }
+continues_18 = record { fit = λ b. (refl, continues_19.fit 48); last = λ b. refl }
 
-goes_on_17 : GoesOn 17
+continues_17 : Continues 17
 unfolding fits bounds_at
-goes_on_17 = record { fit = λ b. (refl, goes_on_18.fit 48); last = λ b. refl }
+continues_17 = record { fit = λ b. (refl, continues_18.fit 48); last = λ b. refl }
 
-goes_on_16 : GoesOn 16
+continues_16 : Continues 16
 unfolding fits bounds_at
-goes_on_16 = record { fit = λ b. (refl, goes_on_17.fit 58); last = λ b. refl }
+continues_16 = record { fit = λ b. (refl, continues_17.fit 58); last = λ b. refl }
 
-goes_on_15 : GoesOn 15
+continues_15 : Continues 15
 unfolding fits bounds_at
-goes_on_15 = record { fit = λ b. (refl, goes_on_16.fit 48); last = λ b. refl }
+continues_15 = record { fit = λ b. (refl, continues_16.fit 48); last = λ b. refl }
 
-goes_on_14 : GoesOn 14
+continues_14 : Continues 14
 unfolding fits bounds_at
-goes_on_14 = record { fit = λ b. (refl, goes_on_15.fit 48); last = λ b. refl }
+continues_14 = record { fit = λ b. (refl, continues_15.fit 48); last = λ b. refl }
 
-goes_on_13 : GoesOn 13
+continues_13 : Continues 13
 unfolding fits bounds_at
-goes_on_13 = record { fit = λ b. (refl, goes_on_14.fit 58); last = λ b. refl }
+continues_13 = record { fit = λ b. (refl, continues_14.fit 58); last = λ b. refl }
 
-goes_on_12 : GoesOn 12
+continues_12 : Continues 12
 unfolding fits bounds_at
-goes_on_12 = record { fit = λ b. (grind (arith, nat_tests), goes_on_13.fit 48); last = λ b. refl }
+continues_12 = record { fit = λ b. (grind (arith, nat_tests), continues_13.fit 48); last = λ b. refl }
 
-goes_on_11 : GoesOn 11
+continues_11 : Continues 11
 unfolding fits bounds_at
-goes_on_11 = record { fit = λ b. (refl, goes_on_12.fit 48); last = λ b. refl }
+continues_11 = record { fit = λ b. (refl, continues_12.fit 48); last = λ b. refl }
 
-goes_on_10 : GoesOn 10
+continues_10 : Continues 10
 unfolding fits bounds_at
-goes_on_10 = record { fit = λ b. (refl, goes_on_11.fit 84); last = λ b. refl }
+continues_10 = record { fit = λ b. (refl, continues_11.fit 84); last = λ b. refl }
 
-goes_on_9 : GoesOn 9
+continues_9 : Continues 9
 unfolding fits bounds_at
-goes_on_9 = record { fit = λ b. (grind (arith, nat_tests), goes_on_10.fit 49); last = λ b. refl }
+continues_9 = record { fit = λ b. (grind (arith, nat_tests), continues_10.fit 49); last = λ b. refl }
 
-goes_on_8 : GoesOn 8
+continues_8 : Continues 8
 unfolding fits bounds_at
-goes_on_8 = record { fit = λ b. (refl, goes_on_9.fit 48); last = λ b. refl }
+continues_8 = record { fit = λ b. (refl, continues_9.fit 48); last = λ b. refl }
 
-goes_on_7 : GoesOn 7
+continues_7 : Continues 7
 unfolding fits bounds_at
-goes_on_7 = record { fit = λ b. (refl, goes_on_8.fit 45); last = λ b. refl }
+continues_7 = record { fit = λ b. (refl, continues_8.fit 45); last = λ b. refl }
 
-goes_on_6 : GoesOn 6
+continues_6 : Continues 6
 unfolding fits bounds_at
-goes_on_6 = record { fit = λ b. (grind (arith, nat_tests), goes_on_7.fit 49); last = λ b. refl }
+continues_6 = record { fit = λ b. (grind (arith, nat_tests), continues_7.fit 49); last = λ b. refl }
 
-goes_on_5 : GoesOn 5
+continues_5 : Continues 5
 unfolding fits bounds_at
-goes_on_5 = record { fit = λ b. (refl, goes_on_6.fit 48); last = λ b. refl }
+continues_5 = record { fit = λ b. (refl, continues_6.fit 48); last = λ b. refl }
 
-goes_on_4 : GoesOn 4
+continues_4 : Continues 4
 unfolding fits bounds_at
-goes_on_4 = record { fit = λ b. (refl, goes_on_5.fit 45); last = λ b. refl }
+continues_4 = record { fit = λ b. (refl, continues_5.fit 45); last = λ b. refl }
 
-goes_on_3 : GoesOn 3
+continues_3 : Continues 3
 unfolding fits bounds_at
-goes_on_3 = record { fit = λ b. (refl, goes_on_4.fit 48); last = λ b. refl }
+continues_3 = record { fit = λ b. (refl, continues_4.fit 48); last = λ b. refl }
 
-goes_on_2 : GoesOn 2
+continues_2 : Continues 2
 unfolding fits bounds_at
-goes_on_2 = record { fit = λ b. (refl, goes_on_3.fit 48); last = λ b. refl }
+continues_2 = record { fit = λ b. (refl, continues_3.fit 48); last = λ b. refl }
 
-goes_on_1 : GoesOn 1
+continues_1 : Continues 1
 unfolding fits bounds_at
-goes_on_1 = record { fit = λ b. (refl, goes_on_2.fit 48); last = λ b. refl }
+continues_1 = record { fit = λ b. (refl, continues_2.fit 48); last = λ b. refl }
 
-goes_on_0 : GoesOn 0
+continues_0 : Continues 0
 unfolding fits bounds_at
-goes_on_0 = record { fit = λ b. (refl, goes_on_1.fit 48); last = λ b. refl }
+continues_0 = record { fit = λ b. (refl, continues_1.fit 48); last = λ b. refl }
 
-goes_on : (n : ℕ) → n < 20 → GoesOn n
-goes_on = below_more GoesOn 19 (below_more GoesOn 18 (below_more GoesOn 17 (below_more GoesOn 16 (below_more GoesOn 15 (below_more GoesOn 14 (below_more GoesOn 13 (below_more GoesOn 12 (below_more GoesOn 11 (below_more GoesOn 10 (below_more GoesOn 9 (below_more GoesOn 8 (below_more GoesOn 7 (below_more GoesOn 6 (below_more GoesOn 5 (below_more GoesOn 4 (below_more GoesOn 3 (below_more GoesOn 2 (below_more GoesOn 1 (below_more GoesOn 0 (below_none GoesOn) goes_on_0) goes_on_1) goes_on_2) goes_on_3) goes_on_4) goes_on_5) goes_on_6) goes_on_7) goes_on_8) goes_on_9) goes_on_10) goes_on_11) goes_on_12) goes_on_13) goes_on_14) goes_on_15) goes_on_16) goes_on_17) goes_on_18) goes_on_19
+continues : (n : ℕ) → n < 20 → Continues n
+continues = below_more Continues 19 (below_more Continues 18 (below_more Continues 17 (below_more Continues 16 (below_more Continues 15 (below_more Continues 14 (below_more Continues 13 (below_more Continues 12 (below_more Continues 11 (below_more Continues 10 (below_more Continues 9 (below_more Continues 8 (below_more Continues 7 (below_more Continues 6 (below_more Continues 5 (below_more Continues 4 (below_more Continues 3 (below_more Continues 2 (below_more Continues 1 (below_more Continues 0 (below_none Continues) continues_0) continues_1) continues_2) continues_3) continues_4) continues_5) continues_6) continues_7) continues_8) continues_9) continues_10) continues_11) continues_12) continues_13) continues_14) continues_15) continues_16) continues_17) continues_18) continues_19
 
 last_or-append_list : (before : ℕ) (p q : List ℕ) → last_or before (p ++ q) ≡ last_or (last_or before p) q
 last_or-append_list before [] q = refl
@@ -119,7 +119,7 @@ BeginsShape-end p rest f e =
 -- before the fraction, with the rest of the sample
 short_end : (p : List ℕ) → length p < 20 → IsEndOf p (drop (length p) sample)
 short_end p l =
-    let g = goes_on (length p) l in
+    let g = continues (length p) l in
     record { fit = g.fit (last_or 0 p); long = omega (arith, length-drop (length p) sample); last = g.last (last_or 0 p) }
 
 -- after it, with a digit after a dot, and with a `Z` after a digit

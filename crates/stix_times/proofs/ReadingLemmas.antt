@@ -1,4 +1,4 @@
--- A text reads in one way: it names one instant, or has one refusal with one place.
+-- A text reads in one way: it names one instant, or has one refusal with one offset.
 use Rattle.std.proofs.Common.{◌≡◌, ℕ, List, length, Result, Ok, Err, IfOk, IfErr, ℤ, refl, sym, ap, ◌∙◌, subst, arith}
 use Rattle.stix_times.specs.declared.refusal.TimeRefusal.{TimeRefusal}
 use Rattle.stix_times.specs.declared.refusal.TimeRefusal.TheVariants.{Shape, NoSuchDay, TooFine, NotMillis}
@@ -7,8 +7,8 @@ use Rattle.stix_times.specs.Reading.{IsExact, HasMillis, IsLongestShapePrefix, I
 use Rattle.stix_times.specs.Parts.{Names, IsTimestampRefusal}
 use Rattle.stix_times.proofs.ShapeLemmas.{one_timestamp}
 
-same_place : (s : List ℕ) (n m : ℕ) → IsLongestShapePrefix s n → IsLongestShapePrefix s m → n ≡ m
-same_place s n m p q = omega (arith, p.longest m q.within q.begins, q.longest n p.within p.begins)
+same_offset : (s : List ℕ) (n m : ℕ) → IsLongestShapePrefix s n → IsLongestShapePrefix s m → n ≡ m
+same_offset s n m p q = omega (arith, p.longest m q.within q.begins, q.longest n p.within p.begins)
 
 -- two timestamps of one text are one
 module _ (s : List ℕ) (t u : Timestamp) (p : Spells t s) (q : Spells u s) where
@@ -30,7 +30,7 @@ not_refused s t p x NotMillis q = q
 
 -- and a refused text has one refusal
 one_refusal : (s : List ℕ) (a b : TimeRefusal) → IsRefused s a → IsRefused s b → a ≡ b
-one_refusal s (Shape n) (Shape m) p q = ap Shape (same_place s n m p.1 q.1)
+one_refusal s (Shape n) (Shape m) p q = ap Shape (same_offset s n m p.1 q.1)
 one_refusal s (Shape n) NoSuchDay p q = absurd (p.0 (q.0, q.1))
 one_refusal s (Shape n) TooFine p q = absurd (p.0 (q.0, q.1))
 one_refusal s NoSuchDay (Shape m) p q = absurd (q.0 (p.0, p.1))

@@ -1,13 +1,13 @@
--- The shape by its parts is the shape by its places: a text of the shape has each byte in its place,
--- and bytes that fit up to a last `Z` spell the parts that stand at the places.
+-- The shape by its parts is the shape by its offsets: a text of the shape has each byte in its offset,
+-- and bytes that fit up to a last `Z` spell the parts that stand at the offsets.
 use Rattle.std.proofs.Common.{◌≡◌, ◌≢◌, ℕ, zero, suc, subst, length-append, ◌+◌, ◌-◌, ◌*◌, ◌/◌, ◌%◌, ◌<◌, ◌≤◌, true, List, [], ◌∷◌, ◌++◌, length, take, drop, get_or, All, refl, sym, ap, ◌∙◌, arith}
 use Rattle.std.specs.Char.{IsAsciiDigit}
 use Rattle.std.specs.Int.{IsInRange}
 use Rattle.std.proofs.lemmas.Bool.Decides.{nat_tests}
 use Rattle.std.proofs.lemmas.List.{take_at}
 use Rattle.stix_times.specs.Timestamp.{Timestamp, IsShaped, Spells, text_of, fraction_text}
-use Rattle.stix_times.specs.Places.{fits, bounds_at, fits_fraction, parts_at, AreDigits}
-use Rattle.stix_times.proofs.PlaceLemmas.{AllFit, last_or}
+use Rattle.stix_times.specs.Offsets.{fits, bounds_at, fits_fraction, parts_at, AreDigits}
+use Rattle.stix_times.proofs.OffsetLemmas.{AllFit, last_or}
 
 year_fits : (y b : ℕ) → y < 10000 → (fits 0 b (48 + y / 100 / 10) ≡ true) × (fits 1 (48 + y / 100 / 10) (48 + (y / 100) % 10) ≡ true)
     × (fits 2 (48 + (y / 100) % 10) (48 + (y % 100) / 10) ≡ true) × (fits 3 (48 + (y % 100) / 10) (48 + (y % 100) % 10) ≡ true)
@@ -53,7 +53,7 @@ fraction_fits before (d ∷ ds) all =
     let d_digit : IsAsciiDigit d = all 0 0 (omega arith) in
     (refl, (grind (arith, nat_tests), digits_fit 21 d ds (omega arith) d_digit (λ k e l. all (suc k) e (omega arith))))
 
--- each byte of a text of the shape fits its place
+-- each byte of a text of the shape fits its offset
 pub AllFit-text_of : (t : Timestamp) → IsShaped t → AllFit 0 0 (text_of t)
 unfolding text_of fits bounds_at
 AllFit-text_of t h =
@@ -149,14 +149,14 @@ fraction_from_fit before (x ∷ y ∷ ys) l f z =
     (y ∷ r.0, record { digits = all_cons y r.0 dot.1 r.1.digits; is = ap (λ v. x ∷ y ∷ v) r.1.is ∙ ap (λ v. v ∷ y ∷ r.0 ++ 90 ∷ []) dot.0 })
 
 -- where the fraction's digits stand behind the seconds
-fraction_place : (ds : List ℕ) → take (length (fraction_text ds ++ 90 ∷ []) - 2) (drop 1 (fraction_text ds ++ 90 ∷ [])) ≡ ds
-fraction_place [] = refl
-fraction_place (d ∷ ds) =
+fraction_offset : (ds : List ℕ) → take (length (fraction_text ds ++ 90 ∷ []) - 2) (drop 1 (fraction_text ds ++ 90 ∷ [])) ≡ ds
+fraction_offset [] = refl
+fraction_offset (d ∷ ds) =
     let n : length ds ≡ length (46 ∷ d ∷ ds ++ 90 ∷ []) - 3 = omega (arith, length-append ds (90 ∷ [])) in
     let m : suc (length (46 ∷ d ∷ ds ++ 90 ∷ []) - 3) ≡ length (46 ∷ d ∷ ds ++ 90 ∷ []) - 2 = omega (arith, length-append ds (90 ∷ [])) in
     ap (λ v. take v (d ∷ ds ++ 90 ∷ [])) (sym m) ∙ ap (λ v. d ∷ v) (take_at ds (90 ∷ []) _ n)
 
--- the last byte, by its place
+-- the last byte, by its offset
 pub last_or-at : (before : ℕ) (s : List ℕ) → 0 < length s → last_or before s ≡ get_or s (length s - 1) 0
 last_or-at before [] l = absurd (omega arith)
 last_or-at before (x ∷ []) l = refl
@@ -164,12 +164,12 @@ last_or-at before (x ∷ y ∷ ys) l =
     let e : suc (suc (length ys) - 1) ≡ suc (suc (length ys)) - 1 = omega arith in
     last_or-at x (y ∷ ys) (omega arith) ∙ ap (λ n. get_or (x ∷ y ∷ ys) n 0) e
 
--- the parts from their places, and the pairs of bytes that they are
+-- the parts from their offsets, and the pairs of bytes that they are
 spelled : (a0 a1 a2 a3 a4 a5 a6 a7 a8 a9 a10 a11 a12 a13 a14 a15 a16 a17 a18 : ℕ) (tail ds : List ℕ) → ArePair a0 a1 0 99 → ArePair a2 a3 0 99 → a4 ≡ 45 → ArePair a5 a6 1 12 → a7 ≡ 45 → ArePair a8 a9 1 31 → a10 ≡ 84 → ArePair a11 a12 0 23 → a13 ≡ 58 → ArePair a14 a15 0 59 → a16 ≡ 58 → ArePair a17 a18 0 59 → AreFractionTo tail ds → Spells (parts_at (a0 ∷ a1 ∷ a2 ∷ a3 ∷ a4 ∷ a5 ∷ a6 ∷ a7 ∷ a8 ∷ a9 ∷ a10 ∷ a11 ∷ a12 ∷ a13 ∷ a14 ∷ a15 ∷ a16 ∷ a17 ∷ a18 ∷ tail)) (a0 ∷ a1 ∷ a2 ∷ a3 ∷ a4 ∷ a5 ∷ a6 ∷ a7 ∷ a8 ∷ a9 ∷ a10 ∷ a11 ∷ a12 ∷ a13 ∷ a14 ∷ a15 ∷ a16 ∷ a17 ∷ a18 ∷ tail)
 unfolding text_of parts_at
 spelled a0 a1 a2 a3 a4 a5 a6 a7 a8 a9 a10 a11 a12 a13 a14 a15 a16 a17 a18 tail ds c y e4 m e7 d e10 h e13 i e16 s t =
     let n : length tail - 2 ≡ length (a0 ∷ a1 ∷ a2 ∷ a3 ∷ a4 ∷ a5 ∷ a6 ∷ a7 ∷ a8 ∷ a9 ∷ a10 ∷ a11 ∷ a12 ∷ a13 ∷ a14 ∷ a15 ∷ a16 ∷ a17 ∷ a18 ∷ tail) - 21 = omega arith in
-    let fraction : take (length (a0 ∷ a1 ∷ a2 ∷ a3 ∷ a4 ∷ a5 ∷ a6 ∷ a7 ∷ a8 ∷ a9 ∷ a10 ∷ a11 ∷ a12 ∷ a13 ∷ a14 ∷ a15 ∷ a16 ∷ a17 ∷ a18 ∷ tail) - 21) (drop 1 tail) ≡ ds = ap (λ v. take v (drop 1 tail)) (sym n) ∙ ap (λ v. take (length v - 2) (drop 1 v)) t.is ∙ fraction_place ds in
+    let fraction : take (length (a0 ∷ a1 ∷ a2 ∷ a3 ∷ a4 ∷ a5 ∷ a6 ∷ a7 ∷ a8 ∷ a9 ∷ a10 ∷ a11 ∷ a12 ∷ a13 ∷ a14 ∷ a15 ∷ a16 ∷ a17 ∷ a18 ∷ tail) - 21) (drop 1 tail) ≡ ds = ap (λ v. take v (drop 1 tail)) (sym n) ∙ ap (λ v. take (length v - 2) (drop 1 v)) t.is ∙ fraction_offset ds in
     let shaped : IsShaped (parts_at (a0 ∷ a1 ∷ a2 ∷ a3 ∷ a4 ∷ a5 ∷ a6 ∷ a7 ∷ a8 ∷ a9 ∷ a10 ∷ a11 ∷ a12 ∷ a13 ∷ a14 ∷ a15 ∷ a16 ∷ a17 ∷ a18 ∷ tail)) = record {
       year = omega arith;
       month = m.range;
@@ -217,7 +217,7 @@ byte_16 : (p b : ℕ) → fits 16 p b ≡ true → b ≡ 58
 unfolding fits bounds_at
 byte_16 p b f = grind (arith, nat_tests)
 
--- bytes that fit up to a last `Z` spell the parts at their places
+-- bytes that fit up to a last `Z` spell the parts at their offsets
 pub Spells-parts_at : (s : List ℕ) → AllFit 0 0 s → 20 ≤ length s → last_or 0 s ≡ 90 → Spells (parts_at s) s
 Spells-parts_at (a0 ∷ a1 ∷ a2 ∷ a3 ∷ a4 ∷ a5 ∷ a6 ∷ a7 ∷ a8 ∷ a9 ∷ a10 ∷ a11 ∷ a12 ∷ a13 ∷ a14 ∷ a15 ∷ a16 ∷ a17 ∷ a18 ∷ tail) f l z =
     let t = fraction_from_fit a18 tail (omega arith) f.1.1.1.1.1.1.1.1.1.1.1.1.1.1.1.1.1.1.1 z in
@@ -243,7 +243,7 @@ last_or-append before (x ∷ xs) z = last_or-append x xs z
 
 -- the parts of a printed timestamp
 fraction_part : (ds : List ℕ) (n : ℕ) → n ≡ length (fraction_text ds ++ 90 ∷ []) - 2 → take n (drop 1 (fraction_text ds ++ 90 ∷ [])) ≡ ds
-fraction_part ds n e = ap (λ v. take v (drop 1 (fraction_text ds ++ 90 ∷ []))) e ∙ fraction_place ds
+fraction_part ds n e = ap (λ v. take v (drop 1 (fraction_text ds ++ 90 ∷ []))) e ∙ fraction_offset ds
 
 pub same_parts : (t u : Timestamp) → t.year ≡ u.year → t.month ≡ u.month → t.day ≡ u.day → t.hour ≡ u.hour → t.minute ≡ u.minute → t.second ≡ u.second → t.fraction ≡ u.fraction → t ≡ u
 same_parts t u a b c d e f g =

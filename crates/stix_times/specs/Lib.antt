@@ -1,7 +1,7 @@
 pub mod Timestamp
 pub mod Instant
 pub mod Reading
-pub mod Places
+pub mod Offsets
 pub mod Parts
 pub mod Digits
 pub mod Civil

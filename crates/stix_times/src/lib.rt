@@ -9,7 +9,7 @@ mod instant;
 pub mod laws;
 mod line;
 mod parts;
-mod places;
+mod offsets;
 mod reading;
 mod refusal;
 mod writing;

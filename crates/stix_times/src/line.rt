@@ -71,7 +71,7 @@ impl Line {
     {
         let mut rest = fraction.value;
         let mut scale = 10u32.pow(fraction.digits as u32);
-        for _place in 0..fraction.digits {
+        for _offset in 0..fraction.digits {
             scale /= 10;
             self.push(b'0' + (rest / scale) as u8);
             rest %= scale;

@@ -1,14 +1,14 @@
 ghost use Rattle.std.specs.Prelude.{◌≡◌, ◌+◌, ◌<◌, ◌≤◌, length, slice_index, pos, neg_ℤ, ◌↔◌, IfOk, IfErr, IsSome, IfSome, IsTrue};
 ghost use Rattle.std.specs.Char.{IsAsciiDigit};
 ghost use Rattle.jiff_core.specs.Calendar.{IsBetween};
-ghost use Rattle.stix_times.specs.Places.{pair_at, parts_at, AreDigits};
+ghost use Rattle.stix_times.specs.Offsets.{pair_at, parts_at, AreDigits};
 ghost use Rattle.stix_times.specs.Timestamp.{IsShaped, Spells, HasDay, day_number, nanos_of_day};
 ghost use Rattle.stix_times.specs.Reading.{IsRefused, HasMillis};
 ghost use Rattle.stix_times.specs.Parts.{timestamp_of, IsTimestampRefusal, Names};
 
 use crate::fraction::nanos_of_fraction;
 use crate::instant::NANOS_PER_SECOND;
-use crate::places::fitting_length;
+use crate::offsets::longest_prefix_length;
 use crate::{Instant, TimeRefusal};
 use jiff_core::civil::Date;
 
@@ -32,11 +32,11 @@ impl<'a> Parts<'a> {
         ensures ok { IfOk result (λ p. Spells (timestamp_of p) text.now) }
         ensures err { IfErr result (IsRefused text.now) }
     {
-        let at = fitting_length(text);
+        let at = longest_prefix_length(text);
         if at < text.len() || text.len() < 20 || text[text.len() - 1] != b'Z' {
             return Err(TimeRefusal::Shape { at });
         }
-        Ok(Parts::at_places(text))
+        Ok(Parts::at_offsets(text))
     }
 
     /// The instant that the parts name, or why they name none.
@@ -91,9 +91,9 @@ impl<'a> Parts<'a> {
         (3..=6).contains(&self.fraction.len())
     }
 
-    /// The parts at the places of the shape.
-    #[tactic(auto, unfolding(crate::specs::Places::parts_at, crate::specs::Parts::timestamp_of))]
-    fn at_places(text: &'a [u8]) -> Parts<'a>
+    /// The parts at the offsets of the shape.
+    #[tactic(auto, unfolding(crate::specs::Offsets::parts_at, crate::specs::Parts::timestamp_of))]
+    fn at_offsets(text: &'a [u8]) -> Parts<'a>
         requires long { 20 ≤ length text.now }
         requires digits { AreDigits text.now }
         ensures { timestamp_of result ≡ parts_at text.now }
@@ -110,7 +110,7 @@ impl<'a> Parts<'a> {
     }
 }
 
-/// The number that the two digits at a place write.
+/// The number that the two digits at a offset write.
 fn pair(text: &[u8], at: usize) -> u8
     requires within { at + 1 < length text.now }
     requires first { IsAsciiDigit (slice_index text.now at) }

@@ -16,5 +16,5 @@ pub mod SameLemmas
 pub mod IsVersionLemmas
 pub mod CreatedLemmas
 pub mod RevokedLemmas
-pub mod TwinsLemmas
+pub mod DuplicatesLemmas
 pub mod VersionBreaksLemmas

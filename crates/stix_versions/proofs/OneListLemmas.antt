@@ -8,7 +8,7 @@ use Rattle.stix_versions.specs.declared.version_break.VersionBreak.{VersionBreak
 use Rattle.stix_versions.specs.declared.marking_break.MarkingRule.{MarkingRule}
 use Rattle.stix_versions.specs.declared.marking_break.MarkingRule.TheVariants.{MarkingOrLang, BadMarkingRef, BadSelector, SelectorMissing}
 use Rattle.stix_versions.specs.declared.marking_break.MarkingBreak.{MarkingBreak}
-use Rattle.stix_versions.specs.Versions.{AreBroken, AreVersionBreaksFrom, rules_told, break_of_version, BreaksVersionRule}
+use Rattle.stix_versions.specs.Versions.{AreBroken, AreVersionBreaksFrom, rules_reported, break_of_version, BreaksVersionRule}
 use Rattle.stix_versions.specs.Markings as markings
 
 broken_once : (P : VersionRule → Type 0) (rules a b : List VersionRule) → AreBroken P rules a → AreBroken P rules b → a ≡ b
@@ -21,7 +21,7 @@ broken_once P (r ∷ rs) a b (inr x) (inr y) = broken_once P rs a b x.1 y.1
 pub versions_once : (objects : List Data) (at : ℕ) (ds : List Data) (a b : List VersionBreak) → AreVersionBreaksFrom objects at ds a → AreVersionBreaksFrom objects at ds b → a ≡ b
 versions_once objects at [] a b x y = x ∙ sym y
 versions_once objects at (d ∷ ds) a b x y =
-    let own = broken_once (BreaksVersionRule objects at) rules_told x.0 y.0 x.2 y.2 in
+    let own = broken_once (BreaksVersionRule objects at) rules_reported x.0 y.0 x.2 y.2 in
     let rest = versions_once objects (at + 1) ds x.1 y.1 x.3 y.3 in
     x.4 ∙ ap (λ (l : List VersionRule). map (break_of_version at) l ++ x.1) own ∙ ap (λ (l : List VersionBreak). map (break_of_version at) y.0 ++ l) rest ∙ sym y.4
 

@@ -7,7 +7,7 @@ use Rattle.std.specs.Char.{IsAsciiDigit}
 use Rattle.std.proofs.lemmas.Bool.{cases_lt}
 use denote.Ref.{Bor}
 use Rattle.stix_json.specs.Walk.{path_text}
-use Rattle.stix_versions.specs.Selector.{Part, named, placed, IsNameCharacter, IsPart, part_text}
+use Rattle.stix_versions.specs.Selector.{Part, named, indexed, IsNameCharacter, IsPart, part_text}
 use Rattle.stix_versions.specs.inner.Paths.{IsPath, IsPartOf}
 use Rattle.stix_versions.proofs.DigitsLemmas.{digits_are}
 
@@ -21,7 +21,7 @@ no_dot_in_name name is i inside dot = let dotted : IsNameCharacter 46 = subst Is
 bracket_no_dot : ◌≡◌ {A = ℕ} 93 46 → ⊥
 bracket_no_dot is = omega arith
 
-no_dot_before_bracket : (digits : List ℕ) → IsPart (placed digits) → HasNoDot (digits ++ 93 ∷ [])
+no_dot_before_bracket : (digits : List ℕ) → IsPart (indexed digits) → HasNoDot (digits ++ 93 ∷ [])
 no_dot_before_bracket digits is i inside dot =
     let count = length-append digits (93 ∷ []) in
     elim (cases_lt i (length digits)) [
@@ -33,13 +33,13 @@ no_dot_before_bracket digits is i inside dot =
           absurd (bracket_no_dot (sym (get_or-append_seam digits 93 [] 0) ∙ ap (λ n. get_or (digits ++ 93 ∷ []) n 0) last ∙ dot))
     ]
 
-no_dot_in_place : (digits : List ℕ) → IsPart (placed digits) → HasNoDot (part_text (placed digits))
+no_dot_in_place : (digits : List ℕ) → IsPart (indexed digits) → HasNoDot (part_text (indexed digits))
 no_dot_in_place digits is zero inside dot = omega arith
 no_dot_in_place digits is (suc i) inside dot = no_dot_before_bracket digits is i (omega arith) dot
 
 no_dot_in_part : (part : Part) → IsPart part → HasNoDot (part_text part)
 no_dot_in_part (named name) is = no_dot_in_name name is
-no_dot_in_part (placed digits) is = no_dot_in_place digits is
+no_dot_in_part (indexed digits) is = no_dot_in_place digits is
 
 dot_is_there : (text before after : List ℕ) → text ≡ before ++ 46 ∷ after → ¬ HasNoDot text
 dot_is_there text before after is none =
@@ -99,8 +99,8 @@ whole_of_cut text (part ∷ parts) cuts = (part, cuts.0)
 pub path_begins : (text : List ℕ) (c : Bor (List ℕ) × Bor (List ℕ)) → IsSplitOnceResult 46 text (Some c) → HasPath text → HasPart c.0.now
 path_begins text c is path = first_of_cut text c path.0 (path_cut text (Some c) is path.0 path.1)
 
-pub path_goes_on : (text : List ℕ) (c : Bor (List ℕ) × Bor (List ℕ)) → IsSplitOnceResult 46 text (Some c) → HasPart c.0.now → HasPath text ↔ HasPath c.1.now
-path_goes_on text c is part = (
+pub path_continues : (text : List ℕ) (c : Bor (List ℕ) × Bor (List ℕ)) → IsSplitOnceResult 46 text (Some c) → HasPart c.0.now → HasPath text ↔ HasPath c.1.now
+path_continues text c is part = (
   λ path. rest_of_cut text c path.0 (path_cut text (Some c) is path.0 path.1),
   λ path. (part.0 ∷ path.0, path_of_more text c.0.now c.1.now (split_parts 46 text (Some c) is (omega arith)).0 part.0 part.1 path.0 path.1),
 )

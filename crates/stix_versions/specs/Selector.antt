@@ -16,17 +16,17 @@ abbrev pub IsName : List ℕ → Type 0
 IsName name = (name ≢ []) × All IsNameCharacter name
 
 -- decimal digits, one or more, without leading zeros
-abbrev pub IsPlace : List ℕ → Type 0
-IsPlace digits = IsNumeral 10 digits × ((digits ≡ codes "0") ⊎ (slice_index digits 0 ≢ 48))
+abbrev pub IsIndex : List ℕ → Type 0
+IsIndex digits = IsNumeral 10 digits × ((digits ≡ codes "0") ⊎ (slice_index digits 0 ≢ 48))
 
 -- one part: a property's name, or the digits of a place in a list, counted from 0
 pub data Part : Type 0 where
   named : List ℕ → Part
-  placed : List ℕ → Part
+  indexed : List ℕ → Part
 
 abbrev pub IsPart : Part → Type 0
 IsPart (named name) = IsName name
-IsPart (placed digits) = IsPlace digits
+IsPart (indexed digits) = IsIndex digits
 
 -- digits in brackets: [n]
 abbrev pub in_brackets : List ℕ → List ℕ
@@ -35,7 +35,7 @@ in_brackets digits = 91 ∷ (digits ++ 93 ∷ [])
 -- the text of a part: the name, or the digits in brackets
 abbrev pub part_text : Part → List ℕ
 part_text (named name) = name
-part_text (placed digits) = in_brackets digits
+part_text (indexed digits) = in_brackets digits
 
 abbrev pub AreParts : List Part → Type 0
 AreParts [] = Unit {0}
@@ -45,7 +45,7 @@ AreParts (part ∷ parts) = IsPart part × AreParts parts
 abbrev pub BeginsNamed : List Part → Type 0
 BeginsNamed [] = ⊥
 BeginsNamed (named name ∷ parts) = Unit {0}
-BeginsNamed (placed digits ∷ parts) = ⊥
+BeginsNamed (indexed digits ∷ parts) = ⊥
 
 -- the text is a selector of these parts
 pub record IsSelector (text : List ℕ) (parts : List Part) : Type 0 where
@@ -56,7 +56,7 @@ pub record IsSelector (text : List ℕ) (parts : List Part) : Type 0 where
 -- what a part names in a value
 abbrev pub chosen : Part → Data → Option Data
 chosen (named name) d = get name d
-chosen (placed digits) d = item_at (digits_value 10 digits) d
+chosen (indexed digits) d = item_at (digits_value 10 digits) d
 
 -- what parts name in a value, one after another
 abbrev pub value_at : List Part → Data → Option Data

@@ -75,8 +75,8 @@ pub record BreaksVersionRule (objects : List Data) (at : ℕ) (rule : VersionRul
   pub breaks : BreaksAs objects at id created modified object rule
 
 -- the rules, in the order in which they are told
-abbrev pub rules_told : List VersionRule
-rules_told = CreatedChanged ∷ AfterRevoked ∷ SameVersionTwice ∷ []
+abbrev pub rules_reported : List VersionRule
+rules_reported = CreatedChanged ∷ AfterRevoked ∷ SameVersionTwice ∷ []
 
 -- the rules of a list that are broken, in its order
 abbrev pub AreBroken : (VersionRule → Type 0) → List VersionRule → List VersionRule → Type 0
@@ -93,7 +93,7 @@ break_of_version at rule = record { object = at; rule = rule }
 abbrev pub AreVersionBreaksFrom : List Data → ℕ → List Data → List VersionBreak → Type 0
 AreVersionBreaksFrom objects at [] breaks = breaks ≡ []
 AreVersionBreaksFrom objects at (d ∷ ds) breaks = (own : List VersionRule) × (rest : List VersionBreak)
-    × AreBroken (BreaksVersionRule objects at) rules_told own × AreVersionBreaksFrom objects (at + 1) ds rest × (breaks ≡ map (break_of_version at) own ++ rest)
+    × AreBroken (BreaksVersionRule objects at) rules_reported own × AreVersionBreaksFrom objects (at + 1) ds rest × (breaks ≡ map (break_of_version at) own ++ rest)
 
 -- all breaks of the objects of a bundle
 abbrev pub AreVersionBreaks : List Data → List VersionBreak → Type 0

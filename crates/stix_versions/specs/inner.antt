@@ -1,6 +1,6 @@
 pub mod Version
 pub mod FirstVersions
 pub mod History
-pub mod Twins
+pub mod Duplicates
 pub mod Paths
 pub mod Selectors

@@ -12,7 +12,7 @@ mod part;
 mod revoked;
 mod same;
 mod selector;
-mod twins;
+mod duplicates;
 mod version;
 mod version_break;
 mod versions;

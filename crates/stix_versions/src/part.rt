@@ -4,7 +4,7 @@ ghost use Rattle.std.specs.Str.Parse.{IsNumeral, digits_value};
 ghost use Rattle.serde_json.specs.Find.{at as at_place};
 ghost use Rattle.stix_json.specs.DataOf.{data_of};
 ghost use Rattle.stix_json.specs.Ordered.{IsOrdered};
-ghost use Rattle.stix_versions.specs.Selector.{Part, IsNameCharacter, IsName, IsPlace, in_brackets, chosen as chosen_by};
+ghost use Rattle.stix_versions.specs.Selector.{Part, IsNameCharacter, IsName, IsIndex, in_brackets, chosen as chosen_by};
 ghost use Rattle.stix_versions.specs.inner.Paths.{IsPartOf};
 
 use stix_json::laws::ordered_parts;
@@ -15,7 +15,7 @@ pub(crate) fn is_part(text: &str) -> bool
     ensures { IsTrue result ↔ ((part : Part) × IsPartOf text.now part) }
 {
     match bracketed(text) {
-        Some(digits) => is_place(digits),
+        Some(digits) => is_index(digits),
         None => is_name(text),
     }
 }
@@ -42,8 +42,8 @@ fn bracketed(text: &str) -> Option<&str>
 }
 
 /// Whether the text is a place: digits without leading zeros.
-fn is_place(text: &str) -> bool
-    ensures { IsTrue result ↔ IsPlace text.now }
+fn is_index(text: &str) -> bool
+    ensures { IsTrue result ↔ IsIndex text.now }
 {
     text == "0" || (!text.starts_with('0') && is_numeral(text))
 }

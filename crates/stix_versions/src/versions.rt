@@ -1,14 +1,14 @@
 ghost use Rattle.std.specs.Prelude.{◌≡◌, ◌↔◌, ◌+◌, ◌<◌, ◌++◌, List, length, map, take, IsTrue, IfOk, OnOk};
 ghost use Rattle.stix_bundles.specs.Objects.{data_in};
 ghost use Rattle.stix_versions.specs.declared.version_break.VersionRule.{VersionRule};
-ghost use Rattle.stix_versions.specs.Versions.{BreaksVersionRule, AreBroken, rules_told, break_of_version, AreVersionBreaksFrom, AreVersionBreaks};
+ghost use Rattle.stix_versions.specs.Versions.{BreaksVersionRule, AreBroken, rules_reported, break_of_version, AreVersionBreaksFrom, AreVersionBreaks};
 ghost use Rattle.stix_versions.specs.inner.FirstVersions.{AreCreatedBefore, AreRevokedBefore};
-ghost use Rattle.stix_versions.specs.inner.Twins.{AreTwinsBefore};
-ghost use Rattle.stix_versions.specs.inner.History.{AreVersionsBefore, where_so};
+ghost use Rattle.stix_versions.specs.inner.Duplicates.{AreDuplicatesBefore};
+ghost use Rattle.stix_versions.specs.inner.History.{AreVersionsBefore, only_if};
 
 use crate::created::Created;
 use crate::revoked::Revoked;
-use crate::twins::Twins;
+use crate::duplicates::Duplicates;
 use crate::version::version_at;
 use crate::{VersionBreak, VersionRule};
 use flow_values::{Items, NoMemory};
@@ -24,7 +24,7 @@ pub fn version_breaks(alloc: Global, bundle: &Bundle) -> Result<Items<VersionBre
     let revoked = Revoked::of(alloc, bundle)?;
     let mut seen = History {
         created: Created::new(alloc),
-        twins: Twins::new(alloc),
+        duplicates: Duplicates::new(alloc),
     };
     let mut found = Items::new(alloc);
     for at in 0..bundle.len() {
@@ -37,7 +37,7 @@ pub fn version_breaks(alloc: Global, bundle: &Bundle) -> Result<Items<VersionBre
 #[derive(Drop)]
 pub(crate) struct History {
     created: Created,
-    twins: Twins,
+    duplicates: Duplicates,
 }
 
 /// Adds the breaks of the object at a position.
@@ -51,7 +51,7 @@ fn add_breaks(
     requires there { at < length bundle.now }
     requires revoked { AreRevokedBefore (data_in bundle.now) (length (data_in bundle.now)) revoked.now }
     requires before { AreVersionsBefore (data_in bundle.now) at seen.old }
-    ensures told { OnOk result ((own : List VersionRule) × AreBroken (BreaksVersionRule (data_in bundle.now) at) rules_told own
+    ensures told { OnOk result ((own : List VersionRule) × AreBroken (BreaksVersionRule (data_in bundle.now) at) rules_reported own
         × (found.new ≡ found.old ++ map (break_of_version at) own)) }
     ensures kept { OnOk result (AreVersionsBefore (data_in bundle.now) (at + 1) seen.new) }
 {
@@ -62,7 +62,7 @@ fn add_breaks(
     let object = at as u32;
     let changed = seen.created.add(&version)?;
     let after = revoked.precedes(&version);
-    let twice = seen.twins.add(objects, at, &version)?;
+    let twice = seen.duplicates.add(objects, at, &version)?;
     add(changed, object, VersionRule::CreatedChanged, found)?;
     add(after, object, VersionRule::AfterRevoked, found)?;
     add(twice, object, VersionRule::SameVersionTwice, found)?;
@@ -76,7 +76,7 @@ fn add(
     rule: VersionRule,
     found: &mut Items<VersionBreak>,
 ) -> Result<(), NoMemory>
-    ensures { OnOk result (found.new ≡ found.old ++ where_so broken (break_of_version object rule)) }
+    ensures { OnOk result (found.new ≡ found.old ++ only_if broken (break_of_version object rule)) }
 {
     if broken {
         found.push(VersionBreak { object, rule })?;

@@ -35,12 +35,12 @@ three_pushed old a b c x y z first second third =
     let all : z ≡ ((old ++ a) ++ b) ++ c = third ∙ ap (λ (l : List ℕ). l ++ c) (second ∙ ap (λ (l : List ℕ). l ++ b) first) in
     all ∙ (simp append_assoc)
 
-pub listed : (old lead first : List ℕ) (rows : List (Bor StoredRow)) (tail v w x y : List ℕ)
-    → v ≡ old ++ lead → w ≡ v ++ first → x ≡ w ++ flat_map (λ row. 44 ∷ row.now.body) rows → y ≡ x ++ tail
-    → y ≡ old ++ (lead ++ (join_with_byte 44 (first ∷ map (λ row. row.body) (map (λ row. row.now) rows)) ++ tail))
-listed old lead first rows tail v w x y is_v is_w is_x is_y =
+pub listed : (old prefix first : List ℕ) (rows : List (Bor StoredRow)) (tail v w x y : List ℕ)
+    → v ≡ old ++ prefix → w ≡ v ++ first → x ≡ w ++ flat_map (λ row. 44 ∷ row.now.body) rows → y ≡ x ++ tail
+    → y ≡ old ++ (prefix ++ (join_with_byte 44 (first ∷ map (λ row. row.body) (map (λ row. row.now) rows)) ++ tail))
+listed old prefix first rows tail v w x y is_v is_w is_x is_y =
     let others = flat_map (λ (row : Bor StoredRow). 44 ∷ row.now.body) rows in
-    let body : x ≡ old ++ (lead ++ (first ++ others)) = three_pushed old lead first others v w x is_v is_w is_x in
-    let all : y ≡ (old ++ (lead ++ (first ++ others))) ++ tail = is_y ∙ ap (λ (l : List ℕ). l ++ tail) body in
-    let same : (old ++ (lead ++ (first ++ others))) ++ tail ≡ old ++ (lead ++ ((first ++ others) ++ tail)) = append_assoc old (lead ++ (first ++ others)) tail ∙ ap (λ (l : List ℕ). old ++ l) (append_assoc lead (first ++ others) tail) in
-    all ∙ same ∙ ap (λ (l : List ℕ). old ++ (lead ++ (l ++ tail))) (sym (joined first rows))
+    let body : x ≡ old ++ (prefix ++ (first ++ others)) = three_pushed old prefix first others v w x is_v is_w is_x in
+    let all : y ≡ (old ++ (prefix ++ (first ++ others))) ++ tail = is_y ∙ ap (λ (l : List ℕ). l ++ tail) body in
+    let same : (old ++ (prefix ++ (first ++ others))) ++ tail ≡ old ++ (prefix ++ ((first ++ others) ++ tail)) = append_assoc old (prefix ++ (first ++ others)) tail ∙ ap (λ (l : List ℕ). old ++ l) (append_assoc prefix (first ++ others) tail) in
+    all ∙ same ∙ ap (λ (l : List ℕ). old ++ (prefix ++ (l ++ tail))) (sym (joined first rows))

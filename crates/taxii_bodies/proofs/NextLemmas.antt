@@ -14,28 +14,28 @@ use Rattle.taxii_bodies.proofs.EnvelopeJsonLemmas.{AreBytes, are_bytes}
 
 -- ---- the table of digits
 
-abbrev StandsFor : ℕ → ℕ → Type 0
-StandsFor digit n = IsHexDigit digit × (digit_value digit ≡ n)
+abbrev Represents : ℕ → ℕ → Type 0
+Represents digit n = IsHexDigit digit × (digit_value digit ≡ n)
 
 -- the digits stand for the numbers from this one on
 abbrev Count : ℕ → List ℕ → Type 0
 Count n [] = Unit {0}
-Count n (digit ∷ digits) = StandsFor digit n × Count (n + 1) digits
+Count n (digit ∷ digits) = Represents digit n × Count (n + 1) digits
 
-count_at : (digits : List ℕ) (n : ℕ) → Count n digits → (i : ℕ) → i < length digits → StandsFor (slice_index digits i) (n + i)
+count_at : (digits : List ℕ) (n : ℕ) → Count n digits → (i : ℕ) → i < length digits → Represents (slice_index digits i) (n + i)
 count_at [] n count i within = absurd (omega arith)
-count_at (digit ∷ digits) n count zero within = let same : n ≡ n + 0 = omega arith in subst (λ (k : ℕ). StandsFor digit k) same count.0
+count_at (digit ∷ digits) n count zero within = let same : n ≡ n + 0 = omega arith in subst (λ (k : ℕ). Represents digit k) same count.0
 count_at (digit ∷ digits) n count (suc i) within =
     let same : n + 1 + i ≡ n + suc i = omega arith in
-    subst (λ (k : ℕ). StandsFor (slice_index digits i) k) same (count_at digits (n + 1) count.1 i (omega arith))
+    subst (λ (k : ℕ). Represents (slice_index digits i) k) same (count_at digits (n + 1) count.1 i (omega arith))
 
 table_counts : Count 0 lower_digits
 table_counts = ((inl (omega arith, omega arith), refl), ((inl (omega arith, omega arith), refl), ((inl (omega arith, omega arith), refl), ((inl (omega arith, omega arith), refl), ((inl (omega arith, omega arith), refl), ((inl (omega arith, omega arith), refl), ((inl (omega arith, omega arith), refl), ((inl (omega arith, omega arith), refl), ((inl (omega arith, omega arith), refl), ((inl (omega arith, omega arith), refl), ((inr (omega arith, omega arith), refl), ((inr (omega arith, omega arith), refl), ((inr (omega arith, omega arith), refl), ((inr (omega arith, omega arith), refl), ((inr (omega arith, omega arith), refl), ((inr (omega arith, omega arith), refl), tt))))))))))))))))
 
-digit_at : (i : ℕ) → i < 16 → StandsFor (slice_index lower_digits i) i
+digit_at : (i : ℕ) → i < 16 → Represents (slice_index lower_digits i) i
 digit_at i low =
     let same : 0 + i ≡ i = omega arith in
-    subst (λ (k : ℕ). StandsFor (slice_index lower_digits i) k) same (count_at lower_digits 0 table_counts i low)
+    subst (λ (k : ℕ). Represents (slice_index lower_digits i) k) same (count_at lower_digits 0 table_counts i low)
 
 -- ---- the digits of bytes
 

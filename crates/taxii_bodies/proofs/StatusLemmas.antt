@@ -12,14 +12,14 @@ use Rattle.taxii_bodies.specs.Page.{list_before}
 use Rattle.taxii_bodies.specs.inner.Members.{list_member, middle_members}
 use Rattle.taxii_bodies.specs.Status.{status_id_of, message_before, detail_data, status_data}
 
-told_ordered : (id version : List ℕ) (message : Option (List ℕ))
+stated_ordered : (id version : List ℕ) (message : Option (List ℕ))
     → IsOrdered (object (member (codes "id") (string id) (message_before message (member (codes "version") (string version) no_members))))
-told_ordered id version (Some message) = (refl, tt, (refl, tt, (tt, tt, tt)))
-told_ordered id version None = (refl, tt, (tt, tt, tt))
+stated_ordered id version (Some message) = (refl, tt, (refl, tt, (tt, tt, tt)))
+stated_ordered id version None = (refl, tt, (tt, tt, tt))
 
 details_ordered : (details : List Detail) → ItemsAreOrdered (items_of (map detail_data details))
 details_ordered [] = tt
-details_ordered (detail ∷ details) = (told_ordered detail.id detail.version detail.message, details_ordered details)
+details_ordered (detail ∷ details) = (stated_ordered detail.id detail.version detail.message, details_ordered details)
 
 -- the last members, with a list of successes or without
 last_ordered : (total : ℕ) (successes : List Data) → ItemsAreOrdered (items_of successes)

@@ -64,16 +64,16 @@ named_instant text instant named =
 
 -- ---- a row's version
 
-told_instant : (whole : Data) (instant : ℤ) → IsVersionTime whole instant → IsInstant instant
-told_instant whole instant (inl modified) = named_instant modified.text instant modified.names
-told_instant whole instant (inr created) = named_instant created.1.text instant created.1.names
+stated_instant : (whole : Data) (instant : ℤ) → IsVersionTime whole instant → IsInstant instant
+stated_instant whole instant (inl modified) = named_instant modified.text instant modified.names
+stated_instant whole instant (inr created) = named_instant created.1.text instant created.1.names
 
 date_instant : (date : ℕ) → date ≤ LAST_DATE → IsInstant (pos date *ℤ pos 1000)
 date_instant date last = (omega (arith, ints), omega (arith, ints))
 
 fits_instant : (dated : Bool) (set : TypeSet) (whole : Data) (version : ℤ) (date : ℕ) → date ≤ LAST_DATE
     → MatchBool dated (HasVersion set whole version) (IsUndated set whole × (version ≡ pos date)) → IsInstant (version *ℤ pos 1000)
-fits_instant true set whole version date last fits = told_instant whole (version *ℤ pos 1000) fits.time
+fits_instant true set whole version date last fits = stated_instant whole (version *ℤ pos 1000) fits.time
 fits_instant false set whole version date last fits = subst (λ (v : ℤ). IsInstant (v *ℤ pos 1000)) (sym fits.1) (date_instant date last)
 
 either_instant : (row : StoredRow) (whole : Data) → row.date ≤ LAST_DATE → Fits row whole → IsInstant (row.version *ℤ pos 1000)

@@ -12,14 +12,14 @@ use Rattle.taxii_rows.specs.declared.stored_row.StoredRow.{StoredRow}
 use Rattle.taxii_rows.specs.declared.stored_row.TheConstants.{LAST_DATE}
 use Rattle.taxii_rows.specs.Version.{IsVersionTime}
 use Rattle.taxii_bodies.specs.declared.details.Detail.{Detail}
-use Rattle.taxii_bodies.specs.Times.{IsDateText, IsToldText, IsVersionText}
+use Rattle.taxii_bodies.specs.Times.{IsDateText, IsStatedText, IsVersionText}
 
--- a name, and the path of what it is told of, where that isn't the whole
+-- a name, and the path of what it is stated of, where that isn't the whole
 abbrev pub at_path : List ℕ → List ℕ → List ℕ
 at_path name [] = name
 at_path name (byte ∷ path) = name ++ (codes " at " ++ byte ∷ path)
 
--- why an entry is no JSON value: the name of the rule alone, since it has no object whose path could be told
+-- why an entry is no JSON value: the name of the rule alone, since it has no object whose path could be stated
 abbrev pub refusal_message : JsonRefusal → List ℕ
 refusal_message NotJson = codes "NotJson"
 refusal_message (TooDeep path) = codes "TooDeep"
@@ -45,7 +45,7 @@ IsIdOrUnknown d text =
 -- the text is that of the version that the object tells, or of that moment
 abbrev pub IsVersionOrMoment : Data → ℕ → List ℕ → Type 0
 IsVersionOrMoment d moment text =
-    ((instant : ℤ) × IsVersionTime d instant × IsToldText instant text)
+    ((instant : ℤ) × IsVersionTime d instant × IsStatedText instant text)
     ⊎ (((instant : ℤ) → ¬ IsVersionTime d instant) × IsMomentText moment text)
 
 -- the detail of a row that was stored

@@ -13,12 +13,12 @@ abbrev pub IsDateText : ℕ → List ℕ → Type 0
 IsDateText date text = IsTextOfDigits 6 text (pos (1000 * date))
 
 -- the digits of a second of a version that an object tells: three where nothing is lost, else six
-abbrev pub told_digits : ℤ → ℕ
-told_digits instant = if unsigned_abs instant % 1_000_000 == 0 then 3 else 6
+abbrev pub stated_digits : ℤ → ℕ
+stated_digits instant = if unsigned_abs instant % 1_000_000 == 0 then 3 else 6
 
 -- the text of a version that an object tells
-abbrev pub IsToldText : ℤ → List ℕ → Type 0
-IsToldText instant text = IsTextOfDigits (told_digits instant) text instant
+abbrev pub IsStatedText : ℤ → List ℕ → Type 0
+IsStatedText instant text = IsTextOfDigits (stated_digits instant) text instant
 
 -- the instant of a row's version
 abbrev pub version_instant : StoredRow → ℤ
@@ -27,7 +27,7 @@ version_instant row = row.version *ℤ pos 1000
 -- the text of a row's version: that of an undated row is a date
 abbrev pub IsVersionText : StoredRow → List ℕ → Type 0
 IsVersionText row text =
-    MatchBool row.dated (IsToldText (version_instant row) text) (IsTextOfDigits 6 text (version_instant row))
+    MatchBool row.dated (IsStatedText (version_instant row) text) (IsTextOfDigits 6 text (version_instant row))
 
 -- the row's identifier, date and version have texts, as those of each sound row have
 pub record IsWritable (row : StoredRow) : Type 0 where

@@ -9,10 +9,10 @@ ghost use Rattle.taxii_rows.specs.Version.{IsVersionTime};
 ghost use Rattle.taxii_bodies.specs.Details.{at_path, refusal_message, IsMomentText, IsIdOrUnknown, IsVersionOrMoment, IsSuccessOf, IsFailureOf, IsRefusalOf};
 ghost use Rattle.taxii_bodies.specs.Times.{IsWritable};
 
-use crate::times::{date_text, told_text, version_text};
+use crate::times::{date_text, stated_text, version_text};
 use flow_values::{NoMemory, Text};
 use std::alloc::Global;
-use stix_ids::{Id, Parts, write_id};
+use stix_ids::{Id, IdRef, write_id};
 use stix_json::{Json, JsonRefusal};
 use flow_values::Name;
 use stix_objects::{Break, Precision, object_id, timestamp_at};
@@ -97,7 +97,7 @@ fn id_or_unknown(alloc: Global, object: &Json) -> Result<Text, NoMemory>
     }
 }
 
-fn id_text(alloc: Global, parts: Parts<'_>) -> Result<Text, NoMemory>
+fn id_text(alloc: Global, parts: IdRef<'_>) -> Result<Text, NoMemory>
     requires { IsKind parts.kind.now }
     ensures { IfOk result (λ text. text ≡ canonical_text (id_of parts.entry)) }
 {
@@ -114,7 +114,7 @@ fn version_or_moment(alloc: Global, object: &Json, moment: u64) -> Result<Text, 
     ensures { IfOk result (IsVersionOrMoment (data_of object.now) moment) }
 {
     match version_time(object) {
-        Some(instant) => told_text(alloc, instant),
+        Some(instant) => stated_text(alloc, instant),
         None => moment_text(alloc, moment),
     }
 }
@@ -130,7 +130,7 @@ fn version_time(object: &Json) -> Option<Instant>
     }
 }
 
-/// A name, and the path of what it is told of.
+/// A name, and the path of what it is stated of.
 fn message_at(alloc: Global, name: &str, path: &str) -> Result<Text, NoMemory>
     ensures { IfOk result (λ text. text ≡ at_path name.now path.now) }
 {

@@ -1,14 +1,14 @@
 ghost use Rattle.std.specs.Prelude.{◌≡◌, ◌∷◌, ◌++◌, None, IfOk, OnOk, map};
 ghost use Rattle.std.specs.List.{last_or, flat_map};
 ghost use Rattle.taxii_rows.specs.StoreState.{dates_of};
-ghost use Rattle.taxii_bodies.specs.Envelope.{next_of as next_behind, next_text, head_text, objects_text, envelope_text};
+ghost use Rattle.taxii_bodies.specs.Envelope.{next_of as next_date, next_text, head_text, objects_text, envelope_text};
 
 use flow_values::{NoMemory, Text};
 use std::alloc::Global;
 use taxii_rows::StoredRow;
 
 /// How many bytes stand around the objects at most.
-const AROUND: usize = 64;
+const ENVELOPE_OVERHEAD: usize = 64;
 
 /// The body of a page of objects (section 3.7): whether there are more, behind which date the next page
 /// begins, and the objects of the rows in their order, whose bodies are copied as they stand. A page
@@ -16,7 +16,7 @@ const AROUND: usize = 64;
 pub fn envelope_body(alloc: Global, rows: &[&StoredRow], more: bool) -> Result<Text, NoMemory>
     ensures { IfOk result (λ text. text ≡ envelope_text (map (λ row. row.now) rows.now) more) }
 {
-    let room = rows.iter().fold(AROUND, |room, row| {
+    let room = rows.iter().fold(ENVELOPE_OVERHEAD, |room, row| {
         room.saturating_add(row.body.len()).saturating_add(1)
     });
     let mut text = Text::from_string(String::with_capacity(alloc, room)?);
@@ -28,7 +28,7 @@ pub fn envelope_body(alloc: Global, rows: &[&StoredRow], more: bool) -> Result<T
 
 /// Behind which date the next page begins, where there is more.
 fn next_of(rows: &[&StoredRow], more: bool) -> Option<u64>
-    ensures { result ≡ next_behind (map (λ row. row.now) rows.now) more }
+    ensures { result ≡ next_date (map (λ row. row.now) rows.now) more }
 {
     if more { last_date(rows) } else { None }
 }

@@ -97,7 +97,7 @@ impl Fields {
         Json::Object(Items::from_vec(self.fields))
     }
 
-    /// The text of the object of these fields, whose names rise.
+    /// The text of the object of these fields, whose names ascend.
     pub(crate) fn into_text(self) -> Result<Text, NoMemory>
         requires { MembersAreOrdered (members_of (members_in self)) }
         ensures { IfOk result (λ text. text ≡ compact_text (object (members_of (members_in self)))) }

@@ -35,7 +35,7 @@ pub enum Problem {
 }
 
 impl Problem {
-    /// What is told of it.
+    /// What is stated of it.
     pub fn title(self, alloc: Global) -> Result<Text, NoMemory>
         ensures { IfOk result (λ title. title ≡ title_of self) }
     {
@@ -55,10 +55,10 @@ impl Problem {
 }
 
 /// A title that ends in the parameter's name.
-fn title_with(alloc: Global, lead: &str, param: Param) -> Result<Text, NoMemory>
-    ensures { IfOk result (λ title. title ≡ lead.now ++ name_of param) }
+fn title_with(alloc: Global, prefix: &str, param: Param) -> Result<Text, NoMemory>
+    ensures { IfOk result (λ title. title ≡ prefix.now ++ name_of param) }
 {
-    let mut title = Text::from_text(alloc, lead)?;
+    let mut title = Text::from_text(alloc, prefix)?;
     title.push(param.name())?;
     Ok(title)
 }

@@ -1,7 +1,7 @@
 ghost use Rattle.std.specs.Prelude.{◌≡◌, ◌≤◌, IfOk, Some, pos, ◌*◌};
 ghost use Rattle.stix_times.specs.Instant.{IsInstant};
 ghost use Rattle.stix_times.specs.Writing.{IsTextOfDigits, IsWhole};
-ghost use Rattle.taxii_bodies.specs.Times.{IsDateText, IsToldText, IsVersionText, IsWritable, version_instant};
+ghost use Rattle.taxii_bodies.specs.Times.{IsDateText, IsStatedText, IsVersionText, IsWritable, version_instant};
 
 use flow_values::{NoMemory, Text};
 use std::alloc::Global;
@@ -27,7 +27,7 @@ pub(crate) fn version_text(alloc: Global, row: &StoredRow) -> Result<Text, NoMem
 {
     let instant = version_instant(row);
     if row.dated {
-        told_text(alloc, instant)
+        stated_text(alloc, instant)
     } else {
         micros_text(alloc, instant)
     }
@@ -43,9 +43,9 @@ fn version_instant(row: &StoredRow) -> Instant
 }
 
 /// The text of a version that an object tells, with three digits of a second where nothing is lost.
-pub(crate) fn told_text(alloc: Global, instant: Instant) -> Result<Text, NoMemory>
+pub(crate) fn stated_text(alloc: Global, instant: Instant) -> Result<Text, NoMemory>
     requires { IsWhole 1000 instant }
-    ensures { IfOk result (IsToldText instant) }
+    ensures { IfOk result (IsStatedText instant) }
 {
     if nanos(instant) % NANOS_PER_MILLI == 0 {
         millis_text(alloc, instant)

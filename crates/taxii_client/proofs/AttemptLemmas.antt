@@ -5,15 +5,15 @@ use Rattle.std.proofs.lemmas.List.{append-nil, map-append}
 use Rattle.std.proofs.lemmas.List.Elements.{All-cons, All-nil, All-head, All-tail, filter_map-append}
 use Rattle.std.proofs.lemmas.List.Sums.{sum_by-cons}
 use Rattle.stix_json.specs.declared.envelope.Envelope.{Envelope}
-use Rattle.flow_edges.specs.Faults.{Rose}
-use Rattle.taxii_client.specs.Outside.{LinkView}
+use Rattle.flow_edges.specs.Faults.{HasIncreased}
+use Rattle.taxii_client.specs.Environment.{LinkView}
 use Rattle.taxii_client.specs.Fetches.{Fetched}
 use Rattle.taxii_client.specs.Pulls.{Lent, Page, InTurn as PagesInTurn}
 use Rattle.taxii_client.specs.declared.fetch_end.FetchEnd.{FetchEnd}
 use Rattle.taxii_client.specs.declared.fetch_end.FetchEnd.TheVariants as Fetch
 use Rattle.taxii_client.specs.declared.target.Target.{Target}
-use Rattle.taxii_client.specs.declared.turn.Turn.{Turn}
-use Rattle.taxii_client.specs.Attempts.{Attempt, IsAttemptAt, InTurn, turn_behind, is_loss, is_lost, losses, undialled, links_of, lost_links, page_over, pages_of, entries_of, GoesOn, LinkFailed, CountsDials}
+use Rattle.taxii_client.specs.declared.cursor.Cursor.{Cursor}
+use Rattle.taxii_client.specs.Attempts.{Attempt, IsAttemptAt, InTurn, cursor_after_attempt, is_loss, is_lost, losses, undialled, links_of, lost_links, page_over, pages_of, entries_of, Continues, LinkFailed, CountsDials}
 
 -- ---- counts and lists, one more
 
@@ -73,23 +73,23 @@ module _ {L : Type 0} where
   -- ---- turns
 
   module _ (view : L → LinkView) (target : Target) where
-    pub turns_more : (start turn : Turn) (attempts : List (Attempt L)) (attempt : Attempt L)
-        → InTurn view target start attempts turn → IsAttemptAt view target turn attempt → InTurn view target start (attempts ++ attempt ∷ []) (turn_behind turn attempt.answer)
-    turns_more start turn [] attempt same is = (subst (λ (t : Turn). IsAttemptAt view target t attempt) same is, ap (λ (t : Turn). turn_behind t attempt.answer) same)
-    turns_more start turn (first ∷ attempts) attempt turns is =
-        (turns.0, turns_more (turn_behind start first.answer) turn attempts attempt turns.1 is)
+    pub turns_more : (start cursor : Cursor) (attempts : List (Attempt L)) (attempt : Attempt L)
+        → InTurn view target start attempts cursor → IsAttemptAt view target cursor attempt → InTurn view target start (attempts ++ attempt ∷ []) (cursor_after_attempt cursor attempt.answer)
+    turns_more start cursor [] attempt same is = (subst (λ (t : Cursor). IsAttemptAt view target t attempt) same is, ap (λ (t : Cursor). cursor_after_attempt t attempt.answer) same)
+    turns_more start cursor (first ∷ attempts) attempt turns is =
+        (turns.0, turns_more (cursor_after_attempt start first.answer) cursor attempts attempt turns.1 is)
 
     -- the pages that came among attempts that go on are in turn
-    pub pages_turn : (start turn : Turn) (attempts : List (Attempt L)) → InTurn view target start attempts turn → All GoesOn attempts
-        → PagesInTurn view target start (pages_of attempts) turn
-    pages_turn start turn [] turns go_on = turns
-    pages_turn start turn (attempt ∷ attempts) turns go_on =
-        go attempt.link attempt.answer turns.0.fetched (pages_turn (turn_behind start attempt.answer) turn attempts turns.1 (All-tail GoesOn attempt attempts go_on))
+    pub pages_turn : (start cursor : Cursor) (attempts : List (Attempt L)) → InTurn view target start attempts cursor → All Continues attempts
+        → PagesInTurn view target start (pages_of attempts) cursor
+    pages_turn start cursor [] turns proceed = turns
+    pages_turn start cursor (attempt ∷ attempts) turns proceed =
+        go attempt.link attempt.answer turns.0.fetched (pages_turn (cursor_after_attempt start attempt.answer) cursor attempts turns.1 (All-tail Continues attempt attempts proceed))
       where
         go : (link : Option (Lent L)) (answer : Result Envelope FetchEnd)
             → MatchOption link (answer ≡ Err Fetch.Fault) (λ one. Fetched target turns.0.next (view one.given) (view one.finished) answer)
-            → PagesInTurn view target (turn_behind start answer) (pages_of attempts) turn
-            → PagesInTurn view target start (cons_option (page_over link answer) (pages_of attempts)) turn
+            → PagesInTurn view target (cursor_after_attempt start answer) (pages_of attempts) cursor
+            → PagesInTurn view target start (cons_option (page_over link answer) (pages_of attempts)) cursor
         go None (Ok envelope) fault behind = absurd (cc fault)
         go None (Err end) fault behind = behind
         go (Some link) (Ok envelope) fetched behind = (record { next = turns.0.next; asks = turns.0.asks; fetched = fetched }, behind)
@@ -97,23 +97,23 @@ module _ {L : Type 0} where
 
     -- ---- why attempts are lost
 
-    failed_one : (turn : Turn) (link : Lent L) (answer : Result Envelope FetchEnd) (next : Option (List ℕ))
+    failed_one : (cursor : Cursor) (link : Lent L) (answer : Result Envelope FetchEnd) (next : Option (List ℕ))
         → Fetched target next (view link.given) (view link.finished) answer → is_loss answer ≡ true → LinkFailed view link
-    failed_one turn link (Ok envelope) next fetched lost = absurd (cc lost)
-    failed_one turn link (Err Fetch.Fault) next fetched lost = inl (fetched.counts.failed refl)
-    failed_one turn link (Err Fetch.Cut) next fetched lost = inr (record {
+    failed_one cursor link (Ok envelope) next fetched lost = absurd (cc lost)
+    failed_one cursor link (Err Fetch.Fault) next fetched lost = inl (fetched.counts.failed refl)
+    failed_one cursor link (Err Fetch.Cut) next fetched lost = inr (record {
       taken = fetched.reads.taken;
       takes = fetched.reads.takes;
       cut = fetched.reads.answers.0;
       ended = fetched.reads.answers.1;
     })
-    failed_one turn link (Err (Fetch.Refused refusal)) next fetched lost = absurd (cc lost)
-    failed_one turn link (Err Fetch.NoMemory) next fetched lost = absurd (cc lost)
+    failed_one cursor link (Err (Fetch.Refused refusal)) next fetched lost = absurd (cc lost)
+    failed_one cursor link (Err Fetch.NoMemory) next fetched lost = absurd (cc lost)
 
-    pub all_failed : (start turn : Turn) (attempts : List (Attempt L)) → InTurn view target start attempts turn → All (LinkFailed view) (lost_links attempts)
-    all_failed start turn [] turns = All-nil (LinkFailed view)
-    all_failed start turn (attempt ∷ attempts) turns =
-        go (is_lost attempt) refl (all_failed (turn_behind start attempt.answer) turn attempts turns.1)
+    pub all_failed : (start cursor : Cursor) (attempts : List (Attempt L)) → InTurn view target start attempts cursor → All (LinkFailed view) (lost_links attempts)
+    all_failed start cursor [] turns = All-nil (LinkFailed view)
+    all_failed start cursor (attempt ∷ attempts) turns =
+        go (is_lost attempt) refl (all_failed (cursor_after_attempt start attempt.answer) cursor attempts turns.1)
       where
         with_link : (link : Option (Lent L)) → MatchOption link (attempt.answer ≡ Err Fetch.Fault) (λ one. Fetched target turns.0.next (view one.given) (view one.finished) attempt.answer)
             → is_lost attempt ≡ true → All (LinkFailed view) (lost_links attempts)
@@ -150,13 +150,13 @@ module _ {L : Type 0} where
   without_is_lost None answer none view target next fault = ap is_loss fault
   without_is_lost (Some link) answer none view target next fetched = absurd (cc none)
 
-  pub undialled_lost : (view : L → LinkView) (target : Target) (start turn : Turn) (attempts : List (Attempt L)) → InTurn view target start attempts turn
+  pub undialled_lost : (view : L → LinkView) (target : Target) (start cursor : Cursor) (attempts : List (Attempt L)) → InTurn view target start attempts cursor
       → All (λ attempt. attempt.link ≡ None → is_lost attempt ≡ true) attempts
-  undialled_lost view target start turn [] turns = All-nil (λ attempt. attempt.link ≡ None → is_lost attempt ≡ true)
-  undialled_lost view target start turn (attempt ∷ attempts) turns =
+  undialled_lost view target start cursor [] turns = All-nil (λ attempt. attempt.link ≡ None → is_lost attempt ≡ true)
+  undialled_lost view target start cursor (attempt ∷ attempts) turns =
       All-cons (λ a. a.link ≡ None → is_lost a ≡ true) attempt attempts
       (λ none. without_is_lost attempt.link attempt.answer none view target turns.0.next turns.0.fetched)
-      (undialled_lost view target (turn_behind start attempt.answer) turn attempts turns.1)
+      (undialled_lost view target (cursor_after_attempt start attempt.answer) cursor attempts turns.1)
 
   -- ---- the dial's count
 
@@ -167,7 +167,7 @@ module _ {L : Type 0} where
       subst (λ (n : ℕ). CountsDials n before after) (sym same) (subst (λ (f : ℕ). CountsDials (undialled attempts) before f) (sym quiet) counts)
 
   pub counts_without : (attempts : List (Attempt L)) (before now after : ℕ)
-      → CountsDials (undialled attempts) before now → Rose now after → CountsDials (undialled (attempts ++ without ∷ [])) before after
+      → CountsDials (undialled attempts) before now → HasIncreased now after → CountsDials (undialled (attempts ++ without ∷ [])) before after
   counts_without attempts before now after counts rose =
       let more : undialled (attempts ++ without ∷ []) ≡ undialled attempts + 1 = count_more (λ (a : Attempt L). is_none a.link) attempts without in
       subst (λ (n : ℕ). CountsDials n before after) (sym more) (record { rose = omega (arith, counts.rose, rose); quiet = λ none. absurd (omega (arith, none)) })

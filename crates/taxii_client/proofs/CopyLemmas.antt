@@ -2,9 +2,9 @@
 use Rattle.std.proofs.Common.{◌≡◌, ◌≢◌, ◌⊎◌, inl, inr, ℕ, ◌+◌, ◌-◌, ◌≤◌, ◌<◌, true, List, [], ◌∷◌, ◌++◌, length, map, Option, None, Some, Result, Ok, Err, All, IfSome, refl, sym, ap, subst, ◌∙◌, arith}
 use Rattle.std.proofs.lemmas.List.{append-nil, map-append, length-append}
 use Rattle.std.proofs.lemmas.List.Elements.{All-push, All-cons, All-nil}
-use Rattle.flow_edges.specs.Faults.{Rose}
+use Rattle.flow_edges.specs.Faults.{HasIncreased}
 use Rattle.flow_links.specs.Dials.{DialState}
-use Rattle.flow_links.specs.Moments.{IsNext, GoesOn as ClockGoesOn}
+use Rattle.flow_links.specs.Moments.{IsNext, Continues as ClockContinues}
 use Rattle.serde_json.specs.Data.{Data, Items, no_items, item}
 use Rattle.stix_json.specs.declared.entry.Entry.{Entry}
 use Rattle.stix_json.specs.declared.entry.Entry.TheVariants.{Good, Bad}
@@ -16,16 +16,16 @@ use Rattle.stix_json.specs.declared.envelope.Envelope.{Envelope}
 use Rattle.taxii_rows.specs.Keeper.{Kept}
 use Rattle.taxii_rows.specs.StoreState.{StoreState}
 use Rattle.taxii_store.specs.Agreement.{Agrees}
-use Rattle.taxii_client.specs.Outside.{LinkView, DialView}
-use Rattle.taxii_client.specs.Pulls.{PullState, Lent, Page, PassThrough, Asks, turn_after, AsksFor, GivesPage, Dials, Answers}
+use Rattle.taxii_client.specs.Environment.{LinkView, DialView}
+use Rattle.taxii_client.specs.Pulls.{PullState, Lent, Page, PassThrough, Asks, cursor_after, AsksFor, GivesPage, Dials, Answers}
 use Rattle.taxii_client.specs.declared.fetch_end.FetchEnd.{FetchEnd}
 use Rattle.taxii_client.specs.declared.fetch_end.FetchEnd.TheVariants as Fetch
 use Rattle.taxii_client.specs.declared.page_end.PageEnd.{PageEnd}
 use Rattle.taxii_client.specs.declared.page_end.PageEnd.TheVariants as End
 use Rattle.taxii_client.specs.declared.pull.TheConstants.{MAX_PAGES}
 use Rattle.taxii_client.specs.declared.target.Target.{Target}
-use Rattle.taxii_client.specs.declared.turn.Turn.{Turn}
-use Rattle.taxii_client.specs.declared.turn.Turn.TheVariants.{First, Behind, Over}
+use Rattle.taxii_client.specs.declared.cursor.Cursor.{Cursor}
+use Rattle.taxii_client.specs.declared.cursor.Cursor.TheVariants.{First, Resume, Over}
 use Rattle.taxii_client.specs.Absorbing.{Absorbed, Absorbs, MirrorState, IsReadable}
 use Rattle.taxii_client.specs.Mirrored.{Mirrored}
 use Rattle.taxii_client.specs.declared.store_refusal.StoreRefusal.{StoreRefusal}
@@ -34,20 +34,20 @@ use Rattle.taxii_client.specs.declared.stop.FetchStop.{FetchStop}
 use Rattle.taxii_client.specs.declared.stop.FetchStop.TheVariants as Stop
 use Rattle.taxii_client.specs.declared.totals.Totals.{Totals}
 use Rattle.taxii_client.specs.Copying.{Copying}
-use Rattle.taxii_client.specs.Attempts.{Attempt, IsAttemptAt, InTurn, turn_behind, is_lost, losses, undialled, links_of, pages_of, entries_of, GoesOn, CountsDials}
-use Rattle.taxii_client.specs.Filling.{Outside, GivesMoments, Fills}
+use Rattle.taxii_client.specs.Attempts.{Attempt, IsAttemptAt, InTurn, cursor_after_attempt, is_lost, losses, undialled, links_of, pages_of, entries_of, Continues, CountsDials}
+use Rattle.taxii_client.specs.Filling.{Environment, GivesMoments, Fills}
 use Rattle.taxii_client.specs.Totals.{totals_of, with_tally}
-use Rattle.taxii_client.specs.Endings.{Stops, StopsBehind, StopsLost, StopsAt, StopsShort, WhyNot, EndsFetching}
+use Rattle.taxii_client.specs.Endings.{Stops, StopsBehind, StopsLost, StopsAt, StopsShort, ExplainsStop, EndsFetching}
 use Rattle.taxii_client.specs.inner.Opening.{stop_of, Opens}
 use Rattle.taxii_client.proofs.AttemptLemmas.{over, without, links_more, links_same, pages_more, pages_same, entries_more, turns_more, losses_lost, losses_came, counts_none, counts_over, counts_without, sum_more}
 
 -- ---- moments
 
-pub moments_more : (before now after : ℕ → Option ℕ) (moments : List ℕ) (moment : ℕ) → GivesMoments before moments now → IsNext now moment → ClockGoesOn now after
+pub moments_more : (before now after : ℕ → Option ℕ) (moments : List ℕ) (moment : ℕ) → GivesMoments before moments now → IsNext now moment → ClockContinues now after
     → GivesMoments before (moments ++ moment ∷ []) after
 moments_more before now after [] moment same next goes = (
   after,
-  subst (λ (o : Option ℕ). IfSome o (λ told. moment ≡ told)) (same 0) next,
+  subst (λ (o : Option ℕ). IfSome o (λ observable. moment ≡ observable)) (same 0) next,
   λ n. goes n ∙ same (n + 1),
   λ n. refl,
 )
@@ -56,10 +56,10 @@ moments_more before now after (first ∷ moments) moment (middle, is, goes, rest
 -- ---- the copy so far
 
 -- attempts were made that another may follow, the pages that came were absorbed, and the walk and the mirror stand behind them
-pub record CopiesSoFar {L : Type 0} (view : L → LinkView) (asked : Copying) (before now : Outside L) (pull : PullState) (mirror : MirrorState) (lost : ℕ) (totals : Totals) : Type 0 where
+pub record CopiesSoFar {L : Type 0} (view : L → LinkView) (asked : Copying) (before now : Environment L) (pull : PullState) (mirror : MirrorState) (lost : ℕ) (totals : Totals) : Type 0 where
   pub stops : Stops view asked before now [] []
   pub target_is : pull.target ≡ asked.target
-  pub turn_is : pull.turn ≡ stops.turn
+  pub cursor_is : pull.cursor ≡ stops.cursor
   pub pages_is : pull.pages ≡ length (pages_of stops.attempts)
   pub lost_is : lost ≡ losses stops.attempts
   pub few : lost < asked.tries
@@ -69,18 +69,18 @@ pub record CopiesSoFar {L : Type 0} (view : L → LinkView) (asked : Copying) (b
   pub totals_is : totals ≡ totals_of stops.absorbed
 
 -- an attempt as it was made: its link, what the dial told, and what came
-pub record Made {L : Type 0} (view : L → LinkView) (target : Target) (turn : Turn) (dial now : DialView L) (end : Result Envelope FetchEnd) : Type 0 where
+pub record Made {L : Type 0} (view : L → LinkView) (target : Target) (cursor : Cursor) (dial now : DialView L) (end : Result Envelope FetchEnd) : Type 0 where
   pub attempt : Attempt L
   pub answer_is : attempt.answer ≡ end
-  pub at : IsAttemptAt view target turn attempt
-  pub link_or_none : ((link : Lent L) × (attempt ≡ over link end) × PassThrough target (link ∷ []) dial.told now.told × (now.faults ≡ dial.faults))
-      ⊎ ((attempt ≡ without) × (now.told ≡ dial.told) × Rose dial.faults now.faults)
+  pub at : IsAttemptAt view target cursor attempt
+  pub link_or_none : ((link : Lent L) × (attempt ≡ over link end) × PassThrough target (link ∷ []) dial.observable now.observable × (now.faults ≡ dial.faults))
+      ⊎ ((attempt ≡ without) × (now.observable ≡ dial.observable) × HasIncreased dial.faults now.faults)
 
 pub made_by : {L : Type 0} (view : L → LinkView) (pull : PullState) (dial now : DialView L) (answer : Result Envelope FetchEnd)
-    → AsksFor view pull dial now answer → Made view pull.target pull.turn dial now answer
+    → AsksFor view pull dial now answer → Made view pull.target pull.cursor dial now answer
 made_by view pull dial now answer asks = go asks.dials
   where
-    go : Dials view pull.target asks.next dial now answer → Made view pull.target pull.turn dial now answer
+    go : Dials view pull.target asks.next dial now answer → Made view pull.target pull.cursor dial now answer
     go (inl fetches) = record {
       attempt = over fetches.link answer;
       answer_is = refl;
@@ -98,30 +98,30 @@ module _ {L : Type 0} (view : L → LinkView) (asked : Copying)
     (joins : (t : Target) (links more : List (Lent L)) (first middle last : Option (DialState L))
     → PassThrough t links first middle → PassThrough t more middle last → PassThrough t (links ++ more) first last) where
   -- the links behind one more attempt
-  through_more : (attempts : List (Attempt L)) (turn : Turn) (first : Option (DialState L)) (dial now : DialView L) (end : Result Envelope FetchEnd) (made : Made view asked.target turn dial now end)
-      → PassThrough asked.target (links_of attempts) first dial.told → PassThrough asked.target (links_of (attempts ++ made.attempt ∷ [])) first now.told
-  through_more attempts turn first dial now end made through = elim made.link_or_none [
-    | inl its ↦ subst (λ (a : Attempt L). PassThrough asked.target (links_of (attempts ++ a ∷ [])) first now.told) (sym its.1)
-        (subst (λ (links : List (Lent L)). PassThrough asked.target links first now.told) (sym (links_more attempts its.0 end))
-        (joins asked.target (links_of attempts) (its.0 ∷ []) first dial.told now.told through its.2))
-    | inr none ↦ subst (λ (a : Attempt L). PassThrough asked.target (links_of (attempts ++ a ∷ [])) first now.told) (sym none.0)
-        (subst (λ (links : List (Lent L)). PassThrough asked.target links first now.told) (sym (links_same attempts))
+  through_more : (attempts : List (Attempt L)) (cursor : Cursor) (first : Option (DialState L)) (dial now : DialView L) (end : Result Envelope FetchEnd) (made : Made view asked.target cursor dial now end)
+      → PassThrough asked.target (links_of attempts) first dial.observable → PassThrough asked.target (links_of (attempts ++ made.attempt ∷ [])) first now.observable
+  through_more attempts cursor first dial now end made through = elim made.link_or_none [
+    | inl its ↦ subst (λ (a : Attempt L). PassThrough asked.target (links_of (attempts ++ a ∷ [])) first now.observable) (sym its.1)
+        (subst (λ (links : List (Lent L)). PassThrough asked.target links first now.observable) (sym (links_more attempts its.0 end))
+        (joins asked.target (links_of attempts) (its.0 ∷ []) first dial.observable now.observable through its.2))
+    | inr none ↦ subst (λ (a : Attempt L). PassThrough asked.target (links_of (attempts ++ a ∷ [])) first now.observable) (sym none.0)
+        (subst (λ (links : List (Lent L)). PassThrough asked.target links first now.observable) (sym (links_same attempts))
         (subst (λ (d : Option (DialState L)). PassThrough asked.target (links_of attempts) first d) (sym none.1) through))
   ]
 
-  counts_more : (attempts : List (Attempt L)) (turn : Turn) (first : ℕ) (dial now : DialView L) (end : Result Envelope FetchEnd) (made : Made view asked.target turn dial now end)
+  counts_more : (attempts : List (Attempt L)) (cursor : Cursor) (first : ℕ) (dial now : DialView L) (end : Result Envelope FetchEnd) (made : Made view asked.target cursor dial now end)
       → CountsDials (undialled attempts) first dial.faults → CountsDials (undialled (attempts ++ made.attempt ∷ [])) first now.faults
-  counts_more attempts turn first dial now end made counts = elim made.link_or_none [
+  counts_more attempts cursor first dial now end made counts = elim made.link_or_none [
     | inl its ↦ subst (λ (a : Attempt L). CountsDials (undialled (attempts ++ a ∷ [])) first now.faults) (sym its.1)
         (counts_over attempts its.0 end first dial.faults now.faults counts its.3)
     | inr none ↦ subst (λ (a : Attempt L). CountsDials (undialled (attempts ++ a ∷ [])) first now.faults) (sym none.0)
         (counts_without attempts first dial.faults now.faults counts none.2)
   ]
 
-  abbrev with_dial : DialView L → Outside L → Outside L
+  abbrev with_dial : DialView L → Environment L → Environment L
   with_dial dial now = record { dial = dial; kept = now.kept; moments = now.moments }
 
-  module _ (before now : Outside L) (pull : PullState) (mirror : MirrorState) (lost : ℕ) (totals : Totals)
+  module _ (before now : Environment L) (pull : PullState) (mirror : MirrorState) (lost : ℕ) (totals : Totals)
       (so : CopiesSoFar view asked before now pull mirror lost totals) where
     -- the same pages, where a dial went on
     fills_still : (dial : DialView L) (attempts : List (Attempt L)) → pages_of attempts ≡ pages_of so.stops.attempts
@@ -141,50 +141,50 @@ module _ {L : Type 0} (view : L → LinkView) (asked : Copying)
           moments = fills.moments;
         }
 
-    through_was : PassThrough asked.target (links_of so.stops.attempts) before.dial.told now.dial.told
-    through_was = subst (λ (those : List (Attempt L)). PassThrough asked.target (links_of those) before.dial.told now.dial.told) (append-nil so.stops.attempts) so.stops.through
+    through_was : PassThrough asked.target (links_of so.stops.attempts) before.dial.observable now.dial.observable
+    through_was = subst (λ (those : List (Attempt L)). PassThrough asked.target (links_of those) before.dial.observable now.dial.observable) (append-nil so.stops.attempts) so.stops.through
 
     counts_was : CountsDials (undialled so.stops.attempts) before.dial.faults now.dial.faults
     counts_was = subst (λ (those : List (Attempt L)). CountsDials (undialled those) before.dial.faults now.dial.faults) (append-nil so.stops.attempts) so.stops.counts
 
-    turns_was : InTurn view asked.target First so.stops.attempts so.stops.turn
-    turns_was = subst (λ (those : List (Attempt L)). InTurn view asked.target First those so.stops.turn) (append-nil so.stops.attempts) so.stops.in_turn
+    turns_was : InTurn view asked.target First so.stops.attempts so.stops.cursor
+    turns_was = subst (λ (those : List (Attempt L)). InTurn view asked.target First those so.stops.cursor) (append-nil so.stops.attempts) so.stops.in_turn
 
-    made_here : (dial : DialView L) (answer : Result Envelope FetchEnd) → AsksFor view pull now.dial dial answer → Made view asked.target so.stops.turn now.dial dial answer
+    made_here : (dial : DialView L) (answer : Result Envelope FetchEnd) → AsksFor view pull now.dial dial answer → Made view asked.target so.stops.cursor now.dial dial answer
     made_here dial answer asks =
-        subst (λ (t : Turn). Made view asked.target t now.dial dial answer) so.turn_is
-        (subst (λ (t : Target). Made view t pull.turn now.dial dial answer) so.target_is (made_by view pull now.dial dial answer asks))
+        subst (λ (t : Cursor). Made view asked.target t now.dial dial answer) so.cursor_is
+        (subst (λ (t : Target). Made view t pull.cursor now.dial dial answer) so.target_is (made_by view pull now.dial dial answer asks))
 
     -- one more attempt that was lost
-    stops_lost : (dial : DialView L) (end : FetchEnd) (made : Made view asked.target so.stops.turn now.dial dial (Err end)) → is_lost made.attempt ≡ true
+    stops_lost : (dial : DialView L) (end : FetchEnd) (made : Made view asked.target so.stops.cursor now.dial dial (Err end)) → is_lost made.attempt ≡ true
         → Stops view asked before (with_dial dial now) [] []
     stops_lost dial end made lost_it =
         let attempts = so.stops.attempts ++ made.attempt ∷ [] in record {
           attempts = attempts;
-          go_on = All-push GoesOn so.stops.attempts made.attempt so.stops.go_on (inr lost_it);
-          turn = so.stops.turn;
-          in_turn = subst (λ (those : List (Attempt L)). InTurn view asked.target First those so.stops.turn) (sym (append-nil attempts))
-              (subst (λ (a : Result Envelope FetchEnd). InTurn view asked.target First attempts (turn_behind so.stops.turn a)) made.answer_is
-              (turns_more view asked.target First so.stops.turn so.stops.attempts made.attempt turns_was made.at));
-          through = subst (λ (those : List (Attempt L)). PassThrough asked.target (links_of those) before.dial.told dial.told) (sym (append-nil attempts))
-              (through_more so.stops.attempts so.stops.turn before.dial.told now.dial dial (Err end) made through_was);
+          proceed = All-push Continues so.stops.attempts made.attempt so.stops.proceed (inr lost_it);
+          cursor = so.stops.cursor;
+          in_turn = subst (λ (those : List (Attempt L)). InTurn view asked.target First those so.stops.cursor) (sym (append-nil attempts))
+              (subst (λ (a : Result Envelope FetchEnd). InTurn view asked.target First attempts (cursor_after_attempt so.stops.cursor a)) made.answer_is
+              (turns_more view asked.target First so.stops.cursor so.stops.attempts made.attempt turns_was made.at));
+          through = subst (λ (those : List (Attempt L)). PassThrough asked.target (links_of those) before.dial.observable dial.observable) (sym (append-nil attempts))
+              (through_more so.stops.attempts so.stops.cursor before.dial.observable now.dial dial (Err end) made through_was);
           counts = subst (λ (those : List (Attempt L)). CountsDials (undialled those) before.dial.faults dial.faults) (sym (append-nil attempts))
-              (counts_more so.stops.attempts so.stops.turn before.dial.faults now.dial dial (Err end) made counts_was);
+              (counts_more so.stops.attempts so.stops.cursor before.dial.faults now.dial dial (Err end) made counts_was);
           absorbed = so.stops.absorbed;
           fills = fills_still dial attempts (pages_same so.stops.attempts made.attempt end made.answer_is);
         }
 
     -- one more attempt, which ended the run
-    stops_at : (dial : DialView L) (end : FetchEnd) (made : Made view asked.target so.stops.turn now.dial dial (Err end))
+    stops_at : (dial : DialView L) (end : FetchEnd) (made : Made view asked.target so.stops.cursor now.dial dial (Err end))
         → Stops view asked before (with_dial dial now) (made.attempt ∷ []) []
     stops_at dial end made = record {
       attempts = so.stops.attempts;
-      go_on = so.stops.go_on;
-      turn = so.stops.turn;
-      in_turn = subst (λ (a : Result Envelope FetchEnd). InTurn view asked.target First (so.stops.attempts ++ made.attempt ∷ []) (turn_behind so.stops.turn a)) made.answer_is
-          (turns_more view asked.target First so.stops.turn so.stops.attempts made.attempt turns_was made.at);
-      through = through_more so.stops.attempts so.stops.turn before.dial.told now.dial dial (Err end) made through_was;
-      counts = counts_more so.stops.attempts so.stops.turn before.dial.faults now.dial dial (Err end) made counts_was;
+      proceed = so.stops.proceed;
+      cursor = so.stops.cursor;
+      in_turn = subst (λ (a : Result Envelope FetchEnd). InTurn view asked.target First (so.stops.attempts ++ made.attempt ∷ []) (cursor_after_attempt so.stops.cursor a)) made.answer_is
+          (turns_more view asked.target First so.stops.cursor so.stops.attempts made.attempt turns_was made.at);
+      through = through_more so.stops.attempts so.stops.cursor before.dial.observable now.dial dial (Err end) made through_was;
+      counts = counts_more so.stops.attempts so.stops.cursor before.dial.faults now.dial dial (Err end) made counts_was;
       absorbed = so.stops.absorbed;
       fills = fills_still dial so.stops.attempts refl;
     }
@@ -193,10 +193,10 @@ module _ {L : Type 0} (view : L → LinkView) (asked : Copying)
     stops_still : (dial : DialView L) → dial ≡ now.dial → Stops view asked before (with_dial dial now) [] []
     stops_still dial same = record {
       attempts = so.stops.attempts;
-      go_on = so.stops.go_on;
-      turn = so.stops.turn;
+      proceed = so.stops.proceed;
+      cursor = so.stops.cursor;
       in_turn = so.stops.in_turn;
-      through = subst (λ (d : DialView L). PassThrough asked.target (links_of (so.stops.attempts ++ [])) before.dial.told d.told) (sym same) so.stops.through;
+      through = subst (λ (d : DialView L). PassThrough asked.target (links_of (so.stops.attempts ++ [])) before.dial.observable d.observable) (sym same) so.stops.through;
       counts = subst (λ (d : DialView L). CountsDials (undialled (so.stops.attempts ++ [])) before.dial.faults d.faults) (sym same) so.stops.counts;
       absorbed = so.stops.absorbed;
       fills = fills_still dial so.stops.attempts refl;
@@ -210,35 +210,35 @@ module _ {L : Type 0} (view : L → LinkView) (asked : Copying)
         → (copied : StopsBehind view asked before (with_dial dial now)) × (totals ≡ totals_of copied.stops.absorbed)
     unfolding stops_still
     copy_done after dial (is_over, (same, rests)) = (
-      record { stops = stops_still dial rests; over = sym so.turn_is ∙ is_over; few = still_few },
+      record { stops = stops_still dial rests; over = sym so.cursor_is ∙ is_over; few = still_few },
       so.totals_is,
     )
 
     -- a page was lost
     lost_by : (end : FetchEnd) (dial : DialView L) → AsksFor view pull now.dial dial (Err end) → is_lost (let a : Attempt L = record { link = None; answer = Err end } in a) ≡ true
-        → (stops : Stops view asked before (with_dial dial now) [] []) × (losses stops.attempts ≡ lost + 1) × (stops.turn ≡ pull.turn)
-        × (length (pages_of stops.attempts) ≡ pull.pages) × (totals ≡ totals_of stops.absorbed) × (mirror.store ≡ stops.fills.last) × (stops.turn ≢ Over)
+        → (stops : Stops view asked before (with_dial dial now) [] []) × (losses stops.attempts ≡ lost + 1) × (stops.cursor ≡ pull.cursor)
+        × (length (pages_of stops.attempts) ≡ pull.pages) × (totals ≡ totals_of stops.absorbed) × (mirror.store ≡ stops.fills.last) × (stops.cursor ≢ Over)
     unfolding stops_lost fills_still
     lost_by end dial asks loss =
         let made = made_here dial (Err end) asks in
         let lost_it : is_lost made.attempt ≡ true = ap (λ (a : Result Envelope FetchEnd). is_lost (let one : Attempt L = record { link = None; answer = a } in one)) made.answer_is ∙ loss in (
           stops_lost dial end made lost_it,
           losses_lost so.stops.attempts made.attempt lost_it ∙ ap (λ (n : ℕ). n + 1) (sym so.lost_is),
-          sym so.turn_is,
+          sym so.cursor_is,
           ap length (pages_same so.stops.attempts made.attempt end made.answer_is) ∙ sym so.pages_is,
           so.totals_is,
           so.store_is,
-          λ is_over. asked_over pull.turn asks.next asks.asks (so.turn_is ∙ is_over),
+          λ is_over. asked_over pull.cursor asks.next asks.asks (so.cursor_is ∙ is_over),
         )
       where
-        asked_over : (turn : Turn) (next : Option (List ℕ)) → Asks turn next → turn ≡ Over → ⊥
+        asked_over : (cursor : Cursor) (next : Option (List ℕ)) → Asks cursor next → cursor ≡ Over → ⊥
         asked_over First next asks is = cc is
-        asked_over (Behind text) next asks is = cc is
+        asked_over (Resume text) next asks is = cc is
         asked_over Over next asks is = asks
 
     lost_end : (end : PageEnd) (after : PullState) (dial : DialView L) → Answers view pull after now.dial dial (Err end) → stop_of end ≡ None
-        → (stops : Stops view asked before (with_dial dial now) [] []) × (losses stops.attempts ≡ lost + 1) × (stops.turn ≡ pull.turn)
-        × (length (pages_of stops.attempts) ≡ pull.pages) × (totals ≡ totals_of stops.absorbed) × (mirror.store ≡ stops.fills.last) × (stops.turn ≢ Over)
+        → (stops : Stops view asked before (with_dial dial now) [] []) × (losses stops.attempts ≡ lost + 1) × (stops.cursor ≡ pull.cursor)
+        × (length (pages_of stops.attempts) ≡ pull.pages) × (totals ≡ totals_of stops.absorbed) × (mirror.store ≡ stops.fills.last) × (stops.cursor ≢ Over)
     lost_end End.Fault after dial (asks, same) none = lost_by Fetch.Fault dial asks refl
     lost_end End.Cut after dial (asks, same) none = lost_by Fetch.Cut dial asks refl
     lost_end (End.Refused refusal) after dial answers none = absurd (cc none)
@@ -256,11 +256,11 @@ module _ {L : Type 0} (view : L → LinkView) (asked : Copying)
     pub copy_again : (end : PageEnd) (after : PullState) (dial : DialView L) → Answers view pull after now.dial dial (Err end) → stop_of end ≡ None → lost + 1 ≢ asked.tries
         → CopiesSoFar view asked before (with_dial dial now) after mirror (lost + 1) totals
     copy_again end after dial answers none fewer =
-        let (stops, count, turn, pages, sums, store, wants) = lost_end end after dial answers none in
+        let (stops, count, cursor, pages, sums, store, wants) = lost_end end after dial answers none in
         subst (λ (p : PullState). CopiesSoFar view asked before (with_dial dial now) p mirror (lost + 1) totals) (sym (same_pull end after dial answers)) (record {
           stops = stops;
           target_is = so.target_is;
-          turn_is = sym turn;
+          cursor_is = sym cursor;
           pages_is = sym pages;
           lost_is = sym count;
           few = omega (arith, so.few, fewer);
@@ -274,7 +274,7 @@ module _ {L : Type 0} (view : L → LinkView) (asked : Copying)
     pub copy_lost : (end : PageEnd) (after : PullState) (dial : DialView L) → Answers view pull after now.dial dial (Err end) → stop_of end ≡ None → lost + 1 ≡ asked.tries
         → StopsLost view asked before (with_dial dial now)
     copy_lost end after dial answers none all =
-        let (stops, count, turn, pages, sums, store, wants) = lost_end end after dial answers none in
+        let (stops, count, cursor, pages, sums, store, wants) = lost_end end after dial answers none in
         record { stops = stops; wants = wants; all = count ∙ all }
 
     ends_at : (end : FetchEnd) (dial : DialView L) → AsksFor view pull now.dial dial (Err end) → StopsAt view asked before (with_dial dial now) end
@@ -298,7 +298,7 @@ module _ {L : Type 0} (view : L → LinkView) (asked : Copying)
         subst (EndsFetching view asked before (with_dial dial now)) (some_stop Stop.TooManyPages stop is) (record {
           stops = stops_still dial rests;
           full = sym so.pages_is ∙ most;
-          wants = λ is_over. more (so.turn_is ∙ is_over);
+          wants = λ is_over. more (so.cursor_is ∙ is_over);
           few = still_few;
         })
     copy_stops End.NoMemory stop after dial (asks, same) is =
@@ -310,11 +310,11 @@ module _ {L : Type 0} (view : L → LinkView) (asked : Copying)
     pub record Came (after : PullState) (dial : DialView L) (entries : List Entry) : Type 0 where
       pub link : Lent L
       pub envelope : Envelope
-      pub at : IsAttemptAt view asked.target so.stops.turn (over link (Ok envelope))
-      pub through : PassThrough asked.target (link ∷ []) now.dial.told dial.told
+      pub at : IsAttemptAt view asked.target so.stops.cursor (over link (Ok envelope))
+      pub through : PassThrough asked.target (link ∷ []) now.dial.observable dial.observable
       pub quiet : dial.faults ≡ now.dial.faults
       pub entries_are : entries ≡ envelope.entries
-      pub after_is : after ≡ record { target = pull.target; turn = turn_after envelope; pages = pull.pages + 1 }
+      pub after_is : after ≡ record { target = pull.target; cursor = cursor_after envelope; pages = pull.pages + 1 }
       pub few_pages : pull.pages < MAX_PAGES
 
     pub came_by : (after : PullState) (dial : DialView L) (entries : List Entry) → GivesPage view pull after now.dial dial entries → Came after dial entries
@@ -323,7 +323,7 @@ module _ {L : Type 0} (view : L → LinkView) (asked : Copying)
           | inl its ↦ record {
             link = its.0;
             envelope = gives.envelope;
-            at = subst (λ (a : Attempt L). IsAttemptAt view asked.target so.stops.turn a) its.1 made.at;
+            at = subst (λ (a : Attempt L). IsAttemptAt view asked.target so.stops.cursor a) its.1 made.at;
             through = its.2;
             quiet = its.3;
             entries_are = gives.entries_are;
@@ -333,7 +333,7 @@ module _ {L : Type 0} (view : L → LinkView) (asked : Copying)
           | inr none ↦ absurd (let is : made.attempt ≡ without = none.0 in let no = ap (λ (a : Attempt L). a.answer) is in let yes = made.answer_is in cc (no, yes))
         ]
 
-    abbrev then : DialView L → Kept → (ℕ → Option ℕ) → Outside L
+    abbrev then : DialView L → Kept → (ℕ → Option ℕ) → Environment L
     then dial kept moments = record { dial = dial; kept = kept; moments = moments }
 
     -- the attempts with one at which a page came, where the store is filled so
@@ -344,13 +344,13 @@ module _ {L : Type 0} (view : L → LinkView) (asked : Copying)
     stops_came after dial entries came kept moments left absorbed fills =
         let attempts = so.stops.attempts ++ over came.link (Ok came.envelope) ∷ [] in record {
           attempts = attempts;
-          go_on = All-push GoesOn so.stops.attempts (over came.link (Ok came.envelope)) so.stops.go_on (inl (came.envelope, refl));
-          turn = turn_after came.envelope;
-          in_turn = subst (λ (those : List (Attempt L)). InTurn view asked.target First those (turn_after came.envelope)) (sym (append-nil attempts))
-              (turns_more view asked.target First so.stops.turn so.stops.attempts (over came.link (Ok came.envelope)) turns_was came.at);
-          through = subst (λ (those : List (Attempt L)). PassThrough asked.target (links_of those) before.dial.told dial.told) (sym (append-nil attempts))
-              (subst (λ (links : List (Lent L)). PassThrough asked.target links before.dial.told dial.told) (sym (links_more so.stops.attempts came.link (Ok came.envelope)))
-              (joins asked.target (links_of so.stops.attempts) (came.link ∷ []) before.dial.told now.dial.told dial.told through_was came.through));
+          proceed = All-push Continues so.stops.attempts (over came.link (Ok came.envelope)) so.stops.proceed (inl (came.envelope, refl));
+          cursor = cursor_after came.envelope;
+          in_turn = subst (λ (those : List (Attempt L)). InTurn view asked.target First those (cursor_after came.envelope)) (sym (append-nil attempts))
+              (turns_more view asked.target First so.stops.cursor so.stops.attempts (over came.link (Ok came.envelope)) turns_was came.at);
+          through = subst (λ (those : List (Attempt L)). PassThrough asked.target (links_of those) before.dial.observable dial.observable) (sym (append-nil attempts))
+              (subst (λ (links : List (Lent L)). PassThrough asked.target links before.dial.observable dial.observable) (sym (links_more so.stops.attempts came.link (Ok came.envelope)))
+              (joins asked.target (links_of so.stops.attempts) (came.link ∷ []) before.dial.observable now.dial.observable dial.observable through_was came.through));
           counts = subst (λ (those : List (Attempt L)). CountsDials (undialled those) before.dial.faults dial.faults) (sym (append-nil attempts))
               (counts_over so.stops.attempts came.link (Ok came.envelope) before.dial.faults now.dial.faults dial.faults counts_was came.quiet);
           absorbed = absorbed;
@@ -376,8 +376,8 @@ module _ {L : Type 0} (view : L → LinkView) (asked : Copying)
 
     -- the page wasn't absorbed
     pub copy_short : (after : PullState) (dial : DialView L) (entries : List Entry) (kept : Kept) (moments : ℕ → Option ℕ) (moment : ℕ) (refusal : StoreRefusal) (later : MirrorState)
-        → GivesPage view pull after now.dial dial entries → IsNext now.moments moment → ClockGoesOn now.moments moments → later ≡ mirror → Agrees kept later.store
-        → kept.name ≡ now.kept.name → WhyNot asked refusal entries mirror.store → StopsShort view asked before (then dial kept moments) (WhyNot asked refusal)
+        → GivesPage view pull after now.dial dial entries → IsNext now.moments moment → ClockContinues now.moments moments → later ≡ mirror → Agrees kept later.store
+        → kept.name ≡ now.kept.name → ExplainsStop asked refusal entries mirror.store → StopsShort view asked before (then dial kept moments) (ExplainsStop asked refusal)
     unfolding stops_came
     copy_short after dial entries kept moments moment refusal later gives next goes same agrees name why =
         let came = came_by after dial entries gives in
@@ -391,14 +391,14 @@ module _ {L : Type 0} (view : L → LinkView) (asked : Copying)
             sound = fills.sound;
             last = fills.last;
             mirrored = fills.mirrored;
-            kept = subst (λ (s : StoreState). IfSome kept.told (λ state. state ≡ s)) (ap (λ (m : MirrorState). m.store) same ∙ so.store_is) agrees.told_is;
-            named = subst (λ (n : Option (List ℕ)). IfSome before.kept.told (λ _. n ≡ Some asked.file)) (sym name) fills.named;
+            kept = subst (λ (s : StoreState). IfSome kept.observable (λ state. state ≡ s)) (ap (λ (m : MirrorState). m.store) same ∙ so.store_is) agrees.told_is;
+            named = subst (λ (n : Option (List ℕ)). IfSome before.kept.observable (λ _. n ≡ Some asked.file)) (sym name) fills.named;
             pages_are = pages_now after dial entries came;
             late = moment ∷ [];
             late_are = refl;
             moments = moments_more before.moments now.moments moments (map (λ (p : Absorbed). p.moment) so.stops.absorbed) moment moments_was next goes;
           });
-          why = subst (WhyNot asked refusal entries) so.store_is why;
+          why = subst (ExplainsStop asked refusal entries) so.store_is why;
           few = few;
         }
 
@@ -411,15 +411,15 @@ module _ {L : Type 0} (view : L → LinkView) (asked : Copying)
         let is : totals_of (absorbed ++ page ∷ []) ≡ with_tally page.tally (totals_of absorbed) = cc (pages, added, present, skipped) in is
 
     -- the page was absorbed
-    pub copy_more : (goes_on : (collection : ℕ) (state first last : StoreState) (pages : List Absorbed) (page : Absorbed)
+    pub copy_more : (continues : (collection : ℕ) (state first last : StoreState) (pages : List Absorbed) (page : Absorbed)
         → Mirrored collection state pages first → Absorbs collection page first last → Mirrored collection state (pages ++ page ∷ []) last)
         (after : PullState) (dial : DialView L) (entries : List Entry) (kept : Kept) (moments : ℕ → Option ℕ) (moment : ℕ) (tally : Tally) (later : MirrorState) (sums : Totals)
-        → GivesPage view pull after now.dial dial entries → IsNext now.moments moment → ClockGoesOn now.moments moments → Agrees kept later.store
+        → GivesPage view pull after now.dial dial entries → IsNext now.moments moment → ClockContinues now.moments moments → Agrees kept later.store
         → kept.name ≡ now.kept.name → later.collection ≡ mirror.collection
         → Absorbs mirror.collection (record { entries = entries; moment = moment; tally = tally }) mirror.store later.store → sums ≡ with_tally tally totals
         → CopiesSoFar view asked before (then dial kept moments) after later lost sums
     unfolding stops_came
-    copy_more goes_on after dial entries kept moments moment tally later sums gives next goes agrees name collection absorbs total =
+    copy_more continues after dial entries kept moments moment tally later sums gives next goes agrees name collection absorbs total =
         let came = came_by after dial entries gives in
         let page_here : Page L = record { link = came.link; envelope = came.envelope } in
         let pages : pull.pages + 1 ≡ length (pages_of (so.stops.attempts ++ over came.link (Ok came.envelope) ∷ [])) =
@@ -434,9 +434,9 @@ module _ {L : Type 0} (view : L → LinkView) (asked : Copying)
             loaded = fills.loaded;
             sound = fills.sound;
             last = later.store;
-            mirrored = goes_on asked.target.collection fills.first fills.last later.store so.stops.absorbed page fills.mirrored absorbs_here;
+            mirrored = continues asked.target.collection fills.first fills.last later.store so.stops.absorbed page fills.mirrored absorbs_here;
             kept = agrees.told_is;
-            named = subst (λ (n : Option (List ℕ)). IfSome before.kept.told (λ _. n ≡ Some asked.file)) (sym name) fills.named;
+            named = subst (λ (n : Option (List ℕ)). IfSome before.kept.observable (λ _. n ≡ Some asked.file)) (sym name) fills.named;
             pages_are = pages_now after dial entries came ∙ sym (map-append (λ (p : Absorbed). p.entries) so.stops.absorbed (page ∷ [])) ∙ sym (append-nil (map (λ (p : Absorbed). p.entries) absorbed));
             late = [];
             late_are = refl;
@@ -445,7 +445,7 @@ module _ {L : Type 0} (view : L → LinkView) (asked : Copying)
                 (moments_more before.moments now.moments moments (map (λ (p : Absorbed). p.moment) so.stops.absorbed) moment moments_was next goes);
           });
           target_is = so.target_is;
-          turn_is = refl;
+          cursor_is = refl;
           pages_is = pages;
           lost_is = so.lost_is ∙ sym (losses_came so.stops.attempts (over came.link (Ok came.envelope)) refl);
           few = so.few;
@@ -475,28 +475,28 @@ page_readable view before after dial now entries gives =
   where
     go : Dials view before.target gives.asks.next dial now (Ok gives.envelope) → All IsReadable gives.envelope.entries
     go (inl fetches) =
-        let is = fetches.fetched.reads.answers.is_envelope in readable_all is.list gives.envelope.entries is.judged
+        let is = fetches.fetched.reads.answers.is_envelope in readable_all is.list gives.envelope.entries is.checked
     go (inr fails) = let no = fails.fault in absurd (cc no)
 
 -- ---- the start
 
-pub copy_start : {L : Type 0} (view : L → LinkView) (asked : Copying) (before now : Outside L) (mirror : MirrorState) (totals : Totals)
-    → PassThrough asked.target [] before.dial.told before.dial.told → now.dial ≡ before.dial → now.moments ≡ before.moments
+pub copy_start : {L : Type 0} (view : L → LinkView) (asked : Copying) (before now : Environment L) (mirror : MirrorState) (totals : Totals)
+    → PassThrough asked.target [] before.dial.observable before.dial.observable → now.dial ≡ before.dial → now.moments ≡ before.moments
     → Opens asked.file before.kept now.kept mirror → mirror.collection ≡ asked.target.collection → 1 ≤ asked.tries
     → totals ≡ record { pages = 0; added = 0; present = 0; skipped = 0 }
-    → CopiesSoFar view asked before now (record { target = asked.target; turn = First; pages = 0 }) mirror 0 totals
+    → CopiesSoFar view asked before now (record { target = asked.target; cursor = First; pages = 0 }) mirror 0 totals
 copy_start {L} view asked before now mirror totals none dial moments opens collection some zero = record {
   stops = record {
     attempts = [];
-    go_on = All-nil GoesOn;
-    turn = First;
+    proceed = All-nil Continues;
+    cursor = First;
     in_turn = refl;
-    through = subst (λ (d : DialView L). PassThrough asked.target [] before.dial.told d.told) (sym dial) none;
+    through = subst (λ (d : DialView L). PassThrough asked.target [] before.dial.observable d.observable) (sym dial) none;
     counts = subst (λ (d : DialView L). CountsDials 0 before.dial.faults d.faults) (sym dial) (counts_none before.dial.faults);
     absorbed = [];
     fills = record {
       first = mirror.store;
-      loaded = loaded before.kept.told opens.told opens.agrees.told_is;
+      loaded = loaded before.kept.observable opens.observable opens.agrees.told_is;
       sound = opens.sound;
       last = mirror.store;
       mirrored = refl;
@@ -509,7 +509,7 @@ copy_start {L} view asked before now mirror totals none dial moments opens colle
     };
   };
   target_is = refl;
-  turn_is = refl;
+  cursor_is = refl;
   pages_is = refl;
   lost_is = refl;
   few = some;
@@ -519,6 +519,6 @@ copy_start {L} view asked before now mirror totals none dial moments opens colle
   totals_is = zero;
 }
   where
-    loaded : (told : Option StoreState) → now.kept.told ≡ told → IfSome now.kept.told (λ state. state ≡ mirror.store) → IfSome told (λ state. mirror.store ≡ state)
+    loaded : (observable : Option StoreState) → now.kept.observable ≡ observable → IfSome now.kept.observable (λ state. state ≡ mirror.store) → IfSome observable (λ state. mirror.store ≡ state)
     loaded None same agrees = tt
     loaded (Some state) same agrees = sym (subst (λ (o : Option StoreState). IfSome o (λ s. s ≡ mirror.store)) same agrees)

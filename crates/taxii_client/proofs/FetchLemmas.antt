@@ -11,7 +11,7 @@ use Rattle.taxii_client.specs.declared.target.Target.{Target}
 use Rattle.taxii_client.specs.declared.fetch_end.FetchEnd.{FetchEnd}
 use Rattle.taxii_client.specs.declared.fetch_end.FetchEnd.TheVariants.{Refused, NoMemory}
 use Rattle.taxii_client.specs.Requests.{request_of}
-use Rattle.taxii_client.specs.Outside.{LinkView, CountsLink}
+use Rattle.taxii_client.specs.Environment.{LinkView, CountsLink}
 use Rattle.taxii_client.specs.Fetches.{IsNoEnvelope, Fetched}
 
 pub passed_on : {T E : Type 0} (P : Result T E → Type 0) (answer : Result T E) (its : E) → IsErrAnd answer (λ e. e ≡ its) → P (Err its) → P answer

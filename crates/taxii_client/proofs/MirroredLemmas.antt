@@ -18,10 +18,10 @@ use Rattle.taxii_rows.specs.Keeper.{with_rows}
 use Rattle.taxii_rows.specs.StoreState.{StoreState}
 use Rattle.taxii_rows.specs.Version.{HasVersion}
 use Rattle.taxii_index.proofs.ListLemmas.{nothing, first, later, cons_cases}
-use Rattle.taxii_store.specs.Addition.{mark_after}
+use Rattle.taxii_store.specs.Addition.{watermark_after}
 use Rattle.taxii_client.specs.Absorbing.{Absorbed, Absorbs, IsKept, IsSkipped, Splits}
 use Rattle.taxii_client.specs.Mirrored.{Mirrored}
-use Rattle.taxii_client.specs.Standing.{Stands, StandOnce, GrowsOnce}
+use Rattle.taxii_client.specs.Standing.{IsStored, AreStoredOnce, GrowsOnce}
 use Rattle.taxii_client.proofs.StandingLemmas.{stands_behind, added_stand, none_new, added_once, once_behind}
 
 -- ---- pages in turn
@@ -104,22 +104,22 @@ rows_after : (collection : ℕ) (page : Absorbed) (before after : StoreState) (a
 rows_after collection page before after absorbs = ap (λ (s : StoreState). s.rows) absorbs.after_is
 
 page_stands : Laws → (collection : ℕ) (page : Absorbed) (before after : StoreState) (entry : Entry) (object : Described)
-    → Absorbs collection page before after → Contains page.entries entry → IsKept entry object → Stands collection object after.rows
+    → Absorbs collection page before after → Contains page.entries entry → IsKept entry object → IsStored collection object after.rows
 page_stands laws collection page before after entry object absorbs here kept =
-    subst (Stands collection object) (sym (rows_after collection page before after absorbs))
-    (All-contains (λ one. Stands collection one (before.rows ++ absorbs.new)) absorbs.objects object
+    subst (IsStored collection object) (sym (rows_after collection page before after absorbs))
+    (All-contains (λ one. IsStored collection one (before.rows ++ absorbs.new)) absorbs.objects object
     (added_stand collection _ before.rows absorbs.objects absorbs.outcomes absorbs.new absorbs.addition.adds)
     (kept_among laws page.entries absorbs.objects absorbs.skipped entry object absorbs.splits here kept))
 
 still_stands : (collection : ℕ) (state last : StoreState) (pages : List Absorbed) (object : Described) → Mirrored collection state pages last
-    → Stands collection object state.rows → Stands collection object last.rows
-still_stands collection state last [] object same stands = subst (λ (s : StoreState). Stands collection object s.rows) (sym same) stands
+    → IsStored collection object state.rows → IsStored collection object last.rows
+still_stands collection state last [] object same stands = subst (λ (s : StoreState). IsStored collection object s.rows) (sym same) stands
 still_stands collection state last (page ∷ pages) object (next, absorbs, rest) stands =
     still_stands collection next last pages object rest
-    (subst (Stands collection object) (sym (rows_after collection page state next absorbs)) (stands_behind collection object state.rows absorbs.new stands))
+    (subst (IsStored collection object) (sym (rows_after collection page state next absorbs)) (stands_behind collection object state.rows absorbs.new stands))
 
 pub all_present : Laws → (collection : ℕ) (state last : StoreState) (pages : List Absorbed) (page : Absorbed) (entry : Entry) (object : Described)
-    → Mirrored collection state pages last → Contains pages page → Contains page.entries entry → IsKept entry object → Stands collection object last.rows
+    → Mirrored collection state pages last → Contains pages page → Contains page.entries entry → IsKept entry object → IsStored collection object last.rows
 all_present laws collection state last [] page entry object mirrored among here kept = absurd (nothing page among)
 all_present laws collection state last (one ∷ pages) page entry object (next, absorbs, rest) among here kept = elim (cons_cases one page pages among) [
   | inl same ↦ still_stands collection next last pages object rest
@@ -129,10 +129,10 @@ all_present laws collection state last (one ∷ pages) page entry object (next, 
 
 -- ---- a page that comes again
 
-same_state : (state : StoreState) (new : List StoredRow) → new ≡ [] → with_rows new (mark_after state.mark new) state ≡ state
+same_state : (state : StoreState) (new : List StoredRow) → new ≡ [] → with_rows new (watermark_after state.watermark new) state ≡ state
 same_state state new none =
-    ap (λ (rs : List StoredRow). with_rows rs (mark_after state.mark rs) state) none
-    ∙ ap (λ (rs : List StoredRow). let s : StoreState = record { rows = rs; mark = state.mark } in s) (append-nil state.rows)
+    ap (λ (rs : List StoredRow). with_rows rs (watermark_after state.watermark rs) state) none
+    ∙ ap (λ (rs : List StoredRow). let s : StoreState = record { rows = rs; watermark = state.watermark } in s) (append-nil state.rows)
 
 pub repeat_stays : Laws → (collection : ℕ) (state before after : StoreState) (pages : List Absorbed) (page again : Absorbed)
     → Mirrored collection state pages before → Contains pages page → again.entries ≡ page.entries → Absorbs collection again before after → after ≡ before
@@ -160,5 +160,5 @@ grows_once collection state last (page ∷ pages) (next, absorbs, rest) =
       new = absorbs.new ++ behind.new;
       rows_are = behind.rows_are ∙ ap (λ (rs : List StoredRow). rs ++ behind.new) rows ∙ append_assoc state.rows absorbs.new behind.new;
       once = once_behind state.rows absorbs.new behind.new (added_once collection _ state.rows absorbs.objects absorbs.outcomes absorbs.new absorbs.addition.adds)
-          (subst (λ (rs : List StoredRow). StandOnce rs behind.new) rows behind.once);
+          (subst (λ (rs : List StoredRow). AreStoredOnce rs behind.new) rows behind.once);
     }

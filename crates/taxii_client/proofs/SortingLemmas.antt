@@ -1,4 +1,4 @@
--- The entries of a page sorted, one more at a time.
+-- The entries of a page partitioned, one more at a time.
 use Rattle.std.proofs.Common.{◌≡◌, ℕ, ◌+◌, ◌<◌, List, [], ◌∷◌, ◌++◌, length, All, inl, inr, refl, sym, ap, subst, ◌∙◌, arith}
 use Rattle.std.proofs.lemmas.List.{length-append}
 use Rattle.std.proofs.lemmas.List.Elements.{All-append, All-cons, All-nil}
@@ -6,8 +6,8 @@ use Rattle.stix_json.specs.declared.entry.Entry.{Entry}
 use Rattle.taxii_rows.specs.declared.described.Described.{Described}
 use Rattle.taxii_store.specs.Planned.{IsSound}
 use Rattle.taxii_client.specs.Absorbing.{IsKept, IsSkipped, Splits}
-use Rattle.taxii_client.specs.declared.sorted.Sorted.{Sorted}
-use Rattle.taxii_client.specs.inner.Sorting.{Sorts, SortsOne}
+use Rattle.taxii_client.specs.declared.partitioned.Partitioned.{Partitioned}
+use Rattle.taxii_client.specs.inner.Sorting.{Partitions, PartitionsOne}
 
 splits_object : (entries : List Entry) (objects : List Described) (skipped : List Entry) (entry : Entry) (object : Described)
     → Splits entries objects skipped → IsKept entry object → Splits (entries ++ entry ∷ []) (objects ++ object ∷ []) skipped
@@ -25,21 +25,21 @@ splits_skipped (first ∷ entries) objects skipped entry (inl (one, others, is, 
 splits_skipped (first ∷ entries) objects skipped entry (inr (others, is, its, rest)) fails =
     inr (others ++ entry ∷ [], ap (λ es. es ++ entry ∷ []) is, its, splits_skipped entries objects others entry rest fails)
 
-pub sorts_one : (entries : List Entry) (entry : Entry) (old new : Sorted) → Sorts entries old → SortsOne entry old new → Sorts (entries ++ entry ∷ []) new
-sorts_one entries entry old new sorts (inl keeps) = record {
-  skipped = sorts.skipped;
-  splits = subst (λ (os : List Described). Splits (entries ++ entry ∷ []) os sorts.skipped) (sym keeps.objects)
-      (splits_object entries old.objects.items sorts.skipped entry keeps.object sorts.splits keeps.kept);
-  count = keeps.count ∙ sorts.count;
+pub partitions_one : (entries : List Entry) (entry : Entry) (old new : Partitioned) → Partitions entries old → PartitionsOne entry old new → Partitions (entries ++ entry ∷ []) new
+partitions_one entries entry old new partitions (inl keeps) = record {
+  skipped = partitions.skipped;
+  splits = subst (λ (os : List Described). Splits (entries ++ entry ∷ []) os partitions.skipped) (sym keeps.objects)
+      (splits_object entries old.objects.items partitions.skipped entry keeps.object partitions.splits keeps.kept);
+  count = keeps.count ∙ partitions.count;
 }
-sorts_one entries entry old new sorts (inr skips) = record {
-  skipped = sorts.skipped ++ entry ∷ [];
-  splits = subst (λ (os : List Described). Splits (entries ++ entry ∷ []) os (sorts.skipped ++ entry ∷ [])) (sym skips.objects)
-      (splits_skipped entries old.objects.items sorts.skipped entry sorts.splits skips.fails);
-  count = skips.count ∙ ap (λ n. n + 1) sorts.count ∙ sym (length-append sorts.skipped (entry ∷ []));
+partitions_one entries entry old new partitions (inr skips) = record {
+  skipped = partitions.skipped ++ entry ∷ [];
+  splits = subst (λ (os : List Described). Splits (entries ++ entry ∷ []) os (partitions.skipped ++ entry ∷ [])) (sym skips.objects)
+      (splits_skipped entries old.objects.items partitions.skipped entry partitions.splits skips.fails);
+  count = skips.count ∙ ap (λ n. n + 1) partitions.count ∙ sym (length-append partitions.skipped (entry ∷ []));
 }
 
-pub sound_one : (entry : Entry) (old new : Sorted) → All IsSound old.objects.items → SortsOne entry old new → All IsSound new.objects.items
+pub sound_one : (entry : Entry) (old new : Partitioned) → All IsSound old.objects.items → PartitionsOne entry old new → All IsSound new.objects.items
 sound_one entry old new all (inl keeps) =
     subst (All IsSound) (sym keeps.objects)
     (All-append IsSound old.objects.items (keeps.object ∷ []) all (All-cons IsSound keeps.object [] keeps.sound (All-nil IsSound)))
@@ -55,11 +55,11 @@ splits_count (first ∷ entries) objects skipped (inr (others, is, its, rest)) =
     let count = splits_count entries objects others rest in let more = ap length is in omega (arith, count, more)
 
 -- no more entries are skipped than there are
-pub skipped_within : (limit : ℕ) (entries done rest : List Entry) (sorted : Sorted) → length entries < limit → entries ≡ done ++ rest
-    → Sorts done sorted → sorted.skipped < limit
-skipped_within limit entries done rest sorted within are sorts =
-    let count = splits_count done sorted.objects.items sorts.skipped sorts.splits in
-    let counted = sorts.count in
+pub skipped_within : (limit : ℕ) (entries done rest : List Entry) (partitioned : Partitioned) → length entries < limit → entries ≡ done ++ rest
+    → Partitions done partitioned → partitioned.skipped < limit
+skipped_within limit entries done rest partitioned within are partitions =
+    let count = splits_count done partitioned.objects.items partitions.skipped partitions.splits in
+    let counted = partitions.count in
     let all = ap length are in
     let parts = length-append done rest in
     omega (arith, count, counted, all, parts, within)

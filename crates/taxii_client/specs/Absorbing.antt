@@ -13,7 +13,7 @@ use Rattle.taxii_rows.specs.StoreState.{StoreState}
 use Rattle.taxii_rows.specs.Keeper.{with_rows}
 use Rattle.taxii_store.specs.declared.add_outcome.AddOutcome.{AddOutcome}
 use Rattle.taxii_store.specs.declared.add_outcome.AddOutcome.TheVariants.{Added, Present}
-use Rattle.taxii_store.specs.Addition.{IsAddition, UsesUpDates, mark_after}
+use Rattle.taxii_store.specs.Addition.{IsAddition, UsesUpDates, watermark_after}
 use Rattle.taxii_client.specs.declared.tally.Tally.{Tally}
 
 -- what contracts see of a mirror: the collection that it fills, and the store
@@ -69,7 +69,7 @@ pub record Absorbs (collection : ℕ) (page : Absorbed) (before after : StoreSta
   pub outcomes : List AddOutcome
   pub new : List StoredRow
   pub addition : IsAddition before collection page.moment objects outcomes new
-  pub after_is : after ≡ with_rows new (mark_after before.mark new) before
+  pub after_is : after ≡ with_rows new (watermark_after before.watermark new) before
   pub tallies : Tallies outcomes skipped page.tally
 
 -- fewer dates are left than the objects of the page make new rows

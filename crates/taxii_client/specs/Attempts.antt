@@ -4,13 +4,13 @@ use Rattle.flow_edges.specs.Flow.{IsAtEnd}
 use Rattle.http_messages.specs.Replies.{IsCut, Takes}
 use Rattle.stix_json.specs.declared.entry.Entry.{Entry}
 use Rattle.stix_json.specs.declared.envelope.Envelope.{Envelope}
-use Rattle.taxii_client.specs.Outside.{LinkView, LinkRose}
+use Rattle.taxii_client.specs.Environment.{LinkView, LinkFaultsIncreased}
 use Rattle.taxii_client.specs.Fetches.{Fetched}
-use Rattle.taxii_client.specs.Pulls.{Asks, Lent, Page, turn_after}
+use Rattle.taxii_client.specs.Pulls.{Asks, Lent, Page, cursor_after}
 use Rattle.taxii_client.specs.declared.fetch_end.FetchEnd.{FetchEnd}
 use Rattle.taxii_client.specs.declared.fetch_end.FetchEnd.TheVariants.{Fault, Cut, Refused, NoMemory}
 use Rattle.taxii_client.specs.declared.target.Target.{Target}
-use Rattle.taxii_client.specs.declared.turn.Turn.{Turn}
+use Rattle.taxii_client.specs.declared.cursor.Cursor.{Cursor}
 
 -- an attempt at a page: the link that the dial gave, where it did, and what the fetch over it answered
 pub record Attempt (L : Type 0) : Type 0 where
@@ -20,20 +20,20 @@ pub record Attempt (L : Type 0) : Type 0 where
 -- ---- attempts in turn
 
 -- the page was asked for as the turn says, over the link; or the dial gave none
-pub record IsAttemptAt {L : Type 0} (view : L → LinkView) (target : Target) (turn : Turn) (attempt : Attempt L) : Type 0 where
+pub record IsAttemptAt {L : Type 0} (view : L → LinkView) (target : Target) (cursor : Cursor) (attempt : Attempt L) : Type 0 where
   pub next : Option (List ℕ)
-  pub asks : Asks turn next
+  pub asks : Asks cursor next
   pub fetched : MatchOption attempt.link (attempt.answer ≡ Err Fault) (λ link. Fetched target next (view link.given) (view link.finished) attempt.answer)
 
 -- the turn behind an attempt: the same one where no page came
-abbrev pub turn_behind : Turn → Result Envelope FetchEnd → Turn
-turn_behind turn (Ok envelope) = turn_after envelope
-turn_behind turn (Err end) = turn
+abbrev pub cursor_after_attempt : Cursor → Result Envelope FetchEnd → Cursor
+cursor_after_attempt cursor (Ok envelope) = cursor_after envelope
+cursor_after_attempt cursor (Err end) = cursor
 
 -- attempts in turn, from one turn to another
-abbrev pub InTurn : {L : Type 0} → (L → LinkView) → Target → Turn → List (Attempt L) → Turn → Type 0
-InTurn view target turn [] after = after ≡ turn
-InTurn view target turn (attempt ∷ attempts) after = IsAttemptAt view target turn attempt × InTurn view target (turn_behind turn attempt.answer) attempts after
+abbrev pub InTurn : {L : Type 0} → (L → LinkView) → Target → Cursor → List (Attempt L) → Cursor → Type 0
+InTurn view target cursor [] after = after ≡ cursor
+InTurn view target cursor (attempt ∷ attempts) after = IsAttemptAt view target cursor attempt × InTurn view target (cursor_after_attempt cursor attempt.answer) attempts after
 
 -- ---- what came of them
 
@@ -78,8 +78,8 @@ abbrev pub entries_of : {L : Type 0} → List (Page L) → List (List Entry)
 entries_of pages = map (λ page. page.envelope.entries) pages
 
 -- a page came, or the attempt was lost: another one may follow
-abbrev pub GoesOn : {L : Type 0} → Attempt L → Type 0
-GoesOn attempt = ((envelope : Envelope) × (attempt.answer ≡ Ok envelope)) ⊎ (is_lost attempt ≡ true)
+abbrev pub Continues : {L : Type 0} → Attempt L → Type 0
+Continues attempt = ((envelope : Envelope) × (attempt.answer ≡ Ok envelope)) ⊎ (is_lost attempt ≡ true)
 
 -- ---- why they were lost
 
@@ -91,7 +91,7 @@ pub record EndsInside (before now : LinkView) : Type 0 where
   pub ended : IsAtEnd now.left
 
 abbrev pub LinkFailed : {L : Type 0} → (L → LinkView) → Lent L → Type 0
-LinkFailed view link = LinkRose (view link.given) (view link.finished) ⊎ EndsInside (view link.given) (view link.finished)
+LinkFailed view link = LinkFaultsIncreased (view link.given) (view link.finished) ⊎ EndsInside (view link.given) (view link.finished)
 
 -- the dial counted each attempt that got no link, and nothing else; a count that stands at its end counts as risen
 pub record CountsDials (undialled before now : ℕ) : Type 0 where

@@ -2,13 +2,13 @@
 use Rattle.std.specs.Prelude.{◌≡◌, ◌≢◌, ◌<◌, ℕ, List, [], ◌∷◌, ◌++◌, length, All, Bool, true, false, Result, Ok, Err, IfSome}
 use Rattle.stix_json.specs.declared.entry.Entry.{Entry}
 use Rattle.taxii_rows.specs.StoreState.{StoreState}
-use Rattle.taxii_client.specs.Outside.{LinkView}
+use Rattle.taxii_client.specs.Environment.{LinkView}
 use Rattle.taxii_client.specs.Pulls.{PassThrough}
 use Rattle.taxii_client.specs.declared.fetch_end.FetchEnd.{FetchEnd}
 use Rattle.taxii_client.specs.declared.fetch_end.FetchEnd.TheVariants as Fetch
 use Rattle.taxii_client.specs.declared.pull.TheConstants.{MAX_PAGES}
-use Rattle.taxii_client.specs.declared.turn.Turn.{Turn}
-use Rattle.taxii_client.specs.declared.turn.Turn.TheVariants.{First, Over}
+use Rattle.taxii_client.specs.declared.cursor.Cursor.{Cursor}
+use Rattle.taxii_client.specs.declared.cursor.Cursor.TheVariants.{First, Over}
 use Rattle.taxii_store.specs.Loading.{IsBadAfter}
 use Rattle.taxii_store.specs.declared.load_refusal.LoadRefusal.{LoadRefusal}
 use Rattle.taxii_store.specs.declared.load_refusal.LoadRefusal.TheVariants as Load
@@ -20,8 +20,8 @@ use Rattle.taxii_client.specs.declared.stop.CopyStop.TheVariants.{NotLoaded, Not
 use Rattle.taxii_client.specs.declared.stop.FetchStop.{FetchStop}
 use Rattle.taxii_client.specs.declared.stop.FetchStop.TheVariants as Stop
 use Rattle.taxii_client.specs.Copying.{Copying}
-use Rattle.taxii_client.specs.Attempts.{Attempt, InTurn, GoesOn, losses, undialled, links_of, pages_of, entries_of, CountsDials}
-use Rattle.taxii_client.specs.Filling.{Outside, Fills}
+use Rattle.taxii_client.specs.Attempts.{Attempt, InTurn, Continues, losses, undialled, links_of, pages_of, entries_of, CountsDials}
+use Rattle.taxii_client.specs.Filling.{Environment, Fills}
 use Rattle.taxii_client.specs.Totals.{totals_of}
 use Rattle.taxii_client.specs.declared.totals.Totals.{Totals}
 
@@ -29,80 +29,80 @@ use Rattle.taxii_client.specs.declared.totals.Totals.{Totals}
 
 -- attempts were made, each over a link of its own that was dialled at the host and port and handed back, as far as the dial tells; behind
 -- each but the last one another could follow. The pages that came were absorbed, but for those that are left
-pub record Stops {L : Type 0} (view : L → LinkView) (asked : Copying) (before now : Outside L) (last : List (Attempt L)) (left : List (List Entry)) : Type 0 where
+pub record Stops {L : Type 0} (view : L → LinkView) (asked : Copying) (before now : Environment L) (last : List (Attempt L)) (left : List (List Entry)) : Type 0 where
   pub attempts : List (Attempt L)
-  pub go_on : All GoesOn attempts
-  pub turn : Turn
-  pub in_turn : InTurn view asked.target First (attempts ++ last) turn
-  pub through : PassThrough asked.target (links_of (attempts ++ last)) before.dial.told now.dial.told
+  pub proceed : All Continues attempts
+  pub cursor : Cursor
+  pub in_turn : InTurn view asked.target First (attempts ++ last) cursor
+  pub through : PassThrough asked.target (links_of (attempts ++ last)) before.dial.observable now.dial.observable
   pub counts : CountsDials (undialled (attempts ++ last)) before.dial.faults now.dial.faults
   pub absorbed : List Absorbed
   pub fills : Fills asked before now (entries_of (pages_of attempts)) left absorbed
 
 -- all pages came and were absorbed, and fewer attempts were lost than may be
-pub record StopsBehind {L : Type 0} (view : L → LinkView) (asked : Copying) (before now : Outside L) : Type 0 where
+pub record StopsBehind {L : Type 0} (view : L → LinkView) (asked : Copying) (before now : Environment L) : Type 0 where
   pub stops : Stops view asked before now [] []
-  pub over : stops.turn ≡ Over
+  pub over : stops.cursor ≡ Over
   pub few : losses stops.attempts < asked.tries
 
 -- so many attempts were lost, and the page was to be asked for again
-pub record StopsLost {L : Type 0} (view : L → LinkView) (asked : Copying) (before now : Outside L) : Type 0 where
+pub record StopsLost {L : Type 0} (view : L → LinkView) (asked : Copying) (before now : Environment L) : Type 0 where
   pub stops : Stops view asked before now [] []
-  pub wants : stops.turn ≢ Over
+  pub wants : stops.cursor ≢ Over
   pub all : losses stops.attempts ≡ asked.tries
 
 -- as many pages came as a walk may have, and the last had more behind it
-pub record StopsFull {L : Type 0} (view : L → LinkView) (asked : Copying) (before now : Outside L) : Type 0 where
+pub record StopsFull {L : Type 0} (view : L → LinkView) (asked : Copying) (before now : Environment L) : Type 0 where
   pub stops : Stops view asked before now [] []
   pub full : length (pages_of stops.attempts) ≡ MAX_PAGES
-  pub wants : stops.turn ≢ Over
+  pub wants : stops.cursor ≢ Over
   pub few : losses stops.attempts < asked.tries
 
 -- the last attempt ended so, which was no loss
-pub record StopsAt {L : Type 0} (view : L → LinkView) (asked : Copying) (before now : Outside L) (end : FetchEnd) : Type 0 where
+pub record StopsAt {L : Type 0} (view : L → LinkView) (asked : Copying) (before now : Environment L) (end : FetchEnd) : Type 0 where
   pub last : Attempt L
   pub ended : last.answer ≡ Err end
   pub stops : Stops view asked before now (last ∷ []) []
   pub few : losses stops.attempts < asked.tries
 
 -- a page came that wasn't absorbed
-pub record StopsShort {L : Type 0} (view : L → LinkView) (asked : Copying) (before now : Outside L) (Why : List Entry → StoreState → Type 0) : Type 0 where
+pub record StopsShort {L : Type 0} (view : L → LinkView) (asked : Copying) (before now : Environment L) (Why : List Entry → StoreState → Type 0) : Type 0 where
   pub entries : List Entry
   pub stops : Stops view asked before now [] (entries ∷ [])
   pub why : Why entries stops.fills.last
   pub few : losses stops.attempts < asked.tries
 
 -- no page was asked for
-pub record StopsBefore {L : Type 0} (before now : Outside L) : Type 0 where
+pub record StopsBefore {L : Type 0} (before now : Environment L) : Type 0 where
   pub dial : now.dial ≡ before.dial
-  pub rows : now.kept.told ≡ before.kept.told
+  pub rows : now.kept.observable ≡ before.kept.observable
   pub moments : now.moments ≡ before.moments
 
 -- ---- what an ending says
 
-abbrev pub EndsFetching : {L : Type 0} → (L → LinkView) → Copying → Outside L → Outside L → FetchStop → Type 0
+abbrev pub EndsFetching : {L : Type 0} → (L → LinkView) → Copying → Environment L → Environment L → FetchStop → Type 0
 EndsFetching view asked before now Stop.LinkLost = StopsLost view asked before now
 EndsFetching view asked before now (Stop.Refused refusal) = StopsAt view asked before now (Fetch.Refused refusal)
 EndsFetching view asked before now Stop.TooManyPages = StopsFull view asked before now
 EndsFetching view asked before now Stop.NoMemory = StopsAt view asked before now Fetch.NoMemory
 
-abbrev pub EndsLoading : {L : Type 0} → Outside L → Outside L → LoadRefusal → Type 0
+abbrev pub EndsLoading : {L : Type 0} → Environment L → Environment L → LoadRefusal → Type 0
 EndsLoading before now Load.KeeperFault = StopsBefore before now
-EndsLoading before now (Load.BadRow after) = StopsBefore before now × IfSome before.kept.told (λ state. IsBadAfter state after)
+EndsLoading before now (Load.BadRow after) = StopsBefore before now × IfSome before.kept.observable (λ state. IsBadAfter state after)
 EndsLoading before now Load.NoMemory = StopsBefore before now
 
 -- why a page wasn't absorbed: too few dates are left; the others say nothing of the page
-abbrev pub WhyNot : Copying → StoreRefusal → List Entry → StoreState → Type 0
-WhyNot asked refusal entries store = refusal ≡ Store.DatesUsedUp → LacksDates asked.target.collection entries store
+abbrev pub ExplainsStop : Copying → StoreRefusal → List Entry → StoreState → Type 0
+ExplainsStop asked refusal entries store = refusal ≡ Store.DatesUsedUp → LacksDates asked.target.collection entries store
 
 -- what is said of a copy that stopped before all pages were absorbed
-abbrev pub EndsCopy : {L : Type 0} → (L → LinkView) → Copying → Outside L → Outside L → CopyStop → Type 0
+abbrev pub EndsCopy : {L : Type 0} → (L → LinkView) → Copying → Environment L → Environment L → CopyStop → Type 0
 EndsCopy view asked before now (NotLoaded refusal) = EndsLoading before now refusal
 EndsCopy view asked before now (NotFetched stop) = EndsFetching view asked before now stop
-EndsCopy view asked before now (NotAbsorbed refusal) = StopsShort view asked before now (WhyNot asked refusal)
+EndsCopy view asked before now (NotAbsorbed refusal) = StopsShort view asked before now (ExplainsStop asked refusal)
 
 -- all pages were absorbed, of which the totals tell, or why not
-abbrev pub Copies : {L : Type 0} → (L → LinkView) → Copying → Outside L → Outside L → Result Totals CopyStop → Type 0
+abbrev pub Copies : {L : Type 0} → (L → LinkView) → Copying → Environment L → Environment L → Result Totals CopyStop → Type 0
 Copies view asked before now (Ok totals) = (copied : StopsBehind view asked before now) × (totals ≡ totals_of copied.stops.absorbed)
 Copies view asked before now (Err stop) = EndsCopy view asked before now stop
 

@@ -14,7 +14,7 @@ use Rattle.taxii_client.specs.declared.fetch_end.FetchEnd.{FetchEnd}
 use Rattle.taxii_client.specs.declared.fetch_end.FetchEnd.TheVariants.{Fault, Cut, Refused, NoMemory}
 use Rattle.taxii_client.specs.Requests.{request_of}
 use Rattle.taxii_client.specs.ReplyRefusals.{for_head}
-use Rattle.taxii_client.specs.Outside.{LinkView, CountsLink}
+use Rattle.taxii_client.specs.Environment.{LinkView, CountsLink}
 
 -- a reply whose body is this page
 pub record IsPage (reply : List ℕ) (envelope : Envelope) : Type 0 where

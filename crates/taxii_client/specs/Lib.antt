@@ -1,6 +1,6 @@
 pub mod Requests
 pub mod ReplyRefusals
-pub mod Outside
+pub mod Environment
 pub mod Fetches
 pub mod Pulls
 pub mod Telling

@@ -1,6 +1,6 @@
 -- A walk over the pages of a peer's collection, each fetched on a link of its own: each page asks for the one behind it.
 use Rattle.std.specs.Prelude.{◌≡◌, ◌≢◌, ◌⊎◌, ℕ, ◌+◌, ◌<◌, ◌≤◌, Bool, true, false, List, [], ◌∷◌, ◌++◌, map, Option, Some, None, Result, Ok, Err}
-use Rattle.flow_edges.specs.Faults.{Rose}
+use Rattle.flow_edges.specs.Faults.{HasIncreased}
 use Rattle.flow_links.specs.Doors.{Changes}
 use Rattle.flow_links.specs.Dials.{DialState}
 use Rattle.stix_json.specs.declared.entry.Entry.{Entry}
@@ -10,28 +10,28 @@ use Rattle.taxii_client.specs.declared.fetch_end.FetchEnd.{FetchEnd}
 use Rattle.taxii_client.specs.declared.fetch_end.FetchEnd.TheVariants as Fetch
 use Rattle.taxii_client.specs.declared.page_end.PageEnd.{PageEnd}
 use Rattle.taxii_client.specs.declared.page_end.PageEnd.TheVariants.{Fault, Cut, Refused, TooManyPages, NoMemory}
-use Rattle.taxii_client.specs.declared.turn.Turn.{Turn}
-use Rattle.taxii_client.specs.declared.turn.Turn.TheVariants.{First, Behind, Over}
+use Rattle.taxii_client.specs.declared.cursor.Cursor.{Cursor}
+use Rattle.taxii_client.specs.declared.cursor.Cursor.TheVariants.{First, Resume, Over}
 use Rattle.taxii_client.specs.declared.pull.TheConstants.{MAX_PAGES}
-use Rattle.taxii_client.specs.Outside.{LinkView, DialView}
+use Rattle.taxii_client.specs.Environment.{LinkView, DialView}
 use Rattle.taxii_client.specs.Fetches.{Fetched}
 
 -- ---- turns
 
 -- what is asked for at a turn: the first page, or the one behind a page; at the last turn nothing
-abbrev pub Asks : Turn → Option (List ℕ) → Type 0
+abbrev pub Asks : Cursor → Option (List ℕ) → Type 0
 Asks First next = next ≡ None
-Asks (Behind text) next = next ≡ Some text
+Asks (Resume text) next = next ≡ Some text
 Asks Over next = ⊥
 
 -- the turn behind a page, by whether there is more and what asks for it
-abbrev pub turn_of : Bool → Option (List ℕ) → Turn
-turn_of true (Some next) = Behind next
-turn_of true None = Over
-turn_of false next = Over
+abbrev pub cursor_of : Bool → Option (List ℕ) → Cursor
+cursor_of true (Some next) = Resume next
+cursor_of true None = Over
+cursor_of false next = Over
 
-abbrev pub turn_after : Envelope → Turn
-turn_after envelope = turn_of envelope.more envelope.next
+abbrev pub cursor_after : Envelope → Cursor
+cursor_after envelope = cursor_of envelope.more envelope.next
 
 -- ---- links
 
@@ -56,40 +56,40 @@ pub record Page (L : Type 0) : Type 0 where
   pub envelope : Envelope
 
 -- the page was asked for as the turn says, and came whole over its link
-pub record IsPageAt {L : Type 0} (view : L → LinkView) (target : Target) (turn : Turn) (page : Page L) : Type 0 where
+pub record IsPageAt {L : Type 0} (view : L → LinkView) (target : Target) (cursor : Cursor) (page : Page L) : Type 0 where
   pub next : Option (List ℕ)
-  pub asks : Asks turn next
+  pub asks : Asks cursor next
   pub fetched : Fetched target next (view page.link.given) (view page.link.finished) (Ok page.envelope)
 
 -- pages in turn, from one turn to another
-abbrev pub InTurn : {L : Type 0} → (L → LinkView) → Target → Turn → List (Page L) → Turn → Type 0
-InTurn view target turn [] after = after ≡ turn
-InTurn view target turn (page ∷ pages) after = IsPageAt view target turn page × InTurn view target (turn_after page.envelope) pages after
+abbrev pub InTurn : {L : Type 0} → (L → LinkView) → Target → Cursor → List (Page L) → Cursor → Type 0
+InTurn view target cursor [] after = after ≡ cursor
+InTurn view target cursor (page ∷ pages) after = IsPageAt view target cursor page × InTurn view target (cursor_after page.envelope) pages after
 
 -- a pull: pages in turn from the first one on. It is whole where the turn behind it is the last
-abbrev pub IsPull : {L : Type 0} → (L → LinkView) → Target → List (Page L) → Turn → Type 0
-IsPull view target pages turn = InTurn view target First pages turn
+abbrev pub IsPull : {L : Type 0} → (L → LinkView) → Target → List (Page L) → Cursor → Type 0
+IsPull view target pages cursor = InTurn view target First pages cursor
 
 -- ---- what one call does
 
 -- what contracts see of a walk: whose pages, whose turn it is, and how many came
 pub record PullState : Type 0 where
   pub target : Target
-  pub turn : Turn
+  pub cursor : Cursor
   pub pages : ℕ
 
 -- a link was dialled, fetched over and handed back
 pub record FetchesOver {L : Type 0} (view : L → LinkView) (target : Target) (next : Option (List ℕ)) (dial now : DialView L) (answer : Result Envelope FetchEnd) : Type 0 where
   pub link : Lent L
   pub fetched : Fetched target next (view link.given) (view link.finished) answer
-  pub through : PassThrough target (link ∷ []) dial.told now.told
+  pub through : PassThrough target (link ∷ []) dial.observable now.observable
   pub quiet : now.faults ≡ dial.faults
 
 -- the dial gave no link, and counted that
 pub record FailsToDial {L : Type 0} (dial now : DialView L) (answer : Result Envelope FetchEnd) : Type 0 where
-  pub same : now.told ≡ dial.told
+  pub same : now.observable ≡ dial.observable
   pub later : dial.faults ≤ now.faults
-  pub rose : Rose dial.faults now.faults
+  pub rose : HasIncreased dial.faults now.faults
   pub fault : answer ≡ Err Fetch.Fault
 
 -- a fetch over a link that was dialled for it, or no link
@@ -100,7 +100,7 @@ Dials view target next dial now answer = FetchesOver view target next dial now a
 pub record AsksFor {L : Type 0} (view : L → LinkView) (before : PullState) (dial now : DialView L) (answer : Result Envelope FetchEnd) : Type 0 where
   pub few : before.pages < MAX_PAGES
   pub next : Option (List ℕ)
-  pub asks : Asks before.turn next
+  pub asks : Asks before.cursor next
   pub dials : Dials view before.target next dial now answer
 
 -- a page came, and the walk goes on behind it
@@ -108,7 +108,7 @@ pub record GivesPage {L : Type 0} (view : L → LinkView) (before after : PullSt
   pub envelope : Envelope
   pub asks : AsksFor view before dial now (Ok envelope)
   pub entries_are : entries ≡ envelope.entries
-  pub after_is : after ≡ record { target = before.target; turn = turn_after envelope; pages = before.pages + 1 }
+  pub after_is : after ≡ record { target = before.target; cursor = cursor_after envelope; pages = before.pages + 1 }
 
 -- a page didn't come, and the walk stands where it stood
 abbrev pub LosesPage : {L : Type 0} → (L → LinkView) → PullState → PullState → DialView L → DialView L → FetchEnd → Type 0
@@ -120,10 +120,10 @@ Rests before after dial now = (after ≡ before) × (now ≡ dial)
 
 -- what the call for the next page did, by its answer
 abbrev pub Answers : {L : Type 0} → (L → LinkView) → PullState → PullState → DialView L → DialView L → Result (Option (List Entry)) PageEnd → Type 0
-Answers view before after dial now (Ok None) = (before.turn ≡ Over) × Rests before after dial now
+Answers view before after dial now (Ok None) = (before.cursor ≡ Over) × Rests before after dial now
 Answers view before after dial now (Ok (Some entries)) = GivesPage view before after dial now entries
 Answers view before after dial now (Err Fault) = LosesPage view before after dial now Fetch.Fault
 Answers view before after dial now (Err Cut) = LosesPage view before after dial now Fetch.Cut
 Answers view before after dial now (Err (Refused refusal)) = LosesPage view before after dial now (Fetch.Refused refusal)
-Answers view before after dial now (Err TooManyPages) = (before.pages ≡ MAX_PAGES) × (before.turn ≢ Over) × Rests before after dial now
+Answers view before after dial now (Err TooManyPages) = (before.pages ≡ MAX_PAGES) × (before.cursor ≢ Over) × Rests before after dial now
 Answers view before after dial now (Err NoMemory) = LosesPage view before after dial now Fetch.NoMemory

@@ -3,13 +3,13 @@ use Rattle.std.specs.Prelude.{◌≡◌, ◌≢◌, ⊤, ℕ, true, false, List,
 use Rattle.std.specs.List.{Contains}
 use Rattle.taxii_rows.specs.declared.stored_row.StoredRow.{StoredRow}
 use Rattle.taxii_rows.specs.declared.described.Described.{Described}
-use Rattle.taxii_index.specs.Presence.{is_same}
+use Rattle.taxii_index.specs.Presence.{is_duplicate}
 
 -- one of the rows makes the object present in the collection
-pub record Stands (collection : ℕ) (object : Described) (rows : List StoredRow) : Type 0 where
+pub record IsStored (collection : ℕ) (object : Described) (rows : List StoredRow) : Type 0 where
   pub row : StoredRow
   pub among : Contains rows row
-  pub same : is_same collection object row ≡ true
+  pub same : is_duplicate collection object row ≡ true
 
 -- rows of one object of one collection differ: in their versions where both tell one, and in their texts where neither does
 pub record AreApart (row other : StoredRow) : Type 0 where
@@ -17,12 +17,12 @@ pub record AreApart (row other : StoredRow) : Type 0 where
   pub undated : row.collection ≡ other.collection → row.id ≡ other.id → row.dated ≡ false → other.dated ≡ false → row.body ≢ other.body
 
 -- behind these rows each new one is apart from every row before it
-abbrev pub StandOnce : List StoredRow → List StoredRow → Type 0
-StandOnce rows [] = ⊤
-StandOnce rows (row ∷ new) = All (AreApart row) rows × StandOnce (rows ++ row ∷ []) new
+abbrev pub AreStoredOnce : List StoredRow → List StoredRow → Type 0
+AreStoredOnce rows [] = ⊤
+AreStoredOnce rows (row ∷ new) = All (AreApart row) rows × AreStoredOnce (rows ++ row ∷ []) new
 
 -- behind the rows of a store stand others, each of them once
 pub record GrowsOnce (before after : List StoredRow) : Type 0 where
   pub new : List StoredRow
   pub rows_are : after ≡ before ++ new
-  pub once : StandOnce before new
+  pub once : AreStoredOnce before new

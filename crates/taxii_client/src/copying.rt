@@ -1,20 +1,20 @@
 ghost use Rattle.std.specs.Prelude.{◌≡◌, ◌≤◌, ℕ, length, true, Err, IfOk, IfErr, IfSome, IsErrAnd};
 ghost use Rattle.flow_edges.specs.Faults.{Counted};
 ghost use Rattle.flow_links.specs.declared.dial.TheConstants.{MAX_HOST};
-ghost use Rattle.taxii_client.specs.Outside.{link_view};
+ghost use Rattle.taxii_client.specs.Environment.{link_view};
 ghost use Rattle.taxii_store.specs.Loading.{IsBadAfter};
 ghost use Rattle.taxii_store.specs.declared.load_refusal.LoadRefusal.TheVariants as Unloaded;
-ghost use Rattle.taxii_client.specs.Filling.{outside};
+ghost use Rattle.taxii_client.specs.Filling.{environment};
 ghost use Rattle.taxii_client.specs.Endings.{Copies, is_store_fault};
 ghost use Rattle.taxii_client.specs.inner.Opening.{stop_of, Opens};
 
 use crate::{CopyStop, FetchStop, Totals};
 use flow_links::{Clock, Dial};
 use std::alloc::Global;
-use crate::pull_laws::pulls_go_on;
+use crate::pull_laws::pulls_continue;
 use crate::{PageEnd, Pull, Target};
 use crate::Mirror;
-use crate::mirror_laws::pages_go_on;
+use crate::mirror_laws::pages_continue;
 use taxii_rows::Keeper;
 use taxii_store::{Library, LoadRefusal};
 
@@ -34,12 +34,12 @@ pub fn copy<D: Dial, K: Keeper, C: Clock>(
     requires tries { 1 ≤ tries }
     ensures copies { Copies (link_view D.Link.left D.Link.written D.Link.Source.faults D.Link.Sink.faults)
         (record { target = target.now; file = file.now; tries = tries })
-        (outside (D.told dial.old) (D.faults dial.old) (K.kept keeper.old) (C.moments clock.old))
-        (outside (D.told dial.new) (D.faults dial.new) (K.kept keeper.new) (C.moments clock.new)) result }
+        (environment (D.observable dial.old) (D.faults dial.old) (K.kept keeper.old) (C.moments clock.old))
+        (environment (D.observable dial.new) (D.faults dial.new) (K.kept keeper.new) (C.moments clock.new)) result }
     ensures causes { Counted (IsErrAnd result (λ stop. is_store_fault stop ≡ true)) (K.faults keeper.old) (K.faults keeper.new) }
 {
-    pulls_go_on::<D>();
-    pages_go_on();
+    pulls_continue::<D>();
+    pages_continue();
     let mut mirror = match open(alloc, keeper, file, target.collection) {
         Ok(mirror) => mirror,
         Err(refusal) => return Err(CopyStop::NotLoaded(refusal)),
@@ -79,8 +79,8 @@ fn open<K: Keeper>(
 ) -> Result<Mirror, LoadRefusal>
     ensures ok { IfOk result (Opens file.now (K.kept keeper.old) (K.kept keeper.new)) }
     ensures collection { IfOk result (λ mirror. mirror.collection ≡ collection) }
-    ensures bad { IfErr result (λ refusal. (after : ℕ) → refusal ≡ Unloaded.BadRow after → IfSome (K.kept keeper.old).told (λ state. IsBadAfter state after)) }
-    ensures told { (K.kept keeper.new).told ≡ (K.kept keeper.old).told }
+    ensures bad { IfErr result (λ refusal. (after : ℕ) → refusal ≡ Unloaded.BadRow after → IfSome (K.kept keeper.old).observable (λ state. IsBadAfter state after)) }
+    ensures observable { (K.kept keeper.new).observable ≡ (K.kept keeper.old).observable }
     ensures causes { Counted (result ≡ Err Unloaded.KeeperFault) (K.faults keeper.old) (K.faults keeper.new) }
 {
     let library = Library::load(alloc, keeper, file)?;

@@ -1,6 +1,6 @@
 ghost use Rattle.std.specs.Prelude.{◌≡◌, ◌⊎◌, option_map, IfOk, IfErr};
 ghost use Rattle.stix_json.specs.Envelopes.{IsEnvelopeOf};
-ghost use Rattle.taxii_client.specs.Outside.{link_view};
+ghost use Rattle.taxii_client.specs.Environment.{link_view};
 ghost use Rattle.taxii_client.specs.Fetches.{Fetched, IsNoEnvelope};
 ghost use Rattle.taxii_client.specs.ReplyRefusals.{for_body};
 ghost use Rattle.taxii_client.specs.declared.fetch_end.FetchEnd.TheVariants as FetchEnd;

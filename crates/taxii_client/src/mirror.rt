@@ -4,7 +4,7 @@ ghost use Rattle.taxii_store.specs.Agreement.{Agrees};
 ghost use Rattle.taxii_client.specs.Absorbing.{IsReadable, Absorbs, LacksDates};
 ghost use Rattle.taxii_client.specs.declared.store_refusal.StoreRefusal.TheVariants as Refused;
 
-use crate::sorted::Sorted;
+use crate::partitioned::Partitioned;
 use crate::{StoreRefusal, Tally};
 use flow_values::Items;
 use std::alloc::Global;
@@ -59,11 +59,11 @@ impl Mirror {
         ensures err { OnErr result (self.new ≡ self.old) }
         ensures causes { Counted (result ≡ Err Refused.Fault) (K.faults keeper.old) (K.faults keeper.new) }
     {
-        let sorted = Sorted::of(self.alloc, entries.into_vec())?;
+        let partitioned = Partitioned::of(self.alloc, entries.into_vec())?;
         let planned = self
             .library
-            .plan_add(self.collection, moment, sorted.objects)?;
-        let tally = Tally::of(planned.outcomes(), sorted.skipped);
+            .plan_add(self.collection, moment, partitioned.objects)?;
+        let tally = Tally::of(planned.outcomes(), partitioned.skipped);
         self.library.commit_add(keeper, planned)?;
         Ok(tally)
     }

@@ -7,13 +7,13 @@ ghost use Rattle.taxii_rows.specs.declared.described.Described.{Described};
 ghost use Rattle.taxii_rows.specs.StoreState.{StoreState};
 ghost use Rattle.taxii_client.specs.Absorbing.{Absorbed, Absorbs, IsKept};
 ghost use Rattle.taxii_client.specs.Mirrored.{Mirrored};
-ghost use Rattle.taxii_client.specs.Standing.{Stands, GrowsOnce};
+ghost use Rattle.taxii_client.specs.Standing.{IsStored, GrowsOnce};
 
 use stix_objects::laws::one_id;
 use taxii_rows::laws::one_version;
 
 /// One more page goes on with those before it.
-pub fn pages_go_on()
+pub fn pages_continue()
     ensures first { (collection : ℕ) (state : StoreState) → Mirrored collection state [] state }
     ensures next { (collection : ℕ) (state before after : StoreState) (pages : List Absorbed) (page : Absorbed)
         → Mirrored collection state pages before → Absorbs collection page before after → Mirrored collection state (pages ++ page ∷ []) after }
@@ -35,10 +35,10 @@ pub fn repeats_change_nothing()
 
 /// Of every good entry of the pages a row stands in the last state (`present`), and no row that the pages
 /// added stands twice (`once`).
-pub fn pages_stand_once()
+pub fn pages_are_stored_once()
     ensures present { (collection : ℕ) (state last : StoreState) (pages : List Absorbed) (page : Absorbed) (entry : Entry) (object : Described)
         → Mirrored collection state pages last → Contains pages page → Contains page.entries entry → IsKept entry object
-        → Stands collection object last.rows }
+        → IsStored collection object last.rows }
     ensures once { (collection : ℕ) (state last : StoreState) (pages : List Absorbed)
         → Mirrored collection state pages last → GrowsOnce state.rows last.rows }
 {

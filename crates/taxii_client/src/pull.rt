@@ -1,10 +1,10 @@
 ghost use Rattle.std.specs.Prelude.{◌≡◌, ◌≤◌, length, option_map};
 ghost use Rattle.flow_links.specs.declared.dial.TheConstants.{MAX_HOST};
-ghost use Rattle.taxii_client.specs.Outside.{link_view};
+ghost use Rattle.taxii_client.specs.Environment.{link_view};
 ghost use Rattle.taxii_client.specs.Pulls.{Answers, Dials};
-ghost use Rattle.taxii_client.specs.declared.turn.Turn.TheVariants.{First};
+ghost use Rattle.taxii_client.specs.declared.cursor.Cursor.TheVariants.{First};
 
-use crate::{FetchEnd, PageEnd, Target, Turn, fetch};
+use crate::{FetchEnd, PageEnd, Target, Cursor, fetch};
 use flow_links::Dial;
 use flow_values::Items;
 use std::alloc::Global;
@@ -20,7 +20,7 @@ pub const MAX_PAGES: u64 = 1_000_000;
 pub struct Pull<'t> {
     alloc: Global,
     target: &'t Target,
-    turn: Turn,
+    cursor: Cursor,
     pages: u64,
 }
 
@@ -32,7 +32,7 @@ impl<'t> Model for Pull<'t> {
 
     ghost Value = { PullState };
 
-    ghost view = { λ pull. record { target = pull.target.now; turn = pull.turn; pages = pull.pages } };
+    ghost view = { λ pull. record { target = pull.target.now; cursor = pull.cursor; pages = pull.pages } };
 
     ghost invariant = { λ pull. (length pull.target.now.host ≤ MAX_HOST) × (pull.pages ≤ MAX_PAGES) };
 }
@@ -41,12 +41,12 @@ impl<'t> Pull<'t> {
     /// A walk that begins at the first page.
     pub fn new(alloc: Global, target: &'t Target) -> Pull<'t>
         requires short { length target.now.host ≤ MAX_HOST }
-        ensures { result ≡ record { target = target.now; turn = First; pages = 0 } }
+        ensures { result ≡ record { target = target.now; cursor = First; pages = 0 } }
     {
         Pull {
             alloc,
             target,
-            turn: Turn::First,
+            cursor: Cursor::First,
             pages: 0,
         }
     }
@@ -55,16 +55,16 @@ impl<'t> Pull<'t> {
     /// doesn't come is the next one again. Each link that the dial gives is handed back to it.
     pub fn next_page<D: Dial>(&mut self, dial: &mut D) -> Result<Option<Items<Entry>>, PageEnd>
         ensures { Answers (link_view D.Link.left D.Link.written D.Link.Source.faults D.Link.Sink.faults) self.old self.new
-            (record { told = D.told dial.old; faults = D.faults dial.old }) (record { told = D.told dial.new; faults = D.faults dial.new }) result }
+            (record { observable = D.observable dial.old; faults = D.faults dial.old }) (record { observable = D.observable dial.new; faults = D.faults dial.new }) result }
     {
-        let Some(next) = self.turn.next() else {
+        let Some(next) = self.cursor.next() else {
             return Ok(None);
         };
         if self.pages == MAX_PAGES {
             return Err(PageEnd::TooManyPages);
         }
         let envelope = dial_and_fetch(self.alloc, self.target, next, dial)?;
-        self.turn = Turn::after(envelope.more, envelope.next);
+        self.cursor = Cursor::after(envelope.more, envelope.next);
         self.pages += 1;
         Ok(Some(envelope.entries))
     }
@@ -79,7 +79,7 @@ fn dial_and_fetch<D: Dial>(
 ) -> Result<Envelope, FetchEnd>
     requires short { length target.now.host ≤ MAX_HOST }
     ensures { Dials (link_view D.Link.left D.Link.written D.Link.Source.faults D.Link.Sink.faults) target.now (option_map (λ next. next.now) next.entry)
-        (record { told = D.told dial.old; faults = D.faults dial.old }) (record { told = D.told dial.new; faults = D.faults dial.new }) result }
+        (record { observable = D.observable dial.old; faults = D.faults dial.old }) (record { observable = D.observable dial.new; faults = D.faults dial.new }) result }
 {
     let mut link = dial.dial(target.host.as_str(), target.port)?;
     let answer = fetch(alloc, target, next, &mut link);

@@ -2,11 +2,11 @@
 
 ghost use Rattle.std.specs.Prelude.{◌≡◌, [], ◌∷◌, ◌++◌, ℕ, List, Option, All, true};
 ghost use Rattle.flow_links.specs.Dials.{DialState};
-ghost use Rattle.taxii_client.specs.Outside.{LinkView};
+ghost use Rattle.taxii_client.specs.Environment.{LinkView};
 ghost use Rattle.taxii_client.specs.Fetches.{Outcome, IsOutcome};
-ghost use Rattle.taxii_client.specs.Pulls.{Lent, Page, PassThrough, IsPageAt, IsPull, turn_after};
+ghost use Rattle.taxii_client.specs.Pulls.{Lent, Page, PassThrough, IsPageAt, IsPull, cursor_after};
 ghost use Rattle.taxii_client.specs.declared.target.Target.{Target};
-ghost use Rattle.taxii_client.specs.declared.turn.Turn.{Turn};
+ghost use Rattle.taxii_client.specs.declared.cursor.Cursor.{Cursor};
 
 use flow_links::Dial;
 
@@ -18,16 +18,16 @@ pub fn one_outcome()
 }
 
 /// A page that came at the turn of a pull goes on with it, and its link with those of the pull.
-pub fn pulls_go_on<D: Dial>()
-    ensures pages { (view : D.Link → LinkView) (target : Target) (pages : List (Page D.Link)) (turn : Turn) (page : Page D.Link)
-        → IsPull view target pages turn → IsPageAt view target turn page → IsPull view target (pages ++ page ∷ []) (turn_after page.envelope) }
-    ensures no_link { (target : Target) (told : Option (DialState D.Link)) → PassThrough target [] told told }
+pub fn pulls_continue<D: Dial>()
+    ensures pages { (view : D.Link → LinkView) (target : Target) (pages : List (Page D.Link)) (cursor : Cursor) (page : Page D.Link)
+        → IsPull view target pages cursor → IsPageAt view target cursor page → IsPull view target (pages ++ page ∷ []) (cursor_after page.envelope) }
+    ensures no_link { (target : Target) (observable : Option (DialState D.Link)) → PassThrough target [] observable observable }
     ensures links { (target : Target) (links more : List (Lent D.Link)) (before middle after : Option (DialState D.Link))
         → PassThrough target links before middle → PassThrough target more middle after → PassThrough target (links ++ more) before after }
 {}
 
 /// Of the pages of a pull each but the last said that there is more.
-pub fn pulls_go_on_for_more<D: Dial>()
-    ensures { (view : D.Link → LinkView) (target : Target) (pages : List (Page D.Link)) (last : Page D.Link) (turn : Turn)
-        → IsPull view target (pages ++ last ∷ []) turn → All (λ page. page.envelope.more ≡ true) pages }
+pub fn pulls_continue_for_more<D: Dial>()
+    ensures { (view : D.Link → LinkView) (target : Target) (pages : List (Page D.Link)) (last : Page D.Link) (cursor : Cursor)
+        → IsPull view target (pages ++ last ∷ []) cursor → All (λ page. page.envelope.more ≡ true) pages }
 {}

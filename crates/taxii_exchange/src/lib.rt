@@ -34,5 +34,5 @@ pub use config::Config;
 pub use kept_status::KeptStatus;
 pub use refusal::Refusal;
 pub use rights::Rights;
-pub use statuses::{KEPT, Statuses};
+pub use statuses::{MAX_KEPT, Statuses};
 pub use writing::{write_answer, write_no_memory};

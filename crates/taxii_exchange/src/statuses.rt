@@ -10,7 +10,7 @@ use std::marker::Model;
 use taxii_bodies::status_id;
 
 /// How many statuses are kept.
-pub const KEPT: usize = 1024;
+pub const MAX_KEPT: usize = 1024;
 
 /// How many numbers there are before they begin again.
 const NUMBERS: u64 = 1 << 48;
@@ -39,7 +39,7 @@ impl Statuses {
     pub fn new(alloc: Global) -> Result<Statuses, NoMemory>
         ensures { IfOk result (λ statuses. statuses ≡ no_statuses) }
     {
-        let kept = HeapCircularBuffer::with_capacity(alloc, KEPT)?;
+        let kept = HeapCircularBuffer::with_capacity(alloc, MAX_KEPT)?;
         Ok(Statuses {
             alloc,
             count: 0,

@@ -5,7 +5,7 @@ ghost use Rattle.taxii_exchange.specs.Answers.{HasDates, WritesAnswer, no_memory
 
 use crate::Answer;
 use crate::head_text::HeadText;
-use flow_edges::{Sink, write_pieces, write_whole};
+use flow_edges::{Sink, write_all_vectored, write_whole};
 use flow_values::Fault;
 
 /// The answer 503 where memory ran out, whose bytes are always there.
@@ -38,7 +38,7 @@ fn write_with_body<S: Sink>(head: HeadText, body: &[u8], sink: &mut S) -> Result
 {
     let mut text = head;
     if body.len() > text.room() {
-        return write_pieces(sink, &[text.as_slice(), body]);
+        return write_all_vectored(sink, &[text.as_slice(), body]);
     }
     text.push(body);
     write_whole(sink, text.as_slice())

@@ -6,7 +6,7 @@ use Rattle.std.proofs.lemmas.List.Elements.{All-weaker, All-contains, All-contai
 use Rattle.stix_ids.specs.declared.id.Id.{Id}
 use Rattle.stix_ids.specs.declared.pick.Pick.TheVariants.{Last, First}
 use Rattle.taxii_rows.specs.declared.stored_row.StoredRow.{StoredRow}
-use Rattle.taxii_rows.specs.StoreState.{dates_of, RiseFrom}
+use Rattle.taxii_rows.specs.StoreState.{dates_of, AscendFrom}
 use Rattle.taxii_rows.specs.Keeper.{is_date_in}
 use Rattle.taxii_rows.specs.Identity.{is_row_of}
 use Rattle.taxii_rows.specs.Picking.{IsPickedBy}
@@ -85,9 +85,9 @@ true_of_kept gone rows kept hints stays are =
 
 -- ---- what they tell of the row of a date
 
-pub not_last : (rows : List StoredRow) (row : StoredRow) (later : ℕ) → RiseFrom 1 (dates_of rows) → Contains rows row → ComesBefore rows row.date later → IsPickedBy Last rows row → ⊥
-not_last rows row later rise here before picked =
-    let same : before.row ≡ row = one_row rows before.row row rise before.row_here here before.row_date in
+pub not_last : (rows : List StoredRow) (row : StoredRow) (later : ℕ) → AscendFrom 1 (dates_of rows) → Contains rows row → ComesBefore rows row.date later → IsPickedBy Last rows row → ⊥
+not_last rows row later ascend here before picked =
+    let same : before.row ≡ row = one_row rows before.row row ascend before.row_here here before.row_date in
     let its = subst (λ (r : StoredRow). is_row_of r.collection r.id before.other ≡ true) same before.its in
     never_both_ways row before.other (picked before.other before.other_here its) (subst (λ (r : StoredRow). IsBefore r before.other) same before.before)
 
@@ -96,31 +96,31 @@ turned row other its =
     let same = one_object row.collection row.id other its in
     subst (λ (c : ℕ). is_row_of c other.id row ≡ true) (sym same.0) (subst (λ (id : Id). is_row_of row.collection id row ≡ true) (sym same.1) (itself row))
 
-pub not_first : (rows : List StoredRow) (row : StoredRow) (earlier : ℕ) → RiseFrom 1 (dates_of rows) → Contains rows row → ComesBefore rows earlier row.date → IsPickedBy First rows row → ⊥
-not_first rows row earlier rise here before picked =
-    let same : before.other ≡ row = one_row rows before.other row rise before.other_here here before.other_date in
+pub not_first : (rows : List StoredRow) (row : StoredRow) (earlier : ℕ) → AscendFrom 1 (dates_of rows) → Contains rows row → ComesBefore rows earlier row.date → IsPickedBy First rows row → ⊥
+not_first rows row earlier ascend here before picked =
+    let same : before.other ≡ row = one_row rows before.other row ascend before.other_here here before.other_date in
     let its = subst (λ (r : StoredRow). is_row_of r.collection r.id before.row ≡ true) same (turned before.row before.other before.its) in
     never_both_ways before.row row (picked before.row before.row_here its) (subst (λ (r : StoredRow). IsBefore before.row r) same before.before)
 
--- ---- the rows in front of a place are those before its date
+-- ---- the rows in front of a position are those before its date
 
-kept_front : (least : ℕ) (rows : List StoredRow) (at : ℕ) (d row : StoredRow) → RiseFrom least (dates_of rows) → at < length rows → Contains rows row
+kept_front : (least : ℕ) (rows : List StoredRow) (at : ℕ) (d row : StoredRow) → AscendFrom least (dates_of rows) → at < length rows → Contains rows row
     → leb (get_or rows at d).date row.date ≡ false → Contains (take at rows) row
-kept_front least [] at d row rise within here before = absurd (nothing row here)
-kept_front least (one ∷ rows) zero d row rise within here before =
+kept_front least [] at d row ascend within here before = absurd (nothing row here)
+kept_front least (one ∷ rows) zero d row ascend within here before =
     let less : row.date < one.date = leb-false one.date row.date before in
     elim (cons_cases one row rows here) [
       | inl same ↦ absurd (omega (arith, less, ap (λ (r : StoredRow). r.date) same))
-      | inr rest ↦ absurd (omega (arith, less, least_row (one.date + 1) rows row rise.1 rest))
+      | inr rest ↦ absurd (omega (arith, less, least_row (one.date + 1) rows row ascend.1 rest))
     ]
-kept_front least (one ∷ rows) (suc at) d row rise within here before = elim (cons_cases one row rows here) [
+kept_front least (one ∷ rows) (suc at) d row ascend within here before = elim (cons_cases one row rows here) [
   | inl same ↦ same_element one row (one ∷ take at rows) same (first one (take at rows))
-  | inr rest ↦ later one row (take at rows) (kept_front (one.date + 1) rows at d row rise.1 (omega (arith, within)) rest before)
+  | inr rest ↦ later one row (take at rows) (kept_front (one.date + 1) rows at d row ascend.1 (omega (arith, within)) rest before)
 ]
 
-pub stays_in_front : (rows : List StoredRow) (at : ℕ) (d : StoredRow) → RiseFrom 1 (dates_of rows) → at < length rows
+pub stays_in_front : (rows : List StoredRow) (at : ℕ) (d : StoredRow) → AscendFrom 1 (dates_of rows) → at < length rows
     → (row : StoredRow) → Contains rows row → leb (get_or rows at d).date row.date ≡ false → Contains (take at rows) row
-stays_in_front rows at d rise within row here before = kept_front 1 rows at d row rise within here before
+stays_in_front rows at d ascend within row here before = kept_front 1 rows at d row ascend within here before
 
 pub stays_without : (dates : List ℕ) (rows : List StoredRow) → (row : StoredRow) → Contains rows row → is_date_in dates row.date ≡ false
     → Contains (filter (λ (row : StoredRow). not (is_date_in dates row.date)) rows) row

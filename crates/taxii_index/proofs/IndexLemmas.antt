@@ -7,10 +7,10 @@ use Rattle.std.proofs.lemmas.List.{map-append}
 use Rattle.std.proofs.lemmas.List.Elements.{All-filter, All-push, All-contains, All-weaker, All-contains_itself, Contains-append_left}
 use Rattle.taxii_rows.specs.declared.stored_row.StoredRow.{StoredRow}
 use Rattle.taxii_rows.specs.Keeper.{row_at, is_date_in}
-use Rattle.taxii_rows.specs.StoreState.{dates_of, RiseFrom}
+use Rattle.taxii_rows.specs.StoreState.{dates_of, AscendFrom}
 use Rattle.taxii_index.specs.declared.row_index.RowIndex.{RowIndex}
 use Rattle.taxii_index.specs.declared.keys.Keys.{Keys}
-use Rattle.taxii_index.specs.Keys.{Key, IsIn64Bits, HasKeys, HasKeysBut, IsAloneIn}
+use Rattle.taxii_index.specs.Keys.{Key, IsIn64Bits, HasKeys, HasKeysBut, IsUniqueIn}
 use Rattle.taxii_index.specs.Index.{version_key, text_key, IsIndexOf, IsIndexBut, IsAbsent}
 use Rattle.taxii_index.proofs.ListLemmas.{Contains-from_map, filter-map}
 use Rattle.taxii_index.proofs.KeyLemmas.{all_yet, those_left, none_less}
@@ -40,11 +40,11 @@ own_key key_of dated rows row key is absent here =
 
 -- the key of one of the rows is alone of its date
 pub alone_in : (key_of : StoredRow → Key) → ((row : StoredRow) → (key_of row).2 ≡ row.date) → (rows : List StoredRow) (row : StoredRow) (key : Key) → key ≡ key_of row
-    → RiseFrom 1 (dates_of rows) → Contains rows row → IsAloneIn (map key_of rows) key
-alone_in key_of dated rows row key is rise here other there same =
+    → AscendFrom 1 (dates_of rows) → Contains rows row → IsUniqueIn (map key_of rows) key
+alone_in key_of dated rows row key is ascend here other there same =
     let found = Contains-from_map key_of rows other there in
     let date : found.0.date ≡ row.date = sym (dated found.0) ∙ ap (λ (k : Key). k.2) found.2 ∙ same ∙ ap (λ (k : Key). k.2) is ∙ dated row in
-    sym found.2 ∙ ap key_of (one_row rows found.0 row rise found.1 here date) ∙ sym is
+    sym found.2 ∙ ap key_of (one_row rows found.0 row ascend found.1 here date) ∙ sym is
 
 -- no key is of a date that no row has
 pub none_of_date : (key_of : StoredRow → Key) → ((row : StoredRow) → (key_of row).2 ≡ row.date) → (rows : List StoredRow) (date : ℕ) → row_at date rows ≡ None

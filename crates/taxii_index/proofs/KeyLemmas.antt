@@ -12,7 +12,7 @@ use Rattle.std.proofs.lemmas.Map.Lookups.{exact_unsigned, exact_signed}
 use Rattle.std.proofs.lemmas.List.Elements.{Contains-push, Contains-push_cases, Contains-append_left}
 use Rattle.std.proofs.lemmas.List.Folds.{Any-from_list_any, list_any_at, list_any-append}
 use Rattle.taxii_rows.specs.Keeper.{is_date_in}
-use Rattle.taxii_index.specs.Keys.{Key, key_cmp, HasKeys, HasKeysBut, IsAloneIn}
+use Rattle.taxii_index.specs.Keys.{Key, key_cmp, HasKeys, HasKeysBut, IsUniqueIn}
 use Rattle.taxii_index.proofs.ListLemmas.{Contains-filter, Contains-from_filter}
 
 pub key_total : IsTotalOrder key_cmp
@@ -144,7 +144,7 @@ apart_more dates date d apart other =
 apart_both : (dates : List ℕ) (date d : ℕ) → is_date_in (dates ++ date ∷ []) d ≡ false → (is_date_in dates d ≡ false) × (nat_eq date d ≡ false)
 apart_both dates date d apart = or_parts (is_date_in dates d) (nat_eq date d) (sym (in_more dates date d) ∙ apart)
 
-gone_one : (dates : List ℕ) (keys : List Key) (key other : Key) (old here : Bool) → is_eq (key_cmp key other) ≡ here → IsAloneIn keys key
+gone_one : (dates : List ℕ) (keys : List Key) (key other : Key) (old here : Bool) → is_eq (key_cmp key other) ≡ here → IsUniqueIn keys key
     → (old ≡ true → Contains keys other × (is_date_in dates other.2 ≡ false)) → cond here false old ≡ true → Contains keys other × (is_date_in (dates ++ key.2 ∷ []) other.2 ≡ false)
 gone_one dates keys key other old true same alone has holds = absurd (false≢true holds)
 gone_one dates keys key other old false same alone has holds =
@@ -159,7 +159,7 @@ left_one key other old true same apart holds =
 left_one key other old false same apart holds = holds
 
 -- one key less, which is alone of its date
-pub one_less : (dates : List ℕ) (keys : List Key) (key : Key) (old new : BTreeSet Key) → IsAloneIn keys key → HasKeysBut dates keys old
+pub one_less : (dates : List ℕ) (keys : List Key) (key : Key) (old new : BTreeSet Key) → IsUniqueIn keys key → HasKeysBut dates keys old
     → ((other : Key) → contains key_cmp new other ≡ cond (is_eq (key_cmp key other)) false (contains key_cmp old other)) → HasKeysBut (dates ++ key.2 ∷ []) keys new
 one_less dates keys key old new alone has updates other = (
   λ holds. gone_one dates keys key other (contains key_cmp old other) (is_eq (key_cmp key other)) refl alone (has other).0 (sym (updates other) ∙ holds),

@@ -13,12 +13,12 @@ first x xs = (0, omega arith, refl)
 pub later : {X : Type 0} (x y : X) (xs : List X) → Contains xs y → Contains (x ∷ xs) y
 later x y xs here = (suc here.0, omega arith, here.2)
 
-place_cases : {X : Type 0} (x y : X) (xs : List X) (k : ℕ) → k < length (x ∷ xs) → get_or (x ∷ xs) k y ≡ y → (x ≡ y) ⊎ Contains xs y
-place_cases x y xs zero within is = inl is
-place_cases x y xs (suc k) within is = inr (k, omega arith, is)
+position_cases : {X : Type 0} (x y : X) (xs : List X) (k : ℕ) → k < length (x ∷ xs) → get_or (x ∷ xs) k y ≡ y → (x ≡ y) ⊎ Contains xs y
+position_cases x y xs zero within is = inl is
+position_cases x y xs (suc k) within is = inr (k, omega arith, is)
 
 pub cons_cases : {X : Type 0} (x y : X) (xs : List X) → Contains (x ∷ xs) y → (x ≡ y) ⊎ Contains xs y
-cons_cases x y xs here = place_cases x y xs here.0 here.1 here.2
+cons_cases x y xs here = position_cases x y xs here.0 here.1 here.2
 
 pub same_element : {X : Type 0} (x y : X) (xs : List X) → x ≡ y → Contains xs x → Contains xs y
 same_element x y xs same here = subst (Contains xs) same here

@@ -17,17 +17,17 @@ use Rattle.std.proofs.lemmas.Map.Lookups.{exact_unsigned, exact_signed}
 use Rattle.stix_ids.specs.declared.id.Id.{Id}
 use Rattle.taxii_rows.specs.declared.stored_row.StoredRow.{StoredRow}
 use Rattle.taxii_rows.specs.declared.described.Described.{Described}
-use Rattle.taxii_rows.specs.StoreState.{dates_of, RiseFrom}
+use Rattle.taxii_rows.specs.StoreState.{dates_of, AscendFrom}
 use Rattle.taxii_rows.specs.Keeper.{row_at}
 use Rattle.taxii_rows.specs.Identity.{is_row_of}
 use Rattle.taxii_rows.specs.Picking.{IsNotBefore, ForItsRows}
 use Rattle.taxii_index.specs.Keys.{Key, IsIn64Bits, key_cmp, HasKeys}
 use Rattle.taxii_index.specs.Names.{name_of, text_name_of}
-use Rattle.taxii_index.specs.Presence.{agrees, is_same}
+use Rattle.taxii_index.specs.Presence.{agrees, is_duplicate}
 use Rattle.taxii_index.specs.Index.{version_key, has_row, key_dates, LeadsToSame, IsBefore, LeadsToThose, LeadsToObject, HasRowOf, front_of}
 use Rattle.taxii_index.proofs.ListLemmas.{Contains-filter, Contains-from_filter, Contains-map, Contains-from_map}
 use Rattle.taxii_index.proofs.KeyLemmas.{equal, contained, contains_listed}
-use Rattle.taxii_index.proofs.OrderLemmas.{Precedes, never, never_of_one, precedes_from_less, less_from_precedes, not_less, le_from_less, between_ends, dates_rise}
+use Rattle.taxii_index.proofs.OrderLemmas.{Precedes, never, never_of_one, precedes_from_less, less_from_precedes, not_less, le_from_less, between_ends, dates_ascend}
 use Rattle.taxii_index.proofs.RowLemmas.{least_row, find_passes, find_nothing, find_none, first_date, first_row, one_row, has_row_its, PassesAt, passes_at}
 use Rattle.taxii_index.proofs.NameLemmas.{one_object, of_object, one_name, one_text_name}
 
@@ -39,14 +39,14 @@ in_range low high set key here = Contains-from_filter (range_contains key_cmp lo
 
 pub leads_to_same : (key_of : StoredRow → Key) (collection : ℕ) (object : Described) (rows : List StoredRow) (name : ℕ) (number : ℤ) (last : ℕ) (set : BTreeSet Key)
     → HasKeys (map key_of rows) set → IsOrdered key_cmp set → ((row : StoredRow) → (key_of row).2 ≡ row.date) → ((row : StoredRow) → Contains rows row → row.date ≤ last)
-    → ((row : StoredRow) → is_same collection object row ≡ true → ((key_of row).0 ≡ name) × ((key_of row).1 ≡ number))
+    → ((row : StoredRow) → is_duplicate collection object row ≡ true → ((key_of row).0 ≡ name) × ((key_of row).1 ≡ number))
     → LeadsToSame collection object rows (keys_between key_cmp (Included (name, number, 0)) (Included (name, number, last)) set)
 leads_to_same key_of collection object rows name number last set has ordered dated upto own =
     let low : Key = (name, number, 0) in
     let high : Key = (name, number, last) in
     let within = range_contains key_cmp (Included low) (Included high) in
     let keys = keys_between key_cmp (Included low) (Included high) set in record {
-      rise = dates_rise name number 0 keys (IsStrictlySortedBy-filter key_cmp within set.keys ordered) (λ key here.
+      ascend = dates_ascend name number 0 keys (IsStrictlySortedBy-filter key_cmp within set.keys ordered) (λ key here.
           let both = and_parts (is_le (key_cmp low key)) (not (is_lt (key_cmp high key))) (in_range (Included low) (Included high) set key here).1 in
           let ends = between_ends (nat_cmp name key.0) (int_cmp number key.1) (nat_cmp 0 key.2) (nat_cmp last key.2) both.0 (not-true (is_lt (key_cmp high key)) both.1) in
           (sym (exact_unsigned name key.0 ends.0), sym (exact_signed number key.1 ends.1), omega arith));
@@ -60,42 +60,42 @@ leads_to_same key_of collection object rows name number last set has ordered dat
           subst (Contains (key_dates keys)) (dated row) (Contains-map (λ (k : Key). k.2) keys key there);
     }
 
-pub own_version : (secret collection : ℕ) (object : Described) (version : ℤ) → object.version ≡ Some version → (row : StoredRow) → is_same collection object row ≡ true
+pub own_version : (secret collection : ℕ) (object : Described) (version : ℤ) → object.version ≡ Some version → (row : StoredRow) → is_duplicate collection object row ≡ true
     → (name_of secret row.collection row.id ≡ name_of secret collection object.id) × (row.version ≡ version)
 own_version secret collection object version is row same =
     let parts = and_parts (is_row_of collection object.id row) (agrees object.version object.body row) same in
     let told : (row.dated && int_eq row.version version) ≡ true = subst (λ (v : Option ℤ). agrees v object.body row ≡ true) is parts.1 in
     (one_name secret collection object.id row parts.0, exact_signed row.version version (equal (int_cmp row.version version) (and_parts row.dated (int_eq row.version version) told).1))
 
-pub own_text : (secret collection : ℕ) (object : Described) → object.version ≡ None → (row : StoredRow) → is_same collection object row ≡ true
+pub own_text : (secret collection : ℕ) (object : Described) → object.version ≡ None → (row : StoredRow) → is_duplicate collection object row ≡ true
     → text_name_of secret row.collection row.id row.body ≡ text_name_of secret collection object.id object.body
 own_text secret collection object is row same =
     let parts = and_parts (is_row_of collection object.id row) (agrees object.version object.body row) same in
     let told : bytes_eq row.body object.body ≡ true = subst (λ (v : Option ℤ). agrees v object.body row ≡ true) is parts.1 in
     one_text_name secret collection object.id object.body row parts.0 told
 
-pub none_same : (collection : ℕ) (object : Described) (rows : List StoredRow) (keys : List Key) → RiseFrom 1 (dates_of rows) → LeadsToSame collection object rows keys
-    → find (has_row (is_same collection object) rows) (key_dates keys) ≡ None → find (is_same collection object) rows ≡ None
-none_same collection object rows keys rise leads found =
-    let test = is_same collection object in
+pub none_same : (collection : ℕ) (object : Described) (rows : List StoredRow) (keys : List Key) → AscendFrom 1 (dates_of rows) → LeadsToSame collection object rows keys
+    → find (has_row (is_duplicate collection object) rows) (key_dates keys) ≡ None → find (is_duplicate collection object) rows ≡ None
+none_same collection object rows keys ascend leads found =
+    let test = is_duplicate collection object in
     find_none test rows (λ row here. elim (cases_Bool (test row)) [
       | inl holds ↦ absurd (both_ways (test row)
-          (sym (has_row_its test rows row rise here) ∙ find_nothing (has_row test rows) (key_dates keys) row.date found (leads.every row here holds)) holds)
+          (sym (has_row_its test rows row ascend here) ∙ find_nothing (has_row test rows) (key_dates keys) row.date found (leads.every row here holds)) holds)
       | inr fails ↦ fails
     ])
 
-pub first_same : (collection : ℕ) (object : Described) (rows : List StoredRow) (keys : List Key) (date : ℕ) → RiseFrom 1 (dates_of rows)
-    → LeadsToSame collection object rows keys → find (has_row (is_same collection object) rows) (key_dates keys) ≡ Some date
-    → row_at date rows ≡ find (is_same collection object) rows
-first_same collection object rows keys date rise leads found =
-    let test = is_same collection object in
+pub first_same : (collection : ℕ) (object : Described) (rows : List StoredRow) (keys : List Key) (date : ℕ) → AscendFrom 1 (dates_of rows)
+    → LeadsToSame collection object rows keys → find (has_row (is_duplicate collection object) rows) (key_dates keys) ≡ Some date
+    → row_at date rows ≡ find (is_duplicate collection object) rows
+first_same collection object rows keys date ascend leads found =
+    let test = is_duplicate collection object in
     let passes : PassesAt test rows date = passes_at test rows date (find_passes (has_row test rows) (key_dates keys) date found).1 in
-    passes.found ∙ sym (first_row test 1 rows passes.row rise passes.here passes.holds (λ other here holds.
-    let earliest : date ≤ other.date = first_date (has_row test rows) 0 (key_dates keys) date other.date leads.rise found (leads.every other here holds)
-    (has_row_its test rows other rise here ∙ holds) in
+    passes.found ∙ sym (first_row test 1 rows passes.row ascend passes.here passes.holds (λ other here holds.
+    let earliest : date ≤ other.date = first_date (has_row test rows) 0 (key_dates keys) date other.date leads.ascend found (leads.every other here holds)
+    (has_row_its test rows other ascend here ∙ holds) in
     omega (arith, passes.its)))
 
--- ---- the versions behind a row and before it
+-- ---- the versions following a row and before it
 
 pub leads_to_later : (secret : ℕ) (row : StoredRow) (rows : List StoredRow) (most : ℤ) (last : ℕ) (set : BTreeSet Key) → HasKeys (map (version_key secret) rows) set
     → ((other : StoredRow) → Contains rows other → (other.version ≤ℤ most) × (other.date ≤ last))
@@ -143,13 +143,13 @@ leads_to_earlier secret row rows least set has from =
     before_all v least d number order = elim order [ inl back ↦ omega (arith, ints) | inr same ↦ omega (arith, same.1) ]
 
 -- where a row that keeps the rule is among the object's, one of the keys is that of a row of the object
-those_any : (secret : ℕ) (Rule : StoredRow → Type 0) (row : StoredRow) (rows : List StoredRow) (keys : List Key) → RiseFrom 1 (dates_of rows) → LeadsToThose secret Rule row rows keys
+those_any : (secret : ℕ) (Rule : StoredRow → Type 0) (row : StoredRow) (rows : List StoredRow) (keys : List Key) → AscendFrom 1 (dates_of rows) → LeadsToThose secret Rule row rows keys
     → (other : StoredRow) → Contains rows other → is_row_of row.collection row.id other ≡ true → Rule other
     → list_any (has_row (is_row_of row.collection row.id) rows) (key_dates keys) ≡ true
-those_any secret Rule row rows keys rise leads other here its keeps =
+those_any secret Rule row rows keys ascend leads other here its keeps =
     let hit = has_row (is_row_of row.collection row.id) rows in
     let there : Contains (key_dates keys) other.date = Contains-map (λ (key : Key). key.2) keys (version_key secret other) ((leads.those other here its).1 keeps) in
-    list_any_at hit (key_dates keys) there.0 other.date there.1 (ap hit there.2 ∙ has_row_its (is_row_of row.collection row.id) rows other rise here ∙ its)
+    list_any_at hit (key_dates keys) there.0 other.date there.1 (ap hit there.2 ∙ has_row_its (is_row_of row.collection row.id) rows other ascend here ∙ its)
 
 -- a row of the object that keeps the rule
 record Keeps (Rule : StoredRow → Type 0) (row : StoredRow) (rows : List StoredRow) : Type 0 where
@@ -158,30 +158,30 @@ record Keeps (Rule : StoredRow → Type 0) (row : StoredRow) (rows : List Stored
   its : is_row_of row.collection row.id other ≡ true
   keeps : Rule other
 
-any_of_those : (secret : ℕ) (Rule : StoredRow → Type 0) (row : StoredRow) (rows : List StoredRow) (keys : List Key) → RiseFrom 1 (dates_of rows) → LeadsToThose secret Rule row rows keys
+any_of_those : (secret : ℕ) (Rule : StoredRow → Type 0) (row : StoredRow) (rows : List StoredRow) (keys : List Key) → AscendFrom 1 (dates_of rows) → LeadsToThose secret Rule row rows keys
     → list_any (has_row (is_row_of row.collection row.id) rows) (key_dates keys) ≡ true → Keeps Rule row rows
-any_of_those secret Rule row rows keys rise leads holds =
+any_of_those secret Rule row rows keys ascend leads holds =
     let hit = has_row (is_row_of row.collection row.id) rows in
     let found = Any-from_list_any hit (key_dates keys) holds in
     let at : PassesAt (is_row_of row.collection row.id) rows found.1 = passes_at (is_row_of row.collection row.id) rows found.1 found.4 in
     let key = Contains-from_map (λ (k : Key). k.2) keys found.1 (found.0, found.2, found.3) in
     let its = Contains-from_map (version_key secret) rows key.0 (leads.own key.0 key.1) in
     let date : its.0.date ≡ at.row.date = ap (λ (k : Key). k.2) its.2 ∙ key.2 ∙ sym at.its in
-    let same : its.0 ≡ at.row = one_row rows its.0 at.row rise its.1 at.here date in
+    let same : its.0 ≡ at.row = one_row rows its.0 at.row ascend its.1 at.here date in
     let there : Contains keys (version_key secret at.row) = subst (Contains keys) (sym its.2 ∙ ap (version_key secret) same) key.1 in
     record { other = at.row; here = at.here; its = at.holds; keeps = (leads.those at.row at.here at.holds).0 there }
 
 -- so none is found exactly where each row of the object breaks the rule
-pub none_keeps : (secret : ℕ) (Rule Other : StoredRow → Type 0) (row : StoredRow) (rows : List StoredRow) (keys : List Key) (found : Bool) → RiseFrom 1 (dates_of rows)
+pub none_keeps : (secret : ℕ) (Rule Other : StoredRow → Type 0) (row : StoredRow) (rows : List StoredRow) (keys : List Key) (found : Bool) → AscendFrom 1 (dates_of rows)
     → LeadsToThose secret Rule row rows keys → found ≡ list_any (has_row (is_row_of row.collection row.id) rows) (key_dates keys)
     → ((other : StoredRow) → Other other ⊎ Rule other) → ((other : StoredRow) → Other other → Rule other → ⊥) → IsTrue (not found) ↔ ForItsRows Other rows row
-none_keeps secret Rule Other row rows keys found rise leads is either never_both = (
+none_keeps secret Rule Other row rows keys found ascend leads is either never_both = (
   λ none other here its. elim (either other) [
     | inl breaks ↦ breaks
-    | inr keeps ↦ absurd (both_ways found (not-true found none) (is ∙ those_any secret Rule row rows keys rise leads other here its keeps))
+    | inr keeps ↦ absurd (both_ways found (not-true found none) (is ∙ those_any secret Rule row rows keys ascend leads other here its keeps))
   ],
   λ all. not_from_false found (false_from_ne_true found (λ holds.
-      let one : Keeps Rule row rows = any_of_those secret Rule row rows keys rise leads (sym is ∙ holds) in
+      let one : Keeps Rule row rows = any_of_those secret Rule row rows keys ascend leads (sym is ∙ holds) in
       never_both one.other (all one.other one.here one.its) one.keeps)),
 )
 
@@ -204,9 +204,9 @@ never_both_ways row other later before = elim later [
 
 -- ---- the rows of an object
 
--- each row comes behind the front of its object
-pub behind_front : (secret collection : ℕ) (id : Id) (row : StoredRow) → IsIn64Bits (version_key secret row) → 0 < row.date → IsBefore (front_of collection id) row
-behind_front secret collection id row bits dated = elim (either_way (front_of collection id) row) [
+-- each row comes following the front of its object
+pub following_front : (secret collection : ℕ) (id : Id) (row : StoredRow) → IsIn64Bits (version_key secret row) → 0 < row.date → IsBefore (front_of collection id) row
+following_front secret collection id row bits dated = elim (either_way (front_of collection id) row) [
   | inr before ↦ before
   | inl back ↦ elim back [
     | inl less ↦ absurd (omega (arith, ints, bits.number, less))
@@ -215,16 +215,16 @@ behind_front secret collection id row bits dated = elim (either_way (front_of co
 ]
 
 -- a row of an object is found exactly where there is one
-pub object_found : (secret collection : ℕ) (id : Id) (rows : List StoredRow) (keys : List Key) (found : Bool) → RiseFrom 1 (dates_of rows)
+pub object_found : (secret collection : ℕ) (id : Id) (rows : List StoredRow) (keys : List Key) (found : Bool) → AscendFrom 1 (dates_of rows)
     → ((row : StoredRow) → Contains rows row → IsIn64Bits (version_key secret row)) → LeadsToObject secret collection id rows keys
     → found ≡ list_any (has_row (is_row_of collection id) rows) (key_dates keys) → IsTrue found ↔ HasRowOf rows collection id
-object_found secret collection id rows keys found rise bits leads is =
+object_found secret collection id rows keys found ascend bits leads is =
     let front = front_of collection id in (
       λ holds.
-          let one : Keeps (IsBefore front) front rows = any_of_those secret (IsBefore front) front rows keys rise leads (sym is ∙ holds) in
+          let one : Keeps (IsBefore front) front rows = any_of_those secret (IsBefore front) front rows keys ascend leads (sym is ∙ holds) in
           (one.here.0, one.other, one.here.1, one.here.2, one_object collection id one.other one.its),
       λ any.
           let here : Contains rows any.1 = (any.0, any.2, any.3) in
-          is ∙ those_any secret (IsBefore front) front rows keys rise leads any.1 here (of_object collection id any.1 any.4.0 any.4.1)
-          (behind_front secret collection id any.1 (bits any.1 here) (least_row 1 rows any.1 rise here)),
+          is ∙ those_any secret (IsBefore front) front rows keys ascend leads any.1 here (of_object collection id any.1 any.4.0 any.4.1)
+          (following_front secret collection id any.1 (bits any.1 here) (least_row 1 rows any.1 ascend here)),
     )

@@ -15,29 +15,29 @@ use Rattle.std.proofs.lemmas.List.Sorted.{Contains-permutation}
 use Rattle.std.proofs.lemmas.Map.Keys.{sorted_head, sorted_tail}
 use Rattle.stix_ids.specs.declared.id.Id.{Id}
 use Rattle.taxii_rows.specs.declared.stored_row.StoredRow.{StoredRow}
-use Rattle.taxii_rows.specs.StoreState.{dates_of, RiseFrom}
+use Rattle.taxii_rows.specs.StoreState.{dates_of, AscendFrom}
 use Rattle.taxii_rows.specs.Keeper.{row_at}
 use Rattle.taxii_rows.specs.Identity.{is_row_of}
 use Rattle.taxii_index.specs.Keys.{Key, IsIn64Bits}
 use Rattle.taxii_index.specs.Index.{version_key, key_dates, LeadsToObject, AreRowsOf, passing, row_where}
 use Rattle.taxii_index.proofs.ListLemmas.{nothing, first, later, cons_cases, same_element, Contains-map}
 use Rattle.taxii_index.proofs.RowLemmas.{none_is_some, some_same, least_row, row_at_its, row_at_found}
-use Rattle.taxii_index.proofs.LookUpLemmas.{behind_front}
+use Rattle.taxii_index.proofs.LookUpLemmas.{following_front}
 
 -- ---- dates in their order, each once
 
-strict_rise : (least : ℕ) (dates : List ℕ) → IsStrictlySortedBy nat_cmp dates → ((date : ℕ) → Contains dates date → least ≤ date) → RiseFrom least dates
-strict_rise least [] ordered from = tt
-strict_rise least (date ∷ dates) ordered from =
+strict_ascend : (least : ℕ) (dates : List ℕ) → IsStrictlySortedBy nat_cmp dates → ((date : ℕ) → Contains dates date → least ≤ date) → AscendFrom least dates
+strict_ascend least [] ordered from = tt
+strict_ascend least (date ∷ dates) ordered from =
     let front = All-from_recursion (λ (other : ℕ). nat_cmp date other ≡ Less) dates (sorted_head nat_cmp date dates ordered) in (
       from date (first date dates),
-      strict_rise (date + 1) dates (sorted_tail nat_cmp date dates ordered) (λ other here.
-          let behind : date < other = ranked date other Less (sym (All-contains (λ (other : ℕ). nat_cmp date other ≡ Less) dates other front here)) in omega (arith, behind)),
+      strict_ascend (date + 1) dates (sorted_tail nat_cmp date dates ordered) (λ other here.
+          let following : date < other = ranked date other Less (sym (All-contains (λ (other : ℕ). nat_cmp date other ≡ Less) dates other front here)) in omega (arith, following)),
     )
 
-pub rise_once : (sorted once : List ℕ) → IsSorted nat_cmp sorted → IsFiltered (DiffersFromLast nat_eq) [] sorted once → RiseFrom 0 once
-rise_once sorted once ordered filtered = subst (RiseFrom 0) (sym (dedup_is nat_eq sorted once filtered))
-    (strict_rise 0 (dedup nat_eq sorted) (IsStrictlySortedBy-dedup nat_cmp_total unsigned_ties sorted ordered) (λ date here. omega arith))
+pub ascend_once : (sorted once : List ℕ) → IsSorted nat_cmp sorted → IsFiltered (DiffersFromLast nat_eq) [] sorted once → AscendFrom 0 once
+ascend_once sorted once ordered filtered = subst (AscendFrom 0) (sym (dedup_is nat_eq sorted once filtered))
+    (strict_ascend 0 (dedup nat_eq sorted) (IsStrictlySortedBy-dedup nat_cmp_total unsigned_ties sorted ordered) (λ date here. omega arith))
 
 pub each_once : (dates sorted once : List ℕ) → IsPermutation dates sorted → IsFiltered (DiffersFromLast nat_eq) [] sorted once
     → (date : ℕ) → Contains dates date → Contains once date
@@ -62,30 +62,30 @@ its_row test rows date row is = go (row_at date rows) refl is
       | inr fails ↦ absurd (none_is_some row (sym (cond-false (test one) (Some one) None fails) ∙ is))
     ]
 
-row_its : (test : StoredRow → Bool) (rows : List StoredRow) (row : StoredRow) → RiseFrom 1 (dates_of rows) → Contains rows row → test row ≡ true
+row_its : (test : StoredRow → Bool) (rows : List StoredRow) (row : StoredRow) → AscendFrom 1 (dates_of rows) → Contains rows row → test row ≡ true
     → row_where test rows row.date ≡ Some row
-row_its test rows row rise here holds = ap (passing test) (row_at_its 1 rows row rise here) ∙ cond-true (test row) (Some row) None holds
+row_its test rows row ascend here holds = ap (passing test) (row_at_its 1 rows row ascend here) ∙ cond-true (test row) (Some row) None holds
 
 -- ---- the rows of some dates
 
-lower : (least then : ℕ) (rows : List StoredRow) → least ≤ then → RiseFrom then (dates_of rows) → RiseFrom least (dates_of rows)
-lower least then [] earlier rise = tt
-lower least then (row ∷ rows) earlier rise = (omega (arith, rise.0, earlier), rise.1)
+lower : (least then : ℕ) (rows : List StoredRow) → least ≤ then → AscendFrom then (dates_of rows) → AscendFrom least (dates_of rows)
+lower least then [] earlier ascend = tt
+lower least then (row ∷ rows) earlier ascend = (omega (arith, ascend.0, earlier), ascend.1)
 
-rise_on : (least date : ℕ) (found : Option StoredRow) (rest : List StoredRow) → least ≤ date → ((row : StoredRow) → found ≡ Some row → row.date ≡ date)
-    → RiseFrom (date + 1) (dates_of rest) → RiseFrom least (dates_of (cons_option found rest))
-rise_on least date None rest from its rise = lower least (date + 1) rest (omega (arith, from)) rise
-rise_on least date (Some row) rest from its rise =
-    (omega (arith, its row refl, from), subst (λ (d : ℕ). RiseFrom (d + 1) (dates_of rest)) (sym (its row refl)) rise)
+ascend_on : (least date : ℕ) (found : Option StoredRow) (rest : List StoredRow) → least ≤ date → ((row : StoredRow) → found ≡ Some row → row.date ≡ date)
+    → AscendFrom (date + 1) (dates_of rest) → AscendFrom least (dates_of (cons_option found rest))
+ascend_on least date None rest from its ascend = lower least (date + 1) rest (omega (arith, from)) ascend
+ascend_on least date (Some row) rest from its ascend =
+    (omega (arith, its row refl, from), subst (λ (d : ℕ). AscendFrom (d + 1) (dates_of rest)) (sym (its row refl)) ascend)
 
-found_rise : (test : StoredRow → Bool) (rows : List StoredRow) (least : ℕ) (dates : List ℕ) → RiseFrom least dates → RiseFrom least (dates_of (filter_map (row_where test rows) dates))
-found_rise test rows least [] rise = tt
-found_rise test rows least (date ∷ dates) rise =
-    rise_on least date (row_where test rows date) (filter_map (row_where test rows) dates) rise.0 (λ row is. (its_row test rows date row is).1) (found_rise test rows (date + 1) dates rise.1)
+found_ascend : (test : StoredRow → Bool) (rows : List StoredRow) (least : ℕ) (dates : List ℕ) → AscendFrom least dates → AscendFrom least (dates_of (filter_map (row_where test rows) dates))
+found_ascend test rows least [] ascend = tt
+found_ascend test rows least (date ∷ dates) ascend =
+    ascend_on least date (row_where test rows date) (filter_map (row_where test rows) dates) ascend.0 (λ row is. (its_row test rows date row is).1) (found_ascend test rows (date + 1) dates ascend.1)
 
 on_cases : (found : Option StoredRow) (rest : List StoredRow) (row : StoredRow) → Contains (cons_option found rest) row → (found ≡ Some row) ⊎ Contains rest row
 on_cases None rest row here = inr here
-on_cases (Some one) rest row here = elim (cons_cases one row rest here) [ inl same ↦ inl (ap (λ (r : StoredRow). Some r) same) | inr behind ↦ inr behind ]
+on_cases (Some one) rest row here = elim (cons_cases one row rest here) [ inl same ↦ inl (ap (λ (r : StoredRow). Some r) same) | inr following ↦ inr following ]
 
 on_first : (found : Option StoredRow) (rest : List StoredRow) (row : StoredRow) → found ≡ Some row → Contains (cons_option found rest) row
 on_first found rest row is = subst (λ (one : Option StoredRow). Contains (cons_option one rest) row) (sym is) (first row rest)
@@ -99,7 +99,7 @@ found_from : (test : StoredRow → Bool) (rows : List StoredRow) (dates : List �
 found_from test rows [] row here = absurd (nothing row here)
 found_from test rows (date ∷ dates) row here = elim (on_cases (row_where test rows date) (filter_map (row_where test rows) dates) row here) [
   | inl is ↦ let its = its_row test rows date row is in (its.0, its.2)
-  | inr behind ↦ found_from test rows dates row behind
+  | inr following ↦ found_from test rows dates row following
 ]
 
 found_to : (test : StoredRow → Bool) (rows : List StoredRow) (dates : List ℕ) (row : StoredRow) → row_where test rows row.date ≡ Some row → Contains dates row.date
@@ -107,23 +107,23 @@ found_to : (test : StoredRow → Bool) (rows : List StoredRow) (dates : List ℕ
 found_to test rows [] row is here = absurd (nothing row.date here)
 found_to test rows (date ∷ dates) row is here = elim (cons_cases date row.date dates here) [
   | inl same ↦ on_first (row_where test rows date) (filter_map (row_where test rows) dates) row (ap (row_where test rows) same ∙ is)
-  | inr behind ↦ on_rest (row_where test rows date) (filter_map (row_where test rows) dates) row (found_to test rows dates row is behind)
+  | inr following ↦ on_rest (row_where test rows date) (filter_map (row_where test rows) dates) row (found_to test rows dates row is following)
 ]
 
-from_one : (rows : List StoredRow) → RiseFrom 0 (dates_of rows) → ((row : StoredRow) → Contains rows row → 1 ≤ row.date) → RiseFrom 1 (dates_of rows)
-from_one [] rise dated = tt
-from_one (row ∷ rows) rise dated = (dated row (first row rows), rise.1)
+from_one : (rows : List StoredRow) → AscendFrom 0 (dates_of rows) → ((row : StoredRow) → Contains rows row → 1 ≤ row.date) → AscendFrom 1 (dates_of rows)
+from_one [] ascend dated = tt
+from_one (row ∷ rows) ascend dated = (dated row (first row rows), ascend.1)
 
-pub rows_found : (collection : ℕ) (id : Id) (rows : List StoredRow) (dates : List ℕ) → RiseFrom 1 (dates_of rows) → RiseFrom 0 dates
+pub rows_found : (collection : ℕ) (id : Id) (rows : List StoredRow) (dates : List ℕ) → AscendFrom 1 (dates_of rows) → AscendFrom 0 dates
     → ((row : StoredRow) → Contains rows row → is_row_of collection id row ≡ true → Contains dates row.date)
     → AreRowsOf collection id rows (filter_map (row_where (is_row_of collection id) rows) dates)
-rows_found collection id rows dates rise order every =
+rows_found collection id rows dates ascend order every =
     let test = is_row_of collection id in record {
-      rise = from_one (filter_map (row_where test rows) dates) (found_rise test rows 0 dates order)
-          (λ row here. least_row 1 rows row rise (found_from test rows dates row here).0);
+      ascend = from_one (filter_map (row_where test rows) dates) (found_ascend test rows 0 dates order)
+          (λ row here. least_row 1 rows row ascend (found_from test rows dates row here).0);
       each = λ row. (
         found_from test rows dates row,
-        λ its. found_to test rows dates row (row_its test rows row rise its.0 its.1) (every row its.0 its.1),
+        λ its. found_to test rows dates row (row_its test rows row ascend its.0 its.1) (every row its.0 its.1),
       );
     }
 
@@ -145,9 +145,9 @@ none_more h dates i found within is so_far = sym (
 -- ---- the keys of an object
 
 -- they lead to the date of each of its rows
-pub date_of_each : (secret collection : ℕ) (id : Id) (rows : List StoredRow) (keys : List Key) → RiseFrom 1 (dates_of rows)
+pub date_of_each : (secret collection : ℕ) (id : Id) (rows : List StoredRow) (keys : List Key) → AscendFrom 1 (dates_of rows)
     → ((row : StoredRow) → Contains rows row → IsIn64Bits (version_key secret row)) → LeadsToObject secret collection id rows keys
     → (row : StoredRow) → Contains rows row → is_row_of collection id row ≡ true → Contains (key_dates keys) row.date
-date_of_each secret collection id rows keys rise bits leads row here its =
+date_of_each secret collection id rows keys ascend bits leads row here its =
     Contains-map (λ (key : Key). key.2) keys (version_key secret row)
-    ((leads.those row here its).1 (behind_front secret collection id row (bits row here) (least_row 1 rows row rise here)))
+    ((leads.those row here its).1 (following_front secret collection id row (bits row here) (least_row 1 rows row ascend here)))

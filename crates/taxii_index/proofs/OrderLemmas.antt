@@ -10,7 +10,7 @@ use Rattle.std.proofs.lemmas.Cmp.{nat_cmp_total, ranked, int_ranked, tied_itself
 use Rattle.std.proofs.lemmas.Int.{ints}
 use Rattle.std.proofs.lemmas.List.Elements.{All-from_recursion, All-contains}
 use Rattle.std.proofs.lemmas.Map.Keys.{sorted_head, sorted_tail}
-use Rattle.taxii_rows.specs.StoreState.{RiseFrom}
+use Rattle.taxii_rows.specs.StoreState.{AscendFrom}
 use Rattle.taxii_index.specs.Keys.{Key, key_cmp}
 use Rattle.taxii_index.specs.Index.{key_dates}
 use Rattle.taxii_index.proofs.ListLemmas.{first, later}
@@ -85,18 +85,18 @@ between_ends Greater numbers low high from upto = absurd (false≢true from)
 less : (order : Ordering) → order ≡ Less → is_lt order ≡ true
 less order is = ap is_lt is
 
--- the dates of keys of one name and number rise as the keys stand
-pub dates_rise : (name : ℕ) (number : ℤ) (least : ℕ) (keys : List Key) → IsStrictlySortedBy key_cmp keys
-    → ((key : Key) → Contains keys key → (key.0 ≡ name) × (key.1 ≡ number) × (least ≤ key.2)) → RiseFrom least (key_dates keys)
-dates_rise name number least [] ordered own = tt
-dates_rise name number least (key ∷ keys) ordered own =
+-- the dates of keys of one name and number ascend as the keys stand
+pub dates_ascend : (name : ℕ) (number : ℤ) (least : ℕ) (keys : List Key) → IsStrictlySortedBy key_cmp keys
+    → ((key : Key) → Contains keys key → (key.0 ≡ name) × (key.1 ≡ number) × (least ≤ key.2)) → AscendFrom least (key_dates keys)
+dates_ascend name number least [] ordered own = tt
+dates_ascend name number least (key ∷ keys) ordered own =
     let here = own key (first key keys) in
     let front = All-from_recursion (λ (other : Key). key_cmp key other ≡ Less) keys (sorted_head key_cmp key keys ordered) in (
       here.2,
-      dates_rise name number (key.2 + 1) keys (sorted_tail key_cmp key keys ordered) (λ other in_rest.
+      dates_ascend name number (key.2 + 1) keys (sorted_tail key_cmp key keys ordered) (λ other in_rest.
           let its = own other (later key other keys in_rest) in
-          let behind : key_cmp key other ≡ Less = All-contains (λ (other : Key). key_cmp key other ≡ Less) keys other front in_rest in
-          let order = precedes_from_less key other (here.0 ∙ sym its.0) (less (key_cmp key other) behind) in
+          let following : key_cmp key other ≡ Less = All-contains (λ (other : Key). key_cmp key other ≡ Less) keys other front in_rest in
+          let order = precedes_from_less key other (here.0 ∙ sym its.0) (less (key_cmp key other) following) in
           (its.0, its.1, next_date key.1 other.1 key.2 other.2 (here.1 ∙ sym its.1) order)),
     )
   where

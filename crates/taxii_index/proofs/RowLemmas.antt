@@ -3,7 +3,7 @@ use Rattle.std.proofs.Common.{◌≡◌, ℕ, ◌+◌, ◌≤◌, List, [], ◌�
 use Rattle.std.specs.List.{Contains}
 use Rattle.std.proofs.lemmas.Bool.{cases_Bool, cond-true, cond-false, both_ways, false≢true, eq-eqb, eqb-true}
 use Rattle.taxii_rows.specs.declared.stored_row.StoredRow.{StoredRow}
-use Rattle.taxii_rows.specs.StoreState.{dates_of, RiseFrom}
+use Rattle.taxii_rows.specs.StoreState.{dates_of, AscendFrom}
 use Rattle.taxii_rows.specs.Keeper.{row_at}
 use Rattle.taxii_index.specs.Index.{has_row}
 use Rattle.taxii_index.proofs.ListLemmas.{nothing, first, later, cons_cases, same_element}
@@ -39,58 +39,58 @@ find_none test [] fail = refl
 find_none test (y ∷ ys) fail =
     cond-false (test y) (Some y) (find test ys) (fail y (first y ys)) ∙ find_none test ys (λ x here. fail x (later y x ys here))
 
--- ---- dates that rise
+-- ---- dates that ascend
 
-pub least_date : (least : ℕ) (dates : List ℕ) (date : ℕ) → RiseFrom least dates → Contains dates date → least ≤ date
-least_date least [] date rise here = absurd (nothing date here)
-least_date least (one ∷ dates) date rise here = elim (cons_cases one date dates here) [
-  | inl same ↦ omega (arith, same, rise.0)
-  | inr rest ↦ omega (arith, rise.0, least_date (one + 1) dates date rise.1 rest)
+pub least_date : (least : ℕ) (dates : List ℕ) (date : ℕ) → AscendFrom least dates → Contains dates date → least ≤ date
+least_date least [] date ascend here = absurd (nothing date here)
+least_date least (one ∷ dates) date ascend here = elim (cons_cases one date dates here) [
+  | inl same ↦ omega (arith, same, ascend.0)
+  | inr rest ↦ omega (arith, ascend.0, least_date (one + 1) dates date ascend.1 rest)
 ]
 
 -- the date that is found is the earliest that passes
-pub first_date : (test : ℕ → Bool) (least : ℕ) (dates : List ℕ) (date other : ℕ) → RiseFrom least dates → find test dates ≡ Some date
+pub first_date : (test : ℕ → Bool) (least : ℕ) (dates : List ℕ) (date other : ℕ) → AscendFrom least dates → find test dates ≡ Some date
     → Contains dates other → test other ≡ true → date ≤ other
-first_date test least [] date other rise found here holds = absurd (nothing other here)
-first_date test least (one ∷ dates) date other rise found here holds = elim (cases_Bool (test one)) [
+first_date test least [] date other ascend found here holds = absurd (nothing other here)
+first_date test least (one ∷ dates) date other ascend found here holds = elim (cases_Bool (test one)) [
   | inl own ↦ let same : one ≡ date = some_same one date (sym (cond-true (test one) (Some one) (find test dates) own) ∙ found) in
       elim (cons_cases one other dates here) [
         | inl is ↦ omega (arith, same, is)
-        | inr rest ↦ omega (arith, same, least_date (one + 1) dates other rise.1 rest)
+        | inr rest ↦ omega (arith, same, least_date (one + 1) dates other ascend.1 rest)
       ]
   | inr fails ↦ elim (cons_cases one other dates here) [
     | inl is ↦ absurd (both_ways (test one) fails (ap test is ∙ holds))
-    | inr rest ↦ first_date test (one + 1) dates date other rise.1 (sym (cond-false (test one) (Some one) (find test dates) fails) ∙ found) rest holds
+    | inr rest ↦ first_date test (one + 1) dates date other ascend.1 (sym (cond-false (test one) (Some one) (find test dates) fails) ∙ found) rest holds
   ]
 ]
 
--- ---- rows whose dates rise
+-- ---- rows whose dates ascend
 
-pub least_row : (least : ℕ) (rows : List StoredRow) (row : StoredRow) → RiseFrom least (dates_of rows) → Contains rows row → least ≤ row.date
-least_row least [] row rise here = absurd (nothing row here)
-least_row least (one ∷ rows) row rise here = elim (cons_cases one row rows here) [
-  | inl same ↦ omega (arith, ap (λ (r : StoredRow). r.date) same, rise.0)
-  | inr rest ↦ omega (arith, rise.0, least_row (one.date + 1) rows row rise.1 rest)
+pub least_row : (least : ℕ) (rows : List StoredRow) (row : StoredRow) → AscendFrom least (dates_of rows) → Contains rows row → least ≤ row.date
+least_row least [] row ascend here = absurd (nothing row here)
+least_row least (one ∷ rows) row ascend here = elim (cons_cases one row rows here) [
+  | inl same ↦ omega (arith, ap (λ (r : StoredRow). r.date) same, ascend.0)
+  | inr rest ↦ omega (arith, ascend.0, least_row (one.date + 1) rows row ascend.1 rest)
 ]
 
 -- the row that passes and is the earliest is found
-pub first_row : (test : StoredRow → Bool) (least : ℕ) (rows : List StoredRow) (row : StoredRow) → RiseFrom least (dates_of rows) → Contains rows row
+pub first_row : (test : StoredRow → Bool) (least : ℕ) (rows : List StoredRow) (row : StoredRow) → AscendFrom least (dates_of rows) → Contains rows row
     → test row ≡ true → ((other : StoredRow) → Contains rows other → test other ≡ true → row.date ≤ other.date) → find test rows ≡ Some row
-first_row test least [] row rise here holds earliest = absurd (nothing row here)
-first_row test least (one ∷ rows) row rise here holds earliest = elim (cons_cases one row rows here) [
+first_row test least [] row ascend here holds earliest = absurd (nothing row here)
+first_row test least (one ∷ rows) row ascend here holds earliest = elim (cons_cases one row rows here) [
   | inl same ↦ cond-true (test one) (Some one) (find test rows) (ap test same ∙ holds) ∙ ap (λ (r : StoredRow). Some r) same
   | inr rest ↦ elim (cases_Bool (test one)) [
-    | inl own ↦ let late : one.date + 1 ≤ row.date = least_row (one.date + 1) rows row rise.1 rest in
+    | inl own ↦ let late : one.date + 1 ≤ row.date = least_row (one.date + 1) rows row ascend.1 rest in
         let early : row.date ≤ one.date = earliest one (first one rows) own in absurd (omega arith)
     | inr fails ↦ cond-false (test one) (Some one) (find test rows) fails
-        ∙ first_row test (one.date + 1) rows row rise.1 rest holds (λ other where_it_is. earliest other (later one other rows where_it_is))
+        ∙ first_row test (one.date + 1) rows row ascend.1 rest holds (λ other where_it_is. earliest other (later one other rows where_it_is))
   ]
 ]
 
 -- a row is the one of its date
-pub row_at_its : (least : ℕ) (rows : List StoredRow) (row : StoredRow) → RiseFrom least (dates_of rows) → Contains rows row → row_at row.date rows ≡ Some row
-row_at_its least rows row rise here =
-    first_row (λ (r : StoredRow). eqb r.date row.date) least rows row rise here (eq-eqb row.date row.date refl)
+pub row_at_its : (least : ℕ) (rows : List StoredRow) (row : StoredRow) → AscendFrom least (dates_of rows) → Contains rows row → row_at row.date rows ≡ Some row
+row_at_its least rows row ascend here =
+    first_row (λ (r : StoredRow). eqb r.date row.date) least rows row ascend here (eq-eqb row.date row.date refl)
     (λ other where_it_is same. let is : other.date ≡ row.date = eqb-true other.date row.date same in omega arith)
 
 pub row_at_found : (date : ℕ) (rows : List StoredRow) (row : StoredRow) → row_at date rows ≡ Some row → Contains rows row × (row.date ≡ date)
@@ -98,14 +98,14 @@ row_at_found date rows row found =
     let passes = find_passes (λ (r : StoredRow). eqb r.date date) rows row found in (passes.0, eqb-true row.date date passes.1)
 
 -- rows of one date are one
-pub one_row : (rows : List StoredRow) (row other : StoredRow) → RiseFrom 1 (dates_of rows) → Contains rows row → Contains rows other → row.date ≡ other.date → row ≡ other
-one_row rows row other rise here there same =
-    some_same row other (sym (row_at_its 1 rows row rise here) ∙ ap (λ (date : ℕ). row_at date rows) same ∙ row_at_its 1 rows other rise there)
+pub one_row : (rows : List StoredRow) (row other : StoredRow) → AscendFrom 1 (dates_of rows) → Contains rows row → Contains rows other → row.date ≡ other.date → row ≡ other
+one_row rows row other ascend here there same =
+    some_same row other (sym (row_at_its 1 rows row ascend here) ∙ ap (λ (date : ℕ). row_at date rows) same ∙ row_at_its 1 rows other ascend there)
 
 -- what is asked of the row of a date
-pub has_row_its : (test : StoredRow → Bool) (rows : List StoredRow) (row : StoredRow) → RiseFrom 1 (dates_of rows) → Contains rows row
+pub has_row_its : (test : StoredRow → Bool) (rows : List StoredRow) (row : StoredRow) → AscendFrom 1 (dates_of rows) → Contains rows row
     → has_row test rows row.date ≡ test row
-has_row_its test rows row rise here = ap (λ (found : Option StoredRow). unwrap_or (option_map test found) false) (row_at_its 1 rows row rise here)
+has_row_its test rows row ascend here = ap (λ (found : Option StoredRow). unwrap_or (option_map test found) false) (row_at_its 1 rows row ascend here)
 
 -- a row of that date that passes
 pub record PassesAt (test : StoredRow → Bool) (rows : List StoredRow) (date : ℕ) : Type 0 where

@@ -4,13 +4,13 @@ use Rattle.std.specs.List.{Contains}
 use Rattle.stix_ids.specs.declared.id.Id.{Id}
 use Rattle.taxii_rows.specs.declared.stored_row.StoredRow.{StoredRow}
 use Rattle.taxii_rows.specs.declared.described.Described.{Described}
-use Rattle.taxii_rows.specs.StoreState.{dates_of, RiseFrom}
+use Rattle.taxii_rows.specs.StoreState.{dates_of, AscendFrom}
 use Rattle.taxii_rows.specs.Keeper.{row_at}
 use Rattle.taxii_rows.specs.Identity.{is_row_of}
 use Rattle.taxii_index.specs.declared.row_index.RowIndex.{RowIndex}
 use Rattle.taxii_index.specs.Names.{name_of, text_name_of}
 use Rattle.taxii_index.specs.Keys.{Key, IsIn64Bits, HasKeys, HasKeysBut}
-use Rattle.taxii_index.specs.Presence.{is_same}
+use Rattle.taxii_index.specs.Presence.{is_duplicate}
 
 -- the key of a row among the versions of its object, by a secret
 abbrev pub version_key : ℕ → StoredRow → Key
@@ -46,8 +46,8 @@ key_dates keys = map (λ key. key.2) keys
 
 -- the keys lead to each row that makes the object present, the earlier ones first
 pub record LeadsToSame (collection : ℕ) (object : Described) (rows : List StoredRow) (keys : List Key) : Type 0 where
-  pub rise : RiseFrom 0 (key_dates keys)
-  pub every : (row : StoredRow) → Contains rows row → is_same collection object row ≡ true → Contains (key_dates keys) row.date
+  pub ascend : AscendFrom 0 (key_dates keys)
+  pub every : (row : StoredRow) → Contains rows row → is_duplicate collection object row ≡ true → Contains (key_dates keys) row.date
 
 -- the second row is later than the first: by version, and of one version by date
 abbrev pub IsBefore : StoredRow → StoredRow → Type 0
@@ -79,7 +79,7 @@ HasRowOf rows collection id = Any (λ row. (row.collection ≡ collection) × (r
 
 -- the rows of the object in the collection, by date, and no other
 pub record AreRowsOf (collection : ℕ) (id : Id) (rows found : List StoredRow) : Type 0 where
-  pub rise : RiseFrom 1 (dates_of found)
+  pub ascend : AscendFrom 1 (dates_of found)
   pub each : (row : StoredRow) → Contains found row ↔ (Contains rows row × (is_row_of collection id row ≡ true))
 
 -- a row where it passes the test

@@ -29,5 +29,5 @@ abbrev pub HasKeysBut : List ℕ → List Key → BTreeSet Key → Type 0
 HasKeysBut dates keys set = (key : Key) → IsTrue (contains key_cmp set key) ↔ (Contains keys key × (is_date_in dates key.2 ≡ false))
 
 -- no other of these keys is of its date
-abbrev pub IsAloneIn : List Key → Key → Type 0
-IsAloneIn keys key = (other : Key) → Contains keys other → other.2 ≡ key.2 → other ≡ key
+abbrev pub IsUniqueIn : List Key → Key → Type 0
+IsUniqueIn keys key = (other : Key) → Contains keys other → other.2 ≡ key.2 → other ≡ key

@@ -12,9 +12,9 @@ agrees (Some version) body row = row.dated && int_eq row.version version
 agrees None body row = bytes_eq row.body body
 
 -- whether the row makes the object present in the collection
-abbrev pub is_same : ℕ → Described → StoredRow → Bool
-is_same collection object row = is_row_of collection object.id row && agrees object.version object.body row
+abbrev pub is_duplicate : ℕ → Described → StoredRow → Bool
+is_duplicate collection object row = is_row_of collection object.id row && agrees object.version object.body row
 
 -- the first row, by date, that makes the object present
-abbrev pub row_of_same : ℕ → Described → List StoredRow → Option StoredRow
-row_of_same collection object rows = find (is_same collection object) rows
+abbrev pub duplicate_of : ℕ → Described → List StoredRow → Option StoredRow
+duplicate_of collection object rows = find (is_duplicate collection object) rows

@@ -1,10 +1,10 @@
 ghost use Rattle.std.specs.Prelude.{◌≡◌};
-ghost use Rattle.taxii_rows.specs.StoreState.{RiseFrom};
+ghost use Rattle.taxii_rows.specs.StoreState.{AscendFrom};
 ghost use Rattle.taxii_rows.specs.Keeper.{is_date_in};
 
 /// Whether the date is one of these, by halving.
 pub(crate) fn is_among(dates: &[u64], date: u64) -> bool
-    requires { RiseFrom 0 dates.now }
+    requires { AscendFrom 0 dates.now }
     ensures { result ≡ is_date_in dates.now date }
 {
     dates.binary_search(&date).is_ok()

@@ -1,12 +1,12 @@
 ghost use Rattle.std.specs.Prelude.{◌≡◌, ◌↔◌, IsTrue, [], ◌++◌, not, length, take, filter, option_map, map, true, IfOk, OnOk, OnErr};
 ghost use Rattle.std.specs.List.{Contains};
 ghost use Rattle.stix_ids.specs.declared.pick.Pick.TheVariants.{Last as LastOne, First as FirstOne};
-ghost use Rattle.taxii_rows.specs.StoreState.{dates_of, RiseFrom};
+ghost use Rattle.taxii_rows.specs.StoreState.{dates_of, AscendFrom};
 ghost use Rattle.taxii_rows.specs.Keeper.{is_date_in};
 ghost use Rattle.taxii_rows.specs.Picking.{IsPicked, IsPickedBy};
 ghost use Rattle.taxii_index.specs.Names.{id_of};
 ghost use Rattle.taxii_index.specs.Index.{HasRowOf, AreRowsOf};
-ghost use Rattle.taxii_index.specs.Presence.{row_of_same as first_of_same};
+ghost use Rattle.taxii_index.specs.Presence.{duplicate_of as first_duplicate};
 ghost use Rattle.taxii_index.specs.Hints.{AreTrueOf};
 
 use crate::IndexedRows;
@@ -51,28 +51,28 @@ impl HintedRows {
     /// The rows, by date.
     pub fn as_slice(&self) -> &[StoredRow]
         ensures rows { result.now ≡ self.now }
-        ensures rise { RiseFrom 1 (dates_of self.now) }
+        ensures ascend { AscendFrom 1 (dates_of self.now) }
     {
         self.rows.as_slice()
     }
 
     /// Adds rows of later dates. Without memory the rows are as they were.
     pub fn append(&mut self, rows: Vec<StoredRow>) -> Result<(), NoMemory>
-        requires later { RiseFrom 1 (dates_of (self.old ++ rows.items)) }
+        requires later { AscendFrom 1 (dates_of (self.old ++ rows.items)) }
         ensures ok { OnOk result (self.new ≡ self.old ++ rows.items) }
         ensures err { OnErr result (self.new ≡ self.old) }
     {
         let length = self.rows.as_slice().len();
         self.rows.append(rows)?;
-        let hinted = self.hint_behind(length);
+        let hinted = self.hint_after(length);
         if hinted.is_err() {
             self.truncate(length);
         }
         hinted
     }
 
-    /// Gives the rows behind that many their hints.
-    fn hint_behind(&mut self, length: usize) -> Result<(), NoMemory>
+    /// Gives the rows following that many their hints.
+    fn hint_after(&mut self, length: usize) -> Result<(), NoMemory>
         ensures { self.new ≡ self.old }
     {
         if length == 0 {
@@ -92,41 +92,41 @@ impl HintedRows {
         Ok(())
     }
 
-    /// Gives each row from a place on its hint.
+    /// Gives each row from a position on its hint.
     fn hint_from(&mut self, first: usize) -> Result<(), NoMemory>
         ensures { self.new ≡ self.old }
     {
-        for place in first..self.rows.as_slice().len() {
-            self.hint(place)?;
+        for position in first..self.rows.as_slice().len() {
+            self.hint(position)?;
         }
         Ok(())
     }
 
-    /// Gives the row at the place its hint, and tells its neighbours among the versions of its object.
-    fn hint(&mut self, place: usize) -> Result<(), NoMemory>
+    /// Gives the row at the position its hint, and tells its neighbours among the versions of its object.
+    fn hint(&mut self, position: usize) -> Result<(), NoMemory>
         ensures { self.new ≡ self.old }
     {
-        let Some(row) = self.rows.as_slice().get(place) else {
+        let Some(row) = self.rows.as_slice().get(position) else {
             return Ok(());
         };
         let date = row.date;
         let (earlier, later) = self.rows.neighbours(row);
         self.hints.push(date)?;
-        let before = self.rows.place_of(earlier);
-        let behind = self.rows.place_of(later);
-        self.note(before, place);
-        self.note(place, behind);
+        let before = self.rows.position_of(earlier);
+        let following = self.rows.position_of(later);
+        self.note(before, position);
+        self.note(position, following);
         Ok(())
     }
 
-    /// Notes that the row at the second place is a later version than that at the first, where it is.
+    /// Notes that the row at the second position is a later version than that at the first, where it is.
     fn note(&mut self, first: usize, second: usize)
         ensures { self.new ≡ self.old }
     {
         note_versions(&self.rows, &mut self.hints, first, second);
     }
 
-    /// Takes the rows behind that many out. Takes no memory, as all below.
+    /// Takes the rows following that many out. Takes no memory, as all below.
     pub fn truncate(&mut self, length: usize)
         ensures { self.new ≡ take length self.old }
     {
@@ -140,7 +140,7 @@ impl HintedRows {
 
     /// Takes the rows of these dates out.
     pub fn remove(&mut self, dates: &[u64])
-        requires rise { RiseFrom 0 dates.now }
+        requires ascend { AscendFrom 0 dates.now }
         ensures { self.new ≡ filter (λ row. not (is_date_in dates.now row.date)) self.old }
     {
         for date in dates {
@@ -155,18 +155,18 @@ impl HintedRows {
         ensures { self.new ≡ self.old }
     {
         if let Some(hint) = self.hints.of(date) {
-            let before = self.rows.place_of(hint.earlier);
-            let behind = self.rows.place_of(hint.later);
-            self.note(before, behind);
+            let before = self.rows.position_of(hint.earlier);
+            let following = self.rows.position_of(hint.later);
+            self.note(before, following);
         }
     }
 
     /// The first row, by date, that makes the object present in the collection (TAXII 2.1, section
     /// 5.5): one that tells its version where the object does, and else one that has its text.
-    pub fn row_of_same(&self, collection: u128, object: &Described) -> Option<&StoredRow>
-        ensures { option_map (λ row. row.now) result ≡ first_of_same collection object.now self.now }
+    pub fn duplicate_of(&self, collection: u128, object: &Described) -> Option<&StoredRow>
+        ensures { option_map (λ row. row.now) result ≡ first_duplicate collection object.now self.now }
     {
-        self.rows.row_of_same(collection, object)
+        self.rows.duplicate_of(collection, object)
     }
 
     /// Whether one of the rows is of the object that has that number and kind, in the collection.
@@ -184,8 +184,8 @@ impl HintedRows {
     }
 
     /// Where the row of a date stands, if there is one. It only hints.
-    pub fn place_of(&self, date: u64) -> usize {
-        self.rows.place_of(date)
+    pub fn position_of(&self, date: u64) -> usize {
+        self.rows.position_of(date)
     }
 
     /// Whether one of the picks selects the row among the rows of its object.
@@ -195,40 +195,40 @@ impl HintedRows {
         self.rows.is_picked(row, picks)
     }
 
-    /// Whether the row at a place may be the last version of its object, which costs no look-up: each
+    /// Whether the row at a position may be the last version of its object, which costs no look-up: each
     /// that is the last may be.
-    pub fn may_be_last(&self, place: usize, row: &StoredRow) -> bool
+    pub fn may_be_last(&self, position: usize, row: &StoredRow) -> bool
         requires { Contains self.now row.now }
         ensures { IsPickedBy LastOne self.now row.now → result ≡ true }
     {
         self.rows.as_slice();
-        !self.hints.knows_later(place, row.date)
+        !self.hints.knows_later(position, row.date)
     }
 
-    /// Whether the row at a place may be the first version of its object, as above.
-    pub fn may_be_first(&self, place: usize, row: &StoredRow) -> bool
+    /// Whether the row at a position may be the first version of its object, as above.
+    pub fn may_be_first(&self, position: usize, row: &StoredRow) -> bool
         requires { Contains self.now row.now }
         ensures { IsPickedBy FirstOne self.now row.now → result ≡ true }
     {
         self.rows.as_slice();
-        !self.hints.knows_earlier(place, row.date)
+        !self.hints.knows_earlier(position, row.date)
     }
 }
 
-/// Notes of each version which is the one before it, and of that one which is behind it.
+/// Notes of each version which is the one before it, and of that one which is following it.
 fn note_all_versions(rows: &IndexedRows, hints: &mut Hints)
     ensures { AreTrueOf rows.now hints.old.hints.items → AreTrueOf rows.now hints.new.hints.items }
 {
     let mut name = 0;
     let mut date = 0;
-    let mut place = None;
+    let mut position = None;
     for key in rows.versions() {
-        place = if key.0 == name {
-            let before = match place {
-                Some(place) => place,
-                None => rows.place_of(date),
+        position = if key.0 == name {
+            let before = match position {
+                Some(position) => position,
+                None => rows.position_of(date),
             };
-            let here = rows.place_of(key.2);
+            let here = rows.position_of(key.2);
             note_versions(rows, hints, before, here);
             Some(here)
         } else {
@@ -239,7 +239,7 @@ fn note_all_versions(rows: &IndexedRows, hints: &mut Hints)
     }
 }
 
-/// Notes that the row at the second place is a later version than that at the first, where it is.
+/// Notes that the row at the second position is a later version than that at the first, where it is.
 fn note_versions(rows: &IndexedRows, hints: &mut Hints, first: usize, second: usize)
     ensures { AreTrueOf rows.now hints.old.hints.items → AreTrueOf rows.now hints.new.hints.items }
 {

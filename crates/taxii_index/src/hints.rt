@@ -1,6 +1,6 @@
 ghost use Rattle.std.specs.Prelude.{◌≡◌, ◌≢◌, ℕ, [], List, true, map, nat_le};
 ghost use Rattle.taxii_rows.specs.declared.stored_row.StoredRow.{StoredRow as Row};
-ghost use Rattle.taxii_rows.specs.StoreState.{RiseFrom};
+ghost use Rattle.taxii_rows.specs.StoreState.{AscendFrom};
 ghost use Rattle.taxii_rows.specs.Keeper.{is_date_in};
 ghost use Rattle.taxii_index.specs.Hints.{ComesBefore, AreTrueOf, forgotten as forgotten_hint, hints_without};
 
@@ -66,11 +66,11 @@ impl Hints {
 
     /// Notes that the row of the second date is a later version than that of the first, where their hints are
     /// at these places.
-    pub(crate) fn note(&mut self, place: usize, first: u64, behind: usize, second: u64)
+    pub(crate) fn note(&mut self, position: usize, first: u64, following: usize, second: u64)
         ensures { (rows : List Row) → ComesBefore rows first second → AreTrueOf rows self.old.hints.items → AreTrueOf rows self.new.hints.items }
     {
-        self.note_later(place, first, second);
-        self.note_earlier(behind, second, first);
+        self.note_later(position, first, second);
+        self.note_earlier(following, second, first);
     }
 
     fn note_later(&mut self, at: usize, date: u64, later: u64)
@@ -103,21 +103,21 @@ impl Hints {
         }
     }
 
-    /// Whether a later version of the row of that date is known, where its hint is at that place.
-    pub(crate) fn knows_later(&self, place: usize, date: u64) -> bool
+    /// Whether a later version of the row of that date is known, where its hint is at that position.
+    pub(crate) fn knows_later(&self, position: usize, date: u64) -> bool
         ensures { (rows : List Row) → AreTrueOf rows self.now.hints.items → result ≡ true → (later : ℕ) × ComesBefore rows date later }
     {
-        match self.hints.get(place) {
+        match self.hints.get(position) {
             Some(hint) => hint.later != 0 && hint.date == date,
             None => false,
         }
     }
 
-    /// Whether an earlier version of the row of that date is known, where its hint is at that place.
-    pub(crate) fn knows_earlier(&self, place: usize, date: u64) -> bool
+    /// Whether an earlier version of the row of that date is known, where its hint is at that position.
+    pub(crate) fn knows_earlier(&self, position: usize, date: u64) -> bool
         ensures { (rows : List Row) → AreTrueOf rows self.now.hints.items → result ≡ true → (earlier : ℕ) × ComesBefore rows earlier date }
     {
-        match self.hints.get(place) {
+        match self.hints.get(position) {
             Some(hint) => hint.earlier != 0 && hint.date == date,
             None => false,
         }
@@ -125,7 +125,7 @@ impl Hints {
 
     /// Takes the hints of these dates out, and what the others tell of them.
     pub(crate) fn forget(&mut self, dates: &[u64])
-        requires { RiseFrom 0 dates.now }
+        requires { AscendFrom 0 dates.now }
         ensures { self.new.hints.items ≡ hints_without (is_date_in dates.now) self.old.hints.items }
     {
         self.hints.retain(|hint| !is_among(dates, hint.date));
@@ -142,7 +142,7 @@ impl Hints {
 }
 
 fn forget_rows(hints: &mut Vec<Hint>, dates: &[u64])
-    requires { RiseFrom 0 dates.now }
+    requires { AscendFrom 0 dates.now }
     ensures { hints.new.items ≡ map (forgotten_hint (is_date_in dates.now)) hints.old.items }
 {
     for hint in hints.iter_mut() {
@@ -159,7 +159,7 @@ fn forget_rows_from(hints: &mut Vec<Hint>, date: u64)
 }
 
 fn forget_among(hint: &mut Hint, dates: &[u64])
-    requires { RiseFrom 0 dates.now }
+    requires { AscendFrom 0 dates.now }
     ensures { hint.new ≡ forgotten_hint (is_date_in dates.now) hint.old }
 {
     if is_among(dates, hint.later) {

@@ -2,11 +2,11 @@ ghost use Rattle.std.specs.Prelude.{◌≡◌, ◌↔◌, ◌-◌, IsTrue, true,
 ghost use Rattle.std.specs.List.{Contains, list_any};
 ghost use Rattle.taxii_rows.specs.declared.stored_row.StoredRow.{StoredRow as Stored};
 ghost use Rattle.stix_ids.specs.declared.pick.Pick.TheVariants.{Last as LastOne, First as FirstOne};
-ghost use Rattle.taxii_rows.specs.StoreState.{dates_of, RiseFrom};
+ghost use Rattle.taxii_rows.specs.StoreState.{dates_of, AscendFrom};
 ghost use Rattle.taxii_rows.specs.Keeper.{is_date_in};
 ghost use Rattle.taxii_rows.specs.Identity.{is_row_of as is_of};
 ghost use Rattle.taxii_rows.specs.Picking.{IsPicked, IsPickedBy};
-ghost use Rattle.taxii_index.specs.Presence.{is_same as is_present, row_of_same as first_of_same};
+ghost use Rattle.taxii_index.specs.Presence.{is_duplicate as is_present, duplicate_of as first_duplicate};
 ghost use Rattle.taxii_index.specs.Index.{has_row, key_dates, HasRowOf, AreRowsOf, row_where};
 ghost use Rattle.taxii_index.specs.Names.{id_of};
 ghost use Rattle.taxii_index.specs.Hints.{ComesBefore};
@@ -14,7 +14,7 @@ ghost use Rattle.taxii_index.specs.Hints.{ComesBefore};
 use crate::dates::is_among;
 use crate::keys::Key;
 use crate::order::is_later;
-use crate::presence::is_same;
+use crate::presence::is_duplicate;
 use crate::row_index::RowIndex;
 use flow_values::NoMemory;
 use std::alloc::Global;
@@ -23,7 +23,7 @@ use std::marker::Model;
 use stix_ids::{Id, Pick};
 use taxii_rows::{Described, StoredRow, row_at};
 
-/// The rows of a store in the order of their dates, which rise, with an index of them by object.
+/// The rows of a store in the order of their dates, which ascend, with an index of them by object.
 #[derive(Drop)]
 pub struct IndexedRows {
     alloc: Global,
@@ -35,14 +35,14 @@ pub struct IndexedRows {
 impl Model for IndexedRows {
     ghost use Rattle.std.specs.Prelude.{List};
     ghost use Rattle.taxii_rows.specs.declared.stored_row.StoredRow.{StoredRow as Row};
-    ghost use Rattle.taxii_rows.specs.StoreState.{dates_of, RiseFrom};
+    ghost use Rattle.taxii_rows.specs.StoreState.{dates_of, AscendFrom};
     ghost use Rattle.taxii_index.specs.Index.{IsIndexOf};
 
     ghost Value = { List Row };
 
     ghost view = { λ store. store.rows.items };
 
-    ghost invariant = { λ store. RiseFrom 1 (dates_of store.rows.items) × IsIndexOf store.rows.items store.index };
+    ghost invariant = { λ store. AscendFrom 1 (dates_of store.rows.items) × IsIndexOf store.rows.items store.index };
 }
 
 impl IndexedRows {
@@ -62,7 +62,7 @@ impl IndexedRows {
     /// The rows, by date.
     pub fn as_slice(&self) -> &[StoredRow]
         ensures rows { result.now ≡ self.now }
-        ensures rise { RiseFrom 1 (dates_of self.now) }
+        ensures ascend { AscendFrom 1 (dates_of self.now) }
     {
         self.rows.as_slice()
     }
@@ -70,7 +70,7 @@ impl IndexedRows {
     /// The rows alone, which keep their memory.
     pub fn into_rows(self) -> Vec<StoredRow>
         ensures rows { result.items ≡ self }
-        ensures rise { RiseFrom 1 (dates_of self) }
+        ensures ascend { AscendFrom 1 (dates_of self) }
     {
         let IndexedRows { rows, .. } = self;
         rows
@@ -78,7 +78,7 @@ impl IndexedRows {
 
     /// Adds a row of a later date. Without memory the rows are as they were.
     pub fn push(&mut self, row: StoredRow) -> Result<(), NoMemory>
-        requires later { RiseFrom 1 (dates_of (self.old ++ row ∷ [])) }
+        requires later { AscendFrom 1 (dates_of (self.old ++ row ∷ [])) }
         ensures ok { OnOk result (self.new ≡ self.old ++ row ∷ []) }
         ensures err { OnErr result (self.new ≡ self.old) }
     {
@@ -94,7 +94,7 @@ impl IndexedRows {
 
     /// Adds rows of later dates. Without memory the rows are as they were.
     pub fn append(&mut self, rows: Vec<StoredRow>) -> Result<(), NoMemory>
-        requires later { RiseFrom 1 (dates_of (self.old ++ rows.items)) }
+        requires later { AscendFrom 1 (dates_of (self.old ++ rows.items)) }
         ensures ok { OnOk result (self.new ≡ self.old ++ rows.items) }
         ensures err { OnErr result (self.new ≡ self.old) }
     {
@@ -112,7 +112,7 @@ impl IndexedRows {
     /// Takes over rows where there were none: they aren't moved, and their index is made at once. Without
     /// memory all is as it was.
     fn fill(&mut self, rows: Vec<StoredRow>) -> Result<(), NoMemory>
-        requires rise { RiseFrom 1 (dates_of rows.items) }
+        requires ascend { AscendFrom 1 (dates_of rows.items) }
         ensures ok { OnOk result (self.new ≡ rows.items) }
         ensures err { OnErr result (self.new ≡ self.old) }
     {
@@ -124,7 +124,7 @@ impl IndexedRows {
 
     /// Adds rows of later dates. Without memory some of them may be there.
     fn push_all(&mut self, rows: Vec<StoredRow>) -> Result<(), NoMemory>
-        requires later { RiseFrom 1 (dates_of (self.old ++ rows.items)) }
+        requires later { AscendFrom 1 (dates_of (self.old ++ rows.items)) }
         ensures ok { OnOk result (self.new ≡ self.old ++ rows.items) }
         ensures err { OnErr result (take (length self.old) self.new ≡ self.old) }
     {
@@ -134,7 +134,7 @@ impl IndexedRows {
         Ok(())
     }
 
-    /// Takes the rows behind that many out. Takes no memory, as all below.
+    /// Takes the rows following that many out. Takes no memory, as all below.
     pub fn truncate(&mut self, length: usize)
         ensures { self.new ≡ take length self.old }
     {
@@ -154,7 +154,7 @@ impl IndexedRows {
 
     /// Takes the rows of these dates out.
     pub fn remove(&mut self, dates: &[u64])
-        requires rise { RiseFrom 0 dates.now }
+        requires ascend { AscendFrom 0 dates.now }
         ensures { self.new ≡ filter (λ row. not (is_date_in dates.now row.date)) self.old }
     {
         self.index.remove_dates(&self.rows, dates);
@@ -163,15 +163,15 @@ impl IndexedRows {
 
     /// The first row, by date, that makes the object present in the collection (TAXII 2.1, section
     /// 5.5): one that tells its version where the object does, and else one that has its text.
-    pub fn row_of_same(&self, collection: u128, object: &Described) -> Option<&StoredRow>
-        ensures { option_map (λ row. row.now) result ≡ first_of_same collection object.now self.now }
+    pub fn duplicate_of(&self, collection: u128, object: &Described) -> Option<&StoredRow>
+        ensures { option_map (λ row. row.now) result ≡ first_duplicate collection object.now self.now }
     {
-        let date = self.date_of_same(self.index.same(collection, object), collection, object)?;
+        let date = self.date_of_duplicate(self.index.same(collection, object), collection, object)?;
         row_at(&self.rows, date)
     }
 
     /// The date of the first of these keys whose row makes the object present.
-    fn date_of_same(
+    fn date_of_duplicate(
         &self,
         keys: Range<'_, Key>,
         collection: u128,
@@ -180,15 +180,15 @@ impl IndexedRows {
         ensures { result ≡ find (has_row (is_present collection object.now) self.now) (key_dates keys.entry) }
     {
         keys.map(|key| key.2)
-            .find(|date| self.is_same_at(*date, collection, object))
+            .find(|date| self.is_duplicate_at(*date, collection, object))
     }
 
     /// Whether the row of that date makes the object present in the collection.
-    fn is_same_at(&self, date: u64, collection: u128, object: &Described) -> bool
+    fn is_duplicate_at(&self, date: u64, collection: u128, object: &Described) -> bool
         ensures { result ≡ has_row (is_present collection object.now) self.now date }
     {
         match row_at(&self.rows, date) {
-            Some(row) => is_same(collection, object, row),
+            Some(row) => is_duplicate(collection, object, row),
             None => false,
         }
     }
@@ -234,9 +234,9 @@ impl IndexedRows {
         self.rows_at(&dates, collection, id)
     }
 
-    /// The dates of the object's rows in the collection, rising, and perhaps of others of its name.
+    /// The dates of the object's rows in the collection, ascending, and perhaps of others of its name.
     fn dates_of(&self, collection: u128, id: &Id) -> Result<Vec<u64>, NoMemory>
-        ensures rise { IfOk result (λ dates. RiseFrom 0 dates.items) }
+        ensures ascend { IfOk result (λ dates. AscendFrom 0 dates.items) }
         ensures every { IfOk result (λ dates. (row : Stored) → Contains self.now row → is_of collection id.now row ≡ true → Contains dates.items row.date) }
     {
         let keys = self
@@ -304,7 +304,7 @@ impl IndexedRows {
     }
 
     /// Where the row of a date stands, if there is one.
-    pub(crate) fn place_of(&self, date: u64) -> usize {
+    pub(crate) fn position_of(&self, date: u64) -> usize {
         self.rows.partition_point(|row| row.date < date)
     }
 

@@ -2,8 +2,8 @@ ghost use Rattle.std.specs.Prelude.{◌≡◌, ℕ, [], ◌∷◌, ◌++◌, Lis
 ghost use Rattle.std.specs.List.{Contains};
 ghost use Rattle.std.specs.declared.ops.Bound.TheVariants.{Included, Excluded};
 ghost use Rattle.std.specs.BTreeSet.{keys_between, IsOrdered};
-ghost use Rattle.taxii_rows.specs.StoreState.{RiseFrom};
-ghost use Rattle.taxii_index.specs.Keys.{Key as KeyValue, IsIn64Bits, HasKeys, HasKeysBut, IsAloneIn, key_cmp};
+ghost use Rattle.taxii_rows.specs.StoreState.{AscendFrom};
+ghost use Rattle.taxii_index.specs.Keys.{Key as KeyValue, IsIn64Bits, HasKeys, HasKeysBut, IsUniqueIn, key_cmp};
 
 use crate::dates::is_among;
 use flow_values::NoMemory;
@@ -62,7 +62,7 @@ impl Keys {
 
     /// Takes a key out that is alone of its date.
     pub(crate) fn remove_one(&mut self, key: Key)
-        ensures { (dates : List ℕ) (keys : List KeyValue) → IsAloneIn keys key → HasKeysBut dates keys self.old.keys
+        ensures { (dates : List ℕ) (keys : List KeyValue) → IsUniqueIn keys key → HasKeysBut dates keys self.old.keys
             → HasKeysBut (dates ++ key.2 ∷ []) keys self.new.keys }
     {
         self.keys.remove(&key);
@@ -70,7 +70,7 @@ impl Keys {
 
     /// Takes the keys of these dates out, by a pass over all.
     pub(crate) fn remove_dates(&mut self, dates: &[u64])
-        requires { RiseFrom 0 dates.now }
+        requires { AscendFrom 0 dates.now }
         ensures { (keys : List KeyValue) → HasKeys keys self.old.keys → HasKeysBut dates.now keys self.new.keys }
     {
         self.keys.retain(|key| !is_among(dates, key.2));
@@ -85,7 +85,7 @@ impl Keys {
             .range((name, number, 0)..=(name, number, u64::MAX))
     }
 
-    /// The keys of the same name behind that key.
+    /// The keys of the same name following that key.
     pub(crate) fn after(&self, key: Key) -> Range<'_, Key>
         ensures { result ≡ keys_between key_cmp (Excluded key) (Included (key.0, i64.MAX, u64.MAX)) self.now.keys }
     {

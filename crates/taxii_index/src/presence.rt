@@ -1,10 +1,10 @@
 ghost use Rattle.std.specs.Prelude.{◌≡◌};
-ghost use Rattle.taxii_index.specs.Presence.{agrees as agree, is_same as is_present};
+ghost use Rattle.taxii_index.specs.Presence.{agrees as agree, is_duplicate as is_present};
 
 use taxii_rows::{Described, StoredRow};
 
 /// Whether the row makes the object present in the collection.
-pub(crate) fn is_same(collection: u128, object: &Described, row: &StoredRow) -> bool
+pub(crate) fn is_duplicate(collection: u128, object: &Described, row: &StoredRow) -> bool
     ensures { result ≡ is_present collection object.now row.now }
 {
     row.is_of(collection, &object.id) && agrees(object, row)

@@ -1,7 +1,7 @@
 ghost use Rattle.std.specs.Prelude.{◌≡◌, ℕ, [], ◌∷◌, ◌++◌, List, All, map, not, filter, IfOk, OnOk, OnErr};
 ghost use Rattle.std.specs.List.{Contains};
 ghost use Rattle.taxii_rows.specs.declared.stored_row.StoredRow.{StoredRow as Row};
-ghost use Rattle.taxii_rows.specs.StoreState.{dates_of, RiseFrom};
+ghost use Rattle.taxii_rows.specs.StoreState.{dates_of, AscendFrom};
 ghost use Rattle.taxii_rows.specs.Keeper.{is_date_in};
 ghost use Rattle.taxii_index.specs.Index.{version_key as version_key_of, text_key as text_key_of, IsIndexOf, IsIndexBut, IsAbsent, IsBefore, LeadsToSame, LeadsToThose, LeadsToObject};
 ghost use Rattle.taxii_index.specs.Names.{id_of};
@@ -16,7 +16,7 @@ use std::collections::btree_set::{Iter, Range};
 use taxii_rows::{Described, StoredRow, row_at};
 
 /// To make the keys of a row, and to find them, takes about as long as to pass over those of so many rows.
-const ROWS_A_LOOK_UP: usize = 16;
+const ROWS_PER_LOOKUP: usize = 16;
 
 /// Under which keys some rows are found: the versions of an object, and the rows of a text of it.
 #[derive(Drop)]
@@ -76,11 +76,11 @@ impl RowIndex {
     /// Takes those of the rows out that are of these dates: by their keys, or where they are many by a pass
     /// over all keys.
     pub(crate) fn remove_dates(&mut self, rows: &[StoredRow], dates: &[u64])
-        requires rows { RiseFrom 1 (dates_of rows.now) }
-        requires dates { RiseFrom 0 dates.now }
+        requires rows { AscendFrom 1 (dates_of rows.now) }
+        requires dates { AscendFrom 0 dates.now }
         ensures { IsIndexOf rows.now self.old → IsIndexOf (filter (λ row. not (is_date_in dates.now row.date)) rows.now) self.new }
     {
-        if dates.len() < rows.len() / ROWS_A_LOOK_UP {
+        if dates.len() < rows.len() / ROWS_PER_LOOKUP {
             self.remove_few(rows, dates);
         } else {
             self.remove_many(dates);
@@ -89,7 +89,7 @@ impl RowIndex {
 
     /// Takes the rows of these dates out by a pass over all keys.
     fn remove_many(&mut self, dates: &[u64])
-        requires { RiseFrom 0 dates.now }
+        requires { AscendFrom 0 dates.now }
         ensures { (rows : List Row) → IsIndexOf rows self.old → IsIndexOf (filter (λ row. not (is_date_in dates.now row.date)) rows) self.new }
     {
         self.by_version.remove_dates(dates);
@@ -98,7 +98,7 @@ impl RowIndex {
 
     /// Takes those of the rows out that are of these dates: as many look-ups as there are dates.
     fn remove_few(&mut self, rows: &[StoredRow], dates: &[u64])
-        requires { RiseFrom 1 (dates_of rows.now) }
+        requires { AscendFrom 1 (dates_of rows.now) }
         ensures { IsIndexOf rows.now self.old → IsIndexOf (filter (λ row. not (is_date_in dates.now row.date)) rows.now) self.new }
     {
         for date in dates {
@@ -107,7 +107,7 @@ impl RowIndex {
     }
 
     fn remove_date(&mut self, rows: &[StoredRow], date: u64)
-        requires { RiseFrom 1 (dates_of rows.now) }
+        requires { AscendFrom 1 (dates_of rows.now) }
         ensures { (gone : List ℕ) → IsIndexBut gone rows.now self.old → IsIndexBut (gone ++ date ∷ []) rows.now self.new }
     {
         match row_at(rows, date) {
@@ -117,7 +117,7 @@ impl RowIndex {
     }
 
     fn remove_row(&mut self, row: &StoredRow)
-        ensures { (gone : List ℕ) (rows : List Row) → RiseFrom 1 (dates_of rows) → Contains rows row.now → IsIndexBut gone rows self.old
+        ensures { (gone : List ℕ) (rows : List Row) → AscendFrom 1 (dates_of rows) → Contains rows row.now → IsIndexBut gone rows self.old
             → IsIndexBut (gone ++ row.now.date ∷ []) rows self.new }
     {
         self.by_version.remove_one(version_key(self.secret, row));

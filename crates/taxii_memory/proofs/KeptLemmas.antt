@@ -4,10 +4,10 @@ use Rattle.taxii_rows.specs.declared.stored_row.StoredRow.{StoredRow}
 use Rattle.taxii_rows.specs.StoreState.{StoreState}
 use Rattle.taxii_rows.specs.Keeper.{is_date_in, without}
 
--- a state of these rows and this mark
+-- a state of these rows and this watermark
 abbrev pub state_of : List StoredRow → ℕ → StoreState
-state_of rows mark = record { rows = rows; mark = mark }
+state_of rows watermark = record { rows = rows; watermark = watermark }
 
-pub state_without : (dates : List ℕ) (rows kept : List StoredRow) (mark : ℕ) (state : StoreState) → state_of rows mark ≡ state
-    → kept ≡ filter (λ row. not (is_date_in dates row.date)) rows → state_of kept mark ≡ without dates state
-state_without dates rows kept mark state is left = ap (λ all. state_of all mark) left ∙ ap (without dates) is
+pub state_without : (dates : List ℕ) (rows kept : List StoredRow) (watermark : ℕ) (state : StoreState) → state_of rows watermark ≡ state
+    → kept ≡ filter (λ row. not (is_date_in dates row.date)) rows → state_of kept watermark ≡ without dates state
+state_without dates rows kept watermark state is left = ap (λ all. state_of all watermark) left ∙ ap (without dates) is

@@ -1,5 +1,5 @@
 ghost use Rattle.std.specs.Prelude.{◌≡◌, ◌++◌, IfOk, OnOk, OnErr};
-ghost use Rattle.taxii_rows.specs.StoreState.{RiseFrom};
+ghost use Rattle.taxii_rows.specs.StoreState.{AscendFrom};
 ghost use Rattle.taxii_rows.specs.Keeper.{is_date_in};
 
 use flow_values::NoMemory;
@@ -8,7 +8,7 @@ use taxii_rows::StoredRow;
 
 /// Whether the date is one of these, by halving.
 pub(crate) fn is_among(dates: &[u64], date: u64) -> bool
-    requires { RiseFrom 0 dates.now }
+    requires { AscendFrom 0 dates.now }
     ensures { result ≡ is_date_in dates.now date }
 {
     dates.binary_search(&date).is_ok()

@@ -1,7 +1,7 @@
 ghost use Rattle.std.specs.Prelude.{◌≡◌, ◌≢◌, None, Some, Err, IfOk, OnOk, OnErr, is_some};
 ghost use Rattle.taxii_rows.specs.declared.keeper_refusal.KeeperRefusal.TheVariants.{NoMemory as OutOfMemory};
-ghost use Rattle.taxii_rows.specs.declared.fault_cause.FaultCause.TheVariants.{Untold};
-ghost use Rattle.taxii_rows.specs.StoreState.{dates_of, RiseFrom};
+ghost use Rattle.taxii_rows.specs.declared.fault_cause.FaultCause.TheVariants.{NotKnown};
+ghost use Rattle.taxii_rows.specs.StoreState.{dates_of, AscendFrom};
 ghost use Rattle.taxii_rows.specs.Keeper.{row_after as first_later, with_rows, without, CanAppend};
 ghost use Rattle.flow_edges.specs.Faults.{Counted};
 ghost use Rattle.taxii_memory.specs.MemoryKeeper.{IsMemoryCall};
@@ -18,40 +18,40 @@ use taxii_rows::{FaultCause, Keeper, KeeperRefusal, StoredRow, row_after};
 pub struct MemoryKeeper {
     alloc: Global,
     rows: Vec<StoredRow>,
-    mark: u64,
+    watermark: u64,
     name: Option<Text>,
     calls: Calls,
 }
 
 impl Model for MemoryKeeper {
-    ghost use Rattle.taxii_rows.specs.StoreState.{dates_of, RiseFrom};
+    ghost use Rattle.taxii_rows.specs.StoreState.{dates_of, AscendFrom};
     ghost use Rattle.taxii_memory.specs.MemoryKeeper.{MemoryState};
 
     ghost Value = { MemoryState };
 
     ghost view = { λ keeper. record {
-      state = record { rows = keeper.rows.items; mark = keeper.mark };
+      state = record { rows = keeper.rows.items; watermark = keeper.watermark };
       name = keeper.name;
       failing = keeper.calls.failing;
       calls = keeper.calls.count;
       faults = keeper.calls.faults;
     } };
 
-    ghost invariant = { λ keeper. RiseFrom 1 (dates_of keeper.rows.items) };
+    ghost invariant = { λ keeper. AscendFrom 1 (dates_of keeper.rows.items) };
 }
 
 impl MemoryKeeper {
-    /// A keeper of these rows, whose dates rise. The calls whose numbers, from 1, are in `failing` fail.
+    /// A keeper of these rows, whose dates ascend. The calls whose numbers, from 1, are in `failing` fail.
     /// Takes no memory.
     pub fn new(
         alloc: Global,
         rows: Items<StoredRow>,
-        mark: u64,
+        watermark: u64,
         failing: Items<u64>,
     ) -> MemoryKeeper
-        requires { RiseFrom 1 (dates_of rows) }
+        requires { AscendFrom 1 (dates_of rows) }
         ensures { result ≡ record {
-          state = record { rows = rows; mark = mark };
+          state = record { rows = rows; watermark = watermark };
           name = None;
           failing = failing;
           calls = 0;
@@ -61,7 +61,7 @@ impl MemoryKeeper {
         MemoryKeeper {
             alloc,
             rows: rows.into_vec(),
-            mark,
+            watermark,
             name: None,
             calls: Calls {
                 failing,
@@ -74,25 +74,25 @@ impl MemoryKeeper {
     /// The rows, by date.
     pub fn rows(&self) -> &[StoredRow]
         ensures rows { result.now ≡ self.now.state.rows }
-        ensures rise { RiseFrom 1 (dates_of result.now) }
+        ensures ascend { AscendFrom 1 (dates_of result.now) }
     {
         self.rows.as_slice()
     }
 
     /// The last date ever given.
     pub fn last_date(&self) -> u64
-        ensures { result ≡ self.now.state.mark }
+        ensures { result ≡ self.now.state.watermark }
     {
-        self.mark
+        self.watermark
     }
 }
 
 impl Keeper for MemoryKeeper {
-    ghost kept = { λ keeper. record { told = Some keeper.state; name = keeper.name; attached = is_some keeper.name } };
+    ghost kept = { λ keeper. record { observable = Some keeper.state; name = keeper.name; attached = is_some keeper.name } };
 
     ghost faults = { λ keeper. keeper.faults };
 
-    ghost blamed = { λ _. Untold };
+    ghost last_cause = { λ _. NotKnown };
 
     /// No secret: who makes such a keeper sends its objects too.
     fn secret(&self) -> u128 {
@@ -100,16 +100,16 @@ impl Keeper for MemoryKeeper {
     }
 
     fn cause(&self) -> FaultCause
-        ensures { result ≡ Untold }
+        ensures { result ≡ NotKnown }
     {
-        FaultCause::Untold
+        FaultCause::NotKnown
     }
 
     fn attach(&mut self, text: &str) -> Result<(), KeeperRefusal>
         ensures ok { OnOk result (self.new.name ≡ Some text.now) }
         ensures err { OnErr result (self.new.name ≡ self.old.name) }
         ensures state { self.new.state ≡ self.old.state }
-        ensures rise { RiseFrom 1 (dates_of self.new.state.rows) }
+        ensures ascend { AscendFrom 1 (dates_of self.new.state.rows) }
         ensures causes { Counted (result ≡ Err KeeperRefusal.Fault) self.old.faults self.new.faults }
 
         ensures call { IsMemoryCall self.old self.new result }
@@ -135,8 +135,8 @@ impl Keeper for MemoryKeeper {
         }
     }
 
-    fn mark(&mut self) -> Result<u64, KeeperRefusal>
-        ensures mark { IfOk result (λ date. date ≡ self.old.state.mark) }
+    fn watermark(&mut self) -> Result<u64, KeeperRefusal>
+        ensures watermark { IfOk result (λ date. date ≡ self.old.state.watermark) }
         ensures memory { result ≢ Err OutOfMemory }
         ensures state { self.new.state ≡ self.old.state }
         ensures name { self.new.name ≡ self.old.name }
@@ -145,12 +145,12 @@ impl Keeper for MemoryKeeper {
         ensures call { IsMemoryCall self.old self.new result }
     {
         self.calls.begin()?;
-        Ok(self.mark)
+        Ok(self.watermark)
     }
 
-    fn append(&mut self, rows: &[StoredRow], mark: u64) -> Result<(), KeeperRefusal>
-        requires later { CanAppend rows.now mark self.old.state }
-        ensures ok { OnOk result (self.new.state ≡ with_rows rows.now mark self.old.state) }
+    fn append(&mut self, rows: &[StoredRow], watermark: u64) -> Result<(), KeeperRefusal>
+        requires later { CanAppend rows.now watermark self.old.state }
+        ensures ok { OnOk result (self.new.state ≡ with_rows rows.now watermark self.old.state) }
         ensures err { OnErr result (self.new.state ≡ self.old.state) }
         ensures name { self.new.name ≡ self.old.name }
         ensures causes { Counted (result ≡ Err KeeperRefusal.Fault) self.old.faults self.new.faults }
@@ -159,12 +159,12 @@ impl Keeper for MemoryKeeper {
     {
         self.calls.begin()?;
         append_copies(self.alloc, &mut self.rows, rows)?;
-        self.mark = mark;
+        self.watermark = watermark;
         Ok(())
     }
 
     fn remove(&mut self, dates: &[u64]) -> Result<(), KeeperRefusal>
-        requires rise { RiseFrom 0 dates.now }
+        requires ascend { AscendFrom 0 dates.now }
         ensures ok { OnOk result (self.new.state ≡ without dates.now self.old.state) }
         ensures memory { result ≢ Err OutOfMemory }
         ensures err { OnErr result (self.new.state ≡ self.old.state) }

@@ -12,65 +12,65 @@ use Rattle.taxii_routes.specs.Value.{Meaning, IsValueOf}
 use Rattle.taxii_routes.specs.Query.{asked}
 use Rattle.taxii_routes.specs.inner.Step.{put, Adds, CannotAdd}
 
-pub asked-put : (param : Param) (wanted : Option (Meaning param)) (query : Query) → asked param (put param wanted query) ≡ wanted
-asked-put AddedAfter wanted query = refl
-asked-put Limit wanted query = refl
-asked-put Next wanted query = refl
-asked-put MatchId wanted query = refl
-asked-put MatchType wanted query = refl
-asked-put MatchVersion wanted query = refl
-asked-put MatchSpec wanted query = refl
+pub asked-put : (param : Param) (slot : Option (Meaning param)) (query : Query) → asked param (put param slot query) ≡ slot
+asked-put AddedAfter slot query = refl
+asked-put Limit slot query = refl
+asked-put Next slot query = refl
+asked-put MatchId slot query = refl
+asked-put MatchType slot query = refl
+asked-put MatchVersion slot query = refl
+asked-put MatchSpec slot query = refl
 
-pub asked-put_other : (param other : Param) (wanted : Option (Meaning param)) (query : Query) → other ≢ param → asked other (put param wanted query) ≡ asked other query
-asked-put_other AddedAfter AddedAfter wanted query differs = absurd (differs refl)
-asked-put_other AddedAfter Limit wanted query differs = refl
-asked-put_other AddedAfter Next wanted query differs = refl
-asked-put_other AddedAfter MatchId wanted query differs = refl
-asked-put_other AddedAfter MatchType wanted query differs = refl
-asked-put_other AddedAfter MatchVersion wanted query differs = refl
-asked-put_other AddedAfter MatchSpec wanted query differs = refl
-asked-put_other Limit AddedAfter wanted query differs = refl
-asked-put_other Limit Limit wanted query differs = absurd (differs refl)
-asked-put_other Limit Next wanted query differs = refl
-asked-put_other Limit MatchId wanted query differs = refl
-asked-put_other Limit MatchType wanted query differs = refl
-asked-put_other Limit MatchVersion wanted query differs = refl
-asked-put_other Limit MatchSpec wanted query differs = refl
-asked-put_other Next AddedAfter wanted query differs = refl
-asked-put_other Next Limit wanted query differs = refl
-asked-put_other Next Next wanted query differs = absurd (differs refl)
-asked-put_other Next MatchId wanted query differs = refl
-asked-put_other Next MatchType wanted query differs = refl
-asked-put_other Next MatchVersion wanted query differs = refl
-asked-put_other Next MatchSpec wanted query differs = refl
-asked-put_other MatchId AddedAfter wanted query differs = refl
-asked-put_other MatchId Limit wanted query differs = refl
-asked-put_other MatchId Next wanted query differs = refl
-asked-put_other MatchId MatchId wanted query differs = absurd (differs refl)
-asked-put_other MatchId MatchType wanted query differs = refl
-asked-put_other MatchId MatchVersion wanted query differs = refl
-asked-put_other MatchId MatchSpec wanted query differs = refl
-asked-put_other MatchType AddedAfter wanted query differs = refl
-asked-put_other MatchType Limit wanted query differs = refl
-asked-put_other MatchType Next wanted query differs = refl
-asked-put_other MatchType MatchId wanted query differs = refl
-asked-put_other MatchType MatchType wanted query differs = absurd (differs refl)
-asked-put_other MatchType MatchVersion wanted query differs = refl
-asked-put_other MatchType MatchSpec wanted query differs = refl
-asked-put_other MatchVersion AddedAfter wanted query differs = refl
-asked-put_other MatchVersion Limit wanted query differs = refl
-asked-put_other MatchVersion Next wanted query differs = refl
-asked-put_other MatchVersion MatchId wanted query differs = refl
-asked-put_other MatchVersion MatchType wanted query differs = refl
-asked-put_other MatchVersion MatchVersion wanted query differs = absurd (differs refl)
-asked-put_other MatchVersion MatchSpec wanted query differs = refl
-asked-put_other MatchSpec AddedAfter wanted query differs = refl
-asked-put_other MatchSpec Limit wanted query differs = refl
-asked-put_other MatchSpec Next wanted query differs = refl
-asked-put_other MatchSpec MatchId wanted query differs = refl
-asked-put_other MatchSpec MatchType wanted query differs = refl
-asked-put_other MatchSpec MatchVersion wanted query differs = refl
-asked-put_other MatchSpec MatchSpec wanted query differs = absurd (differs refl)
+pub asked-put_other : (param other : Param) (slot : Option (Meaning param)) (query : Query) → other ≢ param → asked other (put param slot query) ≡ asked other query
+asked-put_other AddedAfter AddedAfter slot query differs = absurd (differs refl)
+asked-put_other AddedAfter Limit slot query differs = refl
+asked-put_other AddedAfter Next slot query differs = refl
+asked-put_other AddedAfter MatchId slot query differs = refl
+asked-put_other AddedAfter MatchType slot query differs = refl
+asked-put_other AddedAfter MatchVersion slot query differs = refl
+asked-put_other AddedAfter MatchSpec slot query differs = refl
+asked-put_other Limit AddedAfter slot query differs = refl
+asked-put_other Limit Limit slot query differs = absurd (differs refl)
+asked-put_other Limit Next slot query differs = refl
+asked-put_other Limit MatchId slot query differs = refl
+asked-put_other Limit MatchType slot query differs = refl
+asked-put_other Limit MatchVersion slot query differs = refl
+asked-put_other Limit MatchSpec slot query differs = refl
+asked-put_other Next AddedAfter slot query differs = refl
+asked-put_other Next Limit slot query differs = refl
+asked-put_other Next Next slot query differs = absurd (differs refl)
+asked-put_other Next MatchId slot query differs = refl
+asked-put_other Next MatchType slot query differs = refl
+asked-put_other Next MatchVersion slot query differs = refl
+asked-put_other Next MatchSpec slot query differs = refl
+asked-put_other MatchId AddedAfter slot query differs = refl
+asked-put_other MatchId Limit slot query differs = refl
+asked-put_other MatchId Next slot query differs = refl
+asked-put_other MatchId MatchId slot query differs = absurd (differs refl)
+asked-put_other MatchId MatchType slot query differs = refl
+asked-put_other MatchId MatchVersion slot query differs = refl
+asked-put_other MatchId MatchSpec slot query differs = refl
+asked-put_other MatchType AddedAfter slot query differs = refl
+asked-put_other MatchType Limit slot query differs = refl
+asked-put_other MatchType Next slot query differs = refl
+asked-put_other MatchType MatchId slot query differs = refl
+asked-put_other MatchType MatchType slot query differs = absurd (differs refl)
+asked-put_other MatchType MatchVersion slot query differs = refl
+asked-put_other MatchType MatchSpec slot query differs = refl
+asked-put_other MatchVersion AddedAfter slot query differs = refl
+asked-put_other MatchVersion Limit slot query differs = refl
+asked-put_other MatchVersion Next slot query differs = refl
+asked-put_other MatchVersion MatchId slot query differs = refl
+asked-put_other MatchVersion MatchType slot query differs = refl
+asked-put_other MatchVersion MatchVersion slot query differs = absurd (differs refl)
+asked-put_other MatchVersion MatchSpec slot query differs = refl
+asked-put_other MatchSpec AddedAfter slot query differs = refl
+asked-put_other MatchSpec Limit slot query differs = refl
+asked-put_other MatchSpec Next slot query differs = refl
+asked-put_other MatchSpec MatchId slot query differs = refl
+asked-put_other MatchSpec MatchType slot query differs = refl
+asked-put_other MatchSpec MatchVersion slot query differs = refl
+asked-put_other MatchSpec MatchSpec slot query differs = absurd (differs refl)
 
 -- a query of which each field is none asks for nothing
 pub asks_nothing : (query : Query) → query.added_after ≡ None → query.limit ≡ None → query.next ≡ None → query.ids ≡ None → query.kinds ≡ None → query.picks ≡ None → query.specs ≡ None
@@ -119,7 +119,7 @@ adds param known value old new meaning after answer same none finds sets change 
     (add_answers known value old new meaning after answer (subst (λ p. asked p old ≡ None) same none) finds (subst (λ p. Sets meaning (BadValue p) (asked known old) after answer) same sets) change)
 
 -- what isn't asked for is none
-pub none_asked : {A : Type 0} (wanted : Option A) (b : Bool) → (b ≡ true) ↔ (wanted ≢ None) → b ≡ false → wanted ≡ None
+pub none_asked : {A : Type 0} (slot : Option A) (b : Bool) → (b ≡ true) ↔ (slot ≢ None) → b ≡ false → slot ≡ None
 none_asked None b tells is = refl
 none_asked {A} (Some x) b tells is = absurd (false≢true (sym is ∙ tells.1 some))
   where

@@ -63,21 +63,21 @@ values_of-miss name pair rest other =
 
 -- ---- what the values ask for
 
-nothing_asked : (param : Param) (values : List (List ℕ)) (wanted : Option (Meaning param)) → wanted ≡ None → AskFor param values wanted → values ≡ []
-nothing_asked param [] wanted none asks = refl
+nothing_asked : (param : Param) (values : List (List ℕ)) (slot : Option (Meaning param)) → slot ≡ None → AskFor param values slot → values ≡ []
+nothing_asked param [] slot none asks = refl
 nothing_asked param (value ∷ []) None none asks = absurd asks
 nothing_asked param (value ∷ []) (Some m) none asks = absurd cc
-nothing_asked param (value ∷ other ∷ values) wanted none asks = absurd asks
+nothing_asked param (value ∷ other ∷ values) slot none asks = absurd asks
 
-too_many : (param : Param) (values more : List (List ℕ)) (value : List ℕ) (wanted : Option (Meaning param)) → values ≢ [] → ¬ AskFor param (values ++ value ∷ more) wanted
-too_many param [] more value wanted some asks = some refl
-too_many param (first ∷ []) more value wanted some asks = asks
-too_many param (first ∷ second ∷ values) more value wanted some asks = asks
+too_many : (param : Param) (values more : List (List ℕ)) (value : List ℕ) (slot : Option (Meaning param)) → values ≢ [] → ¬ AskFor param (values ++ value ∷ more) slot
+too_many param [] more value slot some asks = some refl
+too_many param (first ∷ []) more value slot some asks = asks
+too_many param (first ∷ second ∷ values) more value slot some asks = asks
 
-no_meaning : (param : Param) (more : List (List ℕ)) (value : List ℕ) (wanted : Option (Meaning param)) → ¬ HasMeaning param value → ¬ AskFor param (value ∷ more) wanted
+no_meaning : (param : Param) (more : List (List ℕ)) (value : List ℕ) (slot : Option (Meaning param)) → ¬ HasMeaning param value → ¬ AskFor param (value ∷ more) slot
 no_meaning param [] value None bad asks = asks
 no_meaning param [] value (Some m) bad asks = bad (m, asks)
-no_meaning param (other ∷ more) value wanted bad asks = asks
+no_meaning param (other ∷ more) value slot bad asks = asks
 
 -- ---- one pair more
 

@@ -4,13 +4,13 @@ use Rattle.std.specs.Prelude.{All}
 use Rattle.std.proofs.lemmas.List.Elements.{All-head, All-tail}
 use Rattle.taxii_routes.specs.Target.{query_text, IsTargetOf}
 
-abbrev NoMark : List ℕ → Type 0
-NoMark text = All (λ byte. byte ≢ 63) text
+abbrev NoSeparator : List ℕ → Type 0
+NoSeparator text = All (λ byte. byte ≢ 63) text
 
 abbrev Same : List ℕ → List ℕ → Option (List ℕ) → Option (List ℕ) → Type 0
 Same first second query other = (first ≡ second) × (query ≡ other)
 
-one_cut : (first second : List ℕ) (query other : Option (List ℕ)) → NoMark first → NoMark second → first ++ query_text query ≡ second ++ query_text other → Same first second query other
+one_cut : (first second : List ℕ) (query other : Option (List ℕ)) → NoSeparator first → NoSeparator second → first ++ query_text query ≡ second ++ query_text other → Same first second query other
 one_cut [] [] None None plain also is = (refl, refl)
 one_cut [] [] None (Some o) plain also is = absurd cc
 one_cut [] [] (Some q) None plain also is = absurd cc

@@ -55,18 +55,18 @@ abbrev pub IsVersion : List ℕ → Type 0
 IsVersion value = (trimmed value ≡ codes "2.1") ⊎ (trimmed value ≡ codes "\"2.1\"")
 
 -- a parameter that is named `version` says 2.1
-abbrev pub SaysNoOther : List ℕ → Type 0
-SaysNoOther parameter = IsNamed (codes "version") (parameter_name parameter) → IsVersion (parameter_value parameter)
+abbrev pub NamesNoOtherVersion : List ℕ → Type 0
+NamesNoOtherVersion parameter = IsNamed (codes "version") (parameter_name parameter) → IsVersion (parameter_value parameter)
 
 -- application/taxii+json, and no version but 2.1
 pub record IsTaxii (text : List ℕ) : Type 0 where
   pub name : IsNamed (codes "application/taxii+json") (range_of text)
-  pub version : All SaysNoOther (parameters_of text)
+  pub version : All NamesNoOtherVersion (parameters_of text)
 
 -- a media range that takes in every type of which TAXII's is one
-abbrev pub IsWide : List ℕ → Type 0
-IsWide text = IsNamed (codes "*/*") (range_of text) ⊎ IsNamed (codes "application/*") (range_of text)
+abbrev pub IsWildcard : List ℕ → Type 0
+IsWildcard text = IsNamed (codes "*/*") (range_of text) ⊎ IsNamed (codes "application/*") (range_of text)
 
 -- Accept = #( media-range [ weight ] ): some member of the list is TAXII's type, or a range that takes it in
 abbrev pub Accepts : List ℕ → Type 0
-Accepts text = Any (λ member. IsTaxii member ⊎ IsWide member) (slice_split is_comma text)
+Accepts text = Any (λ member. IsTaxii member ⊎ IsWildcard member) (slice_split is_comma text)

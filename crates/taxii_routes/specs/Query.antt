@@ -40,9 +40,9 @@ asked MatchSpec query = query.specs
 
 -- these values of a parameter ask for that: nothing where there is none, else what the one means
 abbrev pub AskFor : (param : Param) → List (List ℕ) → Option (Meaning param) → Type 0
-AskFor param [] wanted = wanted ≡ None
-AskFor param (value ∷ []) wanted = IsSomeAnd wanted (λ meaning. IsValueOf param value meaning)
-AskFor param (value ∷ other ∷ values) wanted = ⊥
+AskFor param [] slot = slot ≡ None
+AskFor param (value ∷ []) slot = IsSomeAnd slot (λ meaning. IsValueOf param value meaning)
+AskFor param (value ∷ other ∷ values) slot = ⊥
 
 -- the pairs ask for the query
 abbrev pub IsQueryOf : List Pair → Query → Type 0

@@ -1,6 +1,6 @@
 ghost use Rattle.std.specs.Prelude.{◌≡◌, ◌↔◌, ◌⊎◌, IsTrue, All};
 ghost use Rattle.std.specs.List.{slice_split};
-ghost use Rattle.taxii_routes.specs.MediaType.{is_semicolon, IsTaxii, IsWide, IsVersion, SaysNoOther, Accepts};
+ghost use Rattle.taxii_routes.specs.MediaType.{is_semicolon, IsTaxii, IsWildcard, IsVersion, NamesNoOtherVersion, Accepts};
 ghost use Rattle.taxii_routes.specs.MediaType as spec;
 
 use crate::whitespace::{is_named, trimmed};
@@ -15,9 +15,9 @@ pub fn accepts(header: &str) -> bool
 
 /// Whether a member of an Accept field takes TAXII's media type.
 fn is_taken(member: &str) -> bool
-    ensures { IsTrue result ↔ (IsTaxii member.now ⊎ IsWide member.now) }
+    ensures { IsTrue result ↔ (IsTaxii member.now ⊎ IsWildcard member.now) }
 {
-    is_taxii(member) || is_wide(member)
+    is_taxii(member) || is_wildcard(member)
 }
 
 /// Whether the value of a Content-Type field is TAXII's media type, `application/taxii+json`, with no
@@ -27,22 +27,22 @@ pub fn is_taxii(header: &str) -> bool
 {
     match header.split_once(';') {
         Some((range, parameters)) => {
-            is_named(range, "application/taxii+json") && says_no_other(parameters)
+            is_named(range, "application/taxii+json") && names_no_other_version(parameters)
         }
         None => is_named(header, "application/taxii+json"),
     }
 }
 
 /// Whether no parameter of these says another version.
-fn says_no_other(parameters: &str) -> bool
-    ensures { IsTrue result ↔ All SaysNoOther (slice_split is_semicolon parameters.now) }
+fn names_no_other_version(parameters: &str) -> bool
+    ensures { IsTrue result ↔ All NamesNoOtherVersion (slice_split is_semicolon parameters.now) }
 {
-    parameters.split(';').all(|parameter| is_fitting(parameter))
+    parameters.split(';').all(|parameter| is_version_2_1_or_absent(parameter))
 }
 
 /// Whether a parameter isn't another version.
-fn is_fitting(parameter: &str) -> bool
-    ensures { IsTrue result ↔ SaysNoOther parameter.now }
+fn is_version_2_1_or_absent(parameter: &str) -> bool
+    ensures { IsTrue result ↔ NamesNoOtherVersion parameter.now }
 {
     match parameter.split_once('=') {
         Some((name, value)) => !is_named(name, "version") || is_version(value),
@@ -59,8 +59,8 @@ fn is_version(value: &str) -> bool
 }
 
 /// Whether the media range takes in every type of which TAXII's is one.
-fn is_wide(member: &str) -> bool
-    ensures { IsTrue result ↔ IsWide member.now }
+fn is_wildcard(member: &str) -> bool
+    ensures { IsTrue result ↔ IsWildcard member.now }
 {
     let range = range_of(member);
     is_named(range, "*/*") || is_named(range, "application/*")

@@ -54,7 +54,7 @@ fn identifier(alloc: Global, member: &str) -> Result<Option<Id>, NoMemory>
     match read_id(alloc, member) {
         Ok(id) => Ok(Some(id)),
         Err(IdRefusal::NoMemory) => Err(NoMemory),
-        Err(IdRefusal::NoMark) => Ok(None),
+        Err(IdRefusal::NoSeparator) => Ok(None),
         Err(IdRefusal::BadUuid) => Ok(None),
         Err(IdRefusal::BadKind { .. }) => Ok(None),
     }

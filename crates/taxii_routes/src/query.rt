@@ -115,16 +115,16 @@ impl Query {
 
 /// Sets what is asked for by a parameter, where its value has a meaning.
 fn set<T: Drop>(
-    wanted: &mut Option<T>,
+    slot: &mut Option<T>,
     meaning: Option<T>,
     bad: QueryRefusal,
 ) -> Result<(), QueryRefusal>
-    ensures { MatchOption meaning ((result ≡ Err bad) × (wanted.new ≡ wanted.old))
-        (λ value. IsOk result × (wanted.new ≡ Some value)) }
+    ensures { MatchOption meaning ((result ≡ Err bad) × (slot.new ≡ slot.old))
+        (λ value. IsOk result × (slot.new ≡ Some value)) }
 {
     if meaning.is_none() {
         return Err(bad);
     }
-    *wanted = meaning;
+    *slot = meaning;
     Ok(())
 }

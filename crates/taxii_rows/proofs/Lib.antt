@@ -1,4 +1,4 @@
 pub mod VersionLemmas
 pub mod SoundLemmas
-pub mod RiseLemmas
+pub mod AscendLemmas
 pub mod StateLemmas

@@ -41,9 +41,9 @@ sound_answer row object is (Ok own) tells =
 sound_answer row object is (Err error) tells = tt
 
 -- the row's body is the object's text, and so the answer is whether the object tells its identifier and version
-pub row_of_text : (row : StoredRow) (d : Data) (text : List ℕ) (told answer : Bool) → text ≡ compact_text d → row.body ≡ text
-    → IsTrue told ↔ (HasId d row.id × Fits row d) → answer ≡ told → IsTrue answer ↔ IsRowOf row d
-row_of_text row d text told answer text_is body tells is = (
+pub row_of_text : (row : StoredRow) (d : Data) (text : List ℕ) (observable answer : Bool) → text ≡ compact_text d → row.body ≡ text
+    → IsTrue observable ↔ (HasId d row.id × Fits row d) → answer ≡ observable → IsTrue answer ↔ IsRowOf row d
+row_of_text row d text observable answer text_is body tells is = (
   λ yes. let both = tells.0 (sym is ∙ yes) in record { compact = body ∙ text_is; named = both.0; fits = both.1 },
   λ own. is ∙ tells.1 (own.named, own.fits),
 )

@@ -46,7 +46,7 @@ one_version one set d first second has also =
 
 pub version_at : (set : TypeSet) (d : Data) (version time : ℤ) → version *ℤ pos 1000 ≡ time → ¬ IsObservableOf set d → IsVersionTime d time
     → HasVersion set d version
-version_at set d version time is versioned told = record { versioned = versioned; time = subst (IsVersionTime d) (sym is) told }
+version_at set d version time is versioned observable = record { versioned = versioned; time = subst (IsVersionTime d) (sym is) observable }
 
 pub no_version : (set : TypeSet) (d : Data) → FindsExactly (IsVersionTime d) None → (version : ℤ) → ¬ HasVersion set d version
 no_version set d none version has = none (version *ℤ pos 1000) has.time

@@ -2,7 +2,7 @@
 use Rattle.std.specs.Prelude.{◌≡◌, ℕ, ◌≤◌, List, ◌++◌, Bool, true, not, nat_eq, nat_lt, Option, option_map, IfSome, All, find, filter}
 use Rattle.std.specs.List.{list_any}
 use Rattle.taxii_rows.specs.declared.stored_row.StoredRow.{StoredRow}
-use Rattle.taxii_rows.specs.StoreState.{StoreState, dates_of, RiseFrom}
+use Rattle.taxii_rows.specs.StoreState.{StoreState, dates_of, AscendFrom}
 
 -- the first row that was added later than the date
 abbrev pub row_after : ℕ → List StoredRow → Option StoredRow
@@ -16,33 +16,33 @@ row_at date rows = find (λ row. nat_eq row.date date) rows
 abbrev pub is_date_in : List ℕ → ℕ → Bool
 is_date_in dates date = list_any (λ one. nat_eq one date) dates
 
--- the state with more rows at the end, and another mark
+-- the state with more rows at the end, and another watermark
 abbrev pub with_rows : List StoredRow → ℕ → StoreState → StoreState
-with_rows rows mark state = record { rows = state.rows ++ rows; mark = mark }
+with_rows rows watermark state = record { rows = state.rows ++ rows; watermark = watermark }
 
--- the state without the rows of these dates, and the same mark
+-- the state without the rows of these dates, and the same watermark
 abbrev pub without : List ℕ → StoreState → StoreState
-without dates state = record { rows = filter (λ row. not (is_date_in dates row.date)) state.rows; mark = state.mark }
+without dates state = record { rows = filter (λ row. not (is_date_in dates row.date)) state.rows; watermark = state.watermark }
 
 -- what contracts see of a keeper: where it tells its rows, these with the last date ever given, and the name that an `attach` last took;
 -- and whether an `attach` has answered `Ok`, which every keeper tells
 pub record Kept : Type 0 where
-  pub told : Option StoreState
+  pub observable : Option StoreState
   pub name : Option (List ℕ)
   pub attached : Bool
 
 -- with another state, where one is told
-abbrev pub retold : (StoreState → StoreState) → Kept → Kept
-retold change kept = record { told = option_map change kept.told; name = kept.name; attached = kept.attached }
+abbrev pub updated : (StoreState → StoreState) → Kept → Kept
+updated change kept = record { observable = option_map change kept.observable; name = kept.name; attached = kept.attached }
 
--- with the rows at the end the dates rise strictly, and the mark isn't earlier than one of the rows
-pub record CanAppend (rows : List StoredRow) (mark : ℕ) (state : StoreState) : Type 0 where
-  pub rise : RiseFrom 1 (dates_of (state.rows ++ rows))
-  pub marked : All (λ row. row.date ≤ mark) rows
+-- with the rows at the end the dates ascend strictly, and the watermark isn't earlier than one of the rows
+pub record CanAppend (rows : List StoredRow) (watermark : ℕ) (state : StoreState) : Type 0 where
+  pub ascend : AscendFrom 1 (dates_of (state.rows ++ rows))
+  pub marked : All (λ row. row.date ≤ watermark) rows
 
--- what stands after an `attach` under a text: the keeper is attached, and where it tells its rows, their dates rise strictly
+-- what stands after an `attach` under a text: the keeper is attached, and where it tells its rows, their dates ascend strictly
 -- and the text is its name
 pub record IsAttached (text : List ℕ) (kept : Kept) : Type 0 where
   pub attached : kept.attached ≡ true
-  pub named : kept.name ≡ option_map (λ _. text) kept.told
-  pub rise : IfSome kept.told (λ state. RiseFrom 1 (dates_of state.rows))
+  pub named : kept.name ≡ option_map (λ _. text) kept.observable
+  pub ascend : IfSome kept.observable (λ state. AscendFrom 1 (dates_of state.rows))

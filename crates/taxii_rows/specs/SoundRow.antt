@@ -1,4 +1,4 @@
--- What makes the rows of a store sound: each is what its body gives, and their dates rise up to the mark.
+-- What makes the rows of a store sound: each is what its body gives, and their dates ascend up to the watermark.
 use Rattle.std.specs.Prelude.{◌≡◌, ◌⊎◌, ◌≤◌, pos, All}
 use Rattle.std.specs.Bool.{MatchBool}
 use Rattle.serde_json.specs.Data.{Data}
@@ -11,7 +11,7 @@ use Rattle.taxii_rows.specs.declared.stored_row.StoredRow.{StoredRow}
 use Rattle.taxii_rows.specs.declared.stored_row.TheConstants.{LAST_DATE}
 use Rattle.taxii_rows.specs.declared.type_set.TypeSet.{TypeSet}
 use Rattle.taxii_rows.specs.declared.type_set.TypeSet.TheVariants.{First, Second}
-use Rattle.taxii_rows.specs.StoreState.{StoreState, dates_of, RiseFrom}
+use Rattle.taxii_rows.specs.StoreState.{StoreState, dates_of, AscendFrom}
 use Rattle.taxii_rows.specs.Version.{HasVersion, IsUndated}
 
 -- the row has the object's version, or the object is undated and the row has its own date as its version
@@ -35,9 +35,9 @@ pub record IsSoundRow (row : StoredRow) : Type 0 where
   pub reads : IsJsonOf row.body object
   pub makes : IsRowOf row (data_of object)
 
--- the dates rise strictly from at least 1, none is later than the mark, nor is the mark than the last date there is, and each row is sound
+-- the dates ascend strictly from at least 1, none is later than the watermark, nor is the watermark than the last date there is, and each row is sound
 pub record IsSoundState (state : StoreState) : Type 0 where
-  pub rise : RiseFrom 1 (dates_of state.rows)
-  pub marked : All (λ row. row.date ≤ state.mark) state.rows
-  pub last : state.mark ≤ LAST_DATE
+  pub ascend : AscendFrom 1 (dates_of state.rows)
+  pub marked : All (λ row. row.date ≤ state.watermark) state.rows
+  pub last : state.watermark ≤ LAST_DATE
   pub rows : All IsSoundRow state.rows

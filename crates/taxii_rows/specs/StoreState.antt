@@ -5,13 +5,13 @@ use Rattle.taxii_rows.specs.declared.stored_row.StoredRow.{StoredRow}
 -- the rows in the order of their dates, and the last date ever given
 pub record StoreState : Type 0 where
   pub rows : List StoredRow
-  pub mark : ℕ
+  pub watermark : ℕ
 
 -- the dates of some rows, in their order
 abbrev pub dates_of : List StoredRow → List ℕ
 dates_of rows = map (λ row. row.date) rows
 
--- the dates rise strictly, from at least this one
-abbrev pub RiseFrom : ℕ → List ℕ → Type 0
-RiseFrom least [] = ⊤
-RiseFrom least (date ∷ dates) = (least ≤ date) × RiseFrom (date + 1) dates
+-- the dates ascend strictly, from at least this one
+abbrev pub AscendFrom : ℕ → List ℕ → Type 0
+AscendFrom least [] = ⊤
+AscendFrom least (date ∷ dates) = (least ≤ date) × AscendFrom (date + 1) dates

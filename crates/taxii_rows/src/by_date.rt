@@ -1,12 +1,12 @@
 ghost use Rattle.std.specs.Prelude.{◌≡◌, ◌≢◌, Some, None, option_map};
-ghost use Rattle.taxii_rows.specs.StoreState.{dates_of, RiseFrom};
+ghost use Rattle.taxii_rows.specs.StoreState.{dates_of, AscendFrom};
 ghost use Rattle.taxii_rows.specs.Keeper.{row_after as first_later, row_at as first_then};
 
 use crate::StoredRow;
 
 /// The first row that was added later than the date, by halving. Takes no memory, as the one below.
 pub fn row_after(rows: &[StoredRow], date: u64) -> Option<&StoredRow>
-    requires { RiseFrom 1 (dates_of rows.now) }
+    requires { AscendFrom 1 (dates_of rows.now) }
     ensures { option_map (λ row. row.now) result ≡ first_later date rows.now }
 {
     let at = rows.partition_point(|row| row.date <= date);
@@ -15,7 +15,7 @@ pub fn row_after(rows: &[StoredRow], date: u64) -> Option<&StoredRow>
 
 /// The row of that date, by halving.
 pub fn row_at(rows: &[StoredRow], date: u64) -> Option<&StoredRow>
-    requires { RiseFrom 1 (dates_of rows.now) }
+    requires { AscendFrom 1 (dates_of rows.now) }
     ensures { option_map (λ row. row.now) result ≡ first_then date rows.now }
 {
     let at = rows.partition_point(|row| row.date < date);

@@ -5,7 +5,7 @@ ghost use Rattle.taxii_rows.specs.Causes.{text_of};
 #[derive(Clone, Copy, Debug, PartialEq, Eq)]
 pub enum FaultCause {
     /// The keeper can't tell, or no call of it has failed.
-    Untold,
+    NotKnown,
     /// It isn't attached, or an earlier failure has shut it.
     Closed,
     /// Another process has the file.
@@ -27,9 +27,9 @@ pub enum FaultCause {
     /// A page of the file isn't what was written.
     Damaged,
     /// The database has other tables than a store.
-    OtherForm,
+    OtherLayout,
     /// A later version of this program made the store.
-    LaterForm,
+    LaterLayout,
     /// The tables hold what no store writes.
     Unsound,
     /// The disk has no room.
@@ -44,7 +44,7 @@ impl FaultCause {
         ensures { result.now ≡ text_of self }
     {
         match self {
-            FaultCause::Untold => "no cause is known",
+            FaultCause::NotKnown => "no cause is known",
             FaultCause::Closed => "an earlier failure closed it",
             FaultCause::Locked => "another process has it",
             FaultCause::NoFolder => "its folder isn't there",
@@ -55,8 +55,8 @@ impl FaultCause {
             FaultCause::NotOpened => "it can't be opened",
             FaultCause::NoDatabase => "it is no database",
             FaultCause::Damaged => "it is damaged",
-            FaultCause::OtherForm => "it is a database of another form",
-            FaultCause::LaterForm => "a later version made it",
+            FaultCause::OtherLayout => "it is a database of another form",
+            FaultCause::LaterLayout => "a later version made it",
             FaultCause::Unsound => "it holds what no store writes",
             FaultCause::Full => "its disk is full",
             FaultCause::Disk => "its disk failed",

@@ -5,7 +5,7 @@ ghost use Rattle.serde_json.specs.Data.{Data};
 ghost use Rattle.taxii_rows.specs.declared.stored_row.StoredRow.{StoredRow};
 ghost use Rattle.taxii_rows.specs.declared.stored_row.TheConstants.{LAST_DATE};
 ghost use Rattle.taxii_rows.specs.declared.type_set.TypeSet.{TypeSet};
-ghost use Rattle.taxii_rows.specs.StoreState.{StoreState, dates_of, RiseFrom};
+ghost use Rattle.taxii_rows.specs.StoreState.{StoreState, dates_of, AscendFrom};
 ghost use Rattle.taxii_rows.specs.Version.{HasVersion, IsUndated};
 ghost use Rattle.taxii_rows.specs.SoundRow.{IsSoundRow, IsSoundState};
 ghost use Rattle.taxii_rows.specs.Keeper.{CanAppend, with_rows, without};
@@ -22,18 +22,18 @@ pub fn one_version()
     one_timestamp();
 }
 
-/// Rows that rise past the mark of a sound state may be added to it.
+/// Rows that ascend past the watermark of a sound state may be added to it.
 pub fn later_rows()
-    ensures { (state : StoreState) (rows : List StoredRow) (mark : ℕ) → IsSoundState state
-        → RiseFrom (state.mark + 1) (dates_of rows) → All (λ row. row.date ≤ mark) rows
-        → CanAppend rows mark state }
+    ensures { (state : StoreState) (rows : List StoredRow) (watermark : ℕ) → IsSoundState state
+        → AscendFrom (state.watermark + 1) (dates_of rows) → All (λ row. row.date ≤ watermark) rows
+        → CanAppend rows watermark state }
 {}
 
-/// A sound state stays sound where sound rows are added with a later mark, and where rows are removed.
+/// A sound state stays sound where sound rows are added with a later watermark, and where rows are removed.
 pub fn sound_states()
-    ensures added { (state : StoreState) (rows : List StoredRow) (mark : ℕ) → IsSoundState state
-        → CanAppend rows mark state → All IsSoundRow rows → state.mark ≤ mark → mark ≤ LAST_DATE
-        → IsSoundState (with_rows rows mark state) }
+    ensures added { (state : StoreState) (rows : List StoredRow) (watermark : ℕ) → IsSoundState state
+        → CanAppend rows watermark state → All IsSoundRow rows → state.watermark ≤ watermark → watermark ≤ LAST_DATE
+        → IsSoundState (with_rows rows watermark state) }
     ensures removed { (state : StoreState) (dates : List ℕ) → IsSoundState state
         → IsSoundState (without dates state) }
 {}

@@ -11,7 +11,7 @@ use crate::{StoredRow, TypeSet, version_of};
 use flow_values::NoMemory;
 use std::alloc::Global;
 use stix_ids::{Id, is_text_of};
-use stix_json::{Json, JsonReader, JsonRefusal, text_at, write_json_with_room};
+use stix_json::{Json, JsonReader, JsonRefusal, text_at, write_json_with_capacity};
 
 /// Whether the row is what its body gives: the body is the compact text of an ordered JSON value, with
 /// the row's identifier, and with its version by the types of observables of either set.
@@ -36,9 +36,9 @@ fn is_row_of(alloc: Global, row: &StoredRow, object: &Json) -> Result<bool, NoMe
     // The writer asks for a byte more than a text takes. Without it the text would move to memory of twice its size, and half of that
     // stay free between the rows that are kept.
     let room = row.body.len().saturating_add(1);
-    let text = write_json_with_room(alloc, object, room)?;
+    let text = write_json_with_capacity(alloc, object, room)?;
     let own = has_body(row, text.as_str());
-    Ok(own && is_told_by(row, object))
+    Ok(own && has_id_and_version(row, object))
 }
 
 fn has_body(row: &StoredRow, text: &str) -> bool
@@ -48,7 +48,7 @@ fn has_body(row: &StoredRow, text: &str) -> bool
 }
 
 /// Whether the row has the object's identifier and version.
-fn is_told_by(row: &StoredRow, object: &Json) -> bool
+fn has_id_and_version(row: &StoredRow, object: &Json) -> bool
     ensures { IsTrue result ↔ (HasId (data_of object.now) row.now.id × Fits row.now (data_of object.now)) }
 {
     has_id(object, &row.id) && fits(row, object)

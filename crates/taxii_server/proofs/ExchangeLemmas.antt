@@ -3,7 +3,7 @@ use Rattle.std.proofs.Common.{◌≡◌, ◌≢◌, ◌⊎◌, inl, inr, ℕ, ze
 use Rattle.std.specs.Prelude.{slice_get}
 use Rattle.flow_edges.specs.Faults.{Counted}
 use Rattle.flow_edges.specs.Flow.{written_with, WritesPart}
-use Rattle.flow_links.specs.Moments.{IsNext, GoesOn}
+use Rattle.flow_links.specs.Moments.{IsNext, Continues}
 use Rattle.http_messages.specs.declared.request.Request.{Request}
 use Rattle.http_messages.specs.declared.status.Status.TheVariants.{InternalServerError}
 use Rattle.taxii_exchange.specs.declared.answer.Answer.{Answer}
@@ -14,17 +14,17 @@ use Rattle.taxii_exchange.proofs.AnswersToRequestsLemmas.{told_fault}
 use Rattle.taxii_service.specs.Step.{Step, FailsToKeep}
 use Rattle.taxii_service.specs.Exchanges.{Course, IsExchange}
 use Rattle.taxii_service.specs.Exchanges.Course.{Stepped, KeeperFailed, OutOfMemory}
-use Rattle.taxii_server.specs.Outside.{Outside, GivesMoments}
+use Rattle.taxii_server.specs.Environment.{Environment, GivesMoments}
 use Rattle.taxii_server.specs.Connections.{Pass, is_out_of_memory}
 use Rattle.taxii_server.specs.inner.Answering.{Answers}
 
 -- the next moment alone
-moments-one : (moment : ℕ) (before now : ℕ → Option ℕ) → IsNext before moment → GoesOn before now → GivesMoments (moment ∷ []) before now
-moments-one moment before now next goes_on = record { given = given; goes_on = goes_on }
+moments-one : (moment : ℕ) (before now : ℕ → Option ℕ) → IsNext before moment → Continues before now → GivesMoments (moment ∷ []) before now
+moments-one moment before now next continues = record { given = given; continues = continues }
   where
-    given : (n told : ℕ) → slice_get (moment ∷ []) n ≡ Some told → IfSome (before n) (λ its. told ≡ its)
-    given zero told is = subst (λ (m : ℕ). IfSome (before 0) (λ its. m ≡ its)) (cc is) next
-    given (suc n) told is = absurd (cc is)
+    given : (n observable : ℕ) → slice_get (moment ∷ []) n ≡ Some observable → IfSome (before n) (λ its. observable ≡ its)
+    given zero observable is = subst (λ (m : ℕ). IfSome (before 0) (λ its. m ≡ its)) (cc is) next
+    given (suc n) observable is = absurd (cc is)
 
 -- what was written of an answer to a request
 abbrev pub Writes : {E : Type 0} → Bool → List ℕ → Option (List ℕ) → Option (List ℕ) → Result Bool E → Type 0
@@ -32,11 +32,11 @@ Writes close text written now result =
     MatchResult result (λ closes. (closes ≡ close) × (now ≡ written_with text written)) (λ _. WritesPart text written now)
 
 -- an exchange, with what it asks of the clock and of the keeper
-pub record Exchanged (config : Config) (before : State) (moment : ℕ) (request : Request) (outside now : Outside) (out_of_memory : Bool) (answer : Answer) (after : State) : Type 0 where
+pub record Exchanged (config : Config) (before : State) (moment : ℕ) (request : Request) (environment now : Environment) (out_of_memory : Bool) (answer : Answer) (after : State) : Type 0 where
   pub course : Course
   pub memory : is_out_of_memory course ≡ out_of_memory
   pub its : IsExchange config (record { before = before; moment = moment; request = request; course = course; answer = answer; after = after })
-  pub passes : Pass (record { before = before; moment = moment; request = request; course = course; answer = answer; after = after } ∷ []) outside now
+  pub passes : Pass (record { before = before; moment = moment; request = request; course = course; answer = answer; after = after } ∷ []) environment now
 
 -- what a law of steps says
 abbrev pub NoStepTellsAStoreFault : Type 0
@@ -44,37 +44,37 @@ NoStepTellsAStoreFault = (config : Config) (before : State) (moment : ℕ) (requ
     → Step config before moment request answer after → answer.status ≢ InternalServerError
 
 -- a step, or a fault of the keeper
-pub exchanged-answer : NoStepTellsAStoreFault → {config : Config} {before : State} {moment : ℕ} {request : Request} {outside now : Outside} {answer : Answer} {after : State}
+pub exchanged-answer : NoStepTellsAStoreFault → {config : Config} {before : State} {moment : ℕ} {request : Request} {environment now : Environment} {answer : Answer} {after : State}
     → Step config before moment request answer after ⊎ FailsToKeep config before moment request answer after
-    → IsNext outside.moments moment → GoesOn outside.moments now.moments → Counted (answer.status ≡ InternalServerError) outside.faults now.faults
-    → Exchanged config before moment request outside now false answer after
-exchanged-answer law {moment = moment} {outside = outside} {now = now} (inl step) next goes_on tells =
+    → IsNext environment.moments moment → Continues environment.moments now.moments → Counted (answer.status ≡ InternalServerError) environment.faults now.faults
+    → Exchanged config before moment request environment now false answer after
+exchanged-answer law {moment = moment} {environment = environment} {now = now} (inl step) next continues tells =
     let quiet = tells.quiet (law _ _ _ _ _ _ step) in record {
       course = Stepped;
       memory = refl;
       its = step;
-      passes = record { moments = moments-one moment outside.moments now.moments next goes_on; faults = omega (arith, quiet); quiet = λ none. quiet };
+      passes = record { moments = moments-one moment environment.moments now.moments next continues; faults = omega (arith, quiet); quiet = λ none. quiet };
     }
-exchanged-answer law {moment = moment} {request = request} {outside = outside} {now = now} (inr fails) next goes_on tells = record {
+exchanged-answer law {moment = moment} {request = request} {environment = environment} {now = now} (inr fails) next continues tells = record {
   course = KeeperFailed;
   memory = refl;
   its = fails;
   passes = record {
-    moments = moments-one moment outside.moments now.moments next goes_on;
+    moments = moments-one moment environment.moments now.moments next continues;
     faults = tells.failed (ap (λ (its : Answer). its.status) fails.answer_is ∙ told_fault request.method);
     quiet = λ none. absurd (cc none);
   };
 }
 
 -- want of memory, where nothing has changed
-pub exchanged-no_memory : {config : Config} {before : State} {moment : ℕ} {request : Request} {outside now : Outside} {after : State}
-    → after ≡ before → IsNext outside.moments moment → GoesOn outside.moments now.moments → now.faults ≡ outside.faults
-    → Exchanged config before moment request outside now true no_memory_answer after
-exchanged-no_memory {moment = moment} {outside = outside} {now = now} same next goes_on quiet = record {
+pub exchanged-no_memory : {config : Config} {before : State} {moment : ℕ} {request : Request} {environment now : Environment} {after : State}
+    → after ≡ before → IsNext environment.moments moment → Continues environment.moments now.moments → now.faults ≡ environment.faults
+    → Exchanged config before moment request environment now true no_memory_answer after
+exchanged-no_memory {moment = moment} {environment = environment} {now = now} same next continues quiet = record {
   course = OutOfMemory;
   memory = refl;
   its = (refl, same);
-  passes = record { moments = moments-one moment outside.moments now.moments next goes_on; faults = omega (arith, quiet); quiet = λ none. quiet };
+  passes = record { moments = moments-one moment environment.moments now.moments next continues; faults = omega (arith, quiet); quiet = λ none. quiet };
 }
 
 -- whether the connection ends after an answer
@@ -91,11 +91,11 @@ closes-no_memory true last = refl
 closes-no_memory false last = refl
 
 -- an exchange whose answer was written, or less than all of it
-pub answers : {E : Type 0} {config : Config} {before : State} {moment : ℕ} {request : Request} {is_last : Bool} {outside now : Outside}
+pub answers : {E : Type 0} {config : Config} {before : State} {moment : ℕ} {request : Request} {is_last : Bool} {environment now : Environment}
     {out_of_memory : Bool} {answer : Answer} {after : State} {close : Bool} {text : List ℕ} {written written_now : Option (List ℕ)} {result : Result Bool E}
-    → Exchanged config before moment request outside now out_of_memory answer after
+    → Exchanged config before moment request environment now out_of_memory answer after
     → close ≡ (request.close || out_of_memory || is_last) → IsAnswerText answer close text → Writes close text written written_now result
-    → Answers config before request is_last outside now written written_now result after
+    → Answers config before request is_last environment now written written_now result after
 answers {before = before} {moment = moment} {request = request} {is_last = is_last} {answer = answer} {after = after} {close = close} {text = text} exchanged close_is text_is writes = record {
   exchange = record { before = before; moment = moment; request = request; course = exchanged.course; answer = answer; after = after };
   its = exchanged.its;

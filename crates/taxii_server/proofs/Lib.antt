@@ -1,9 +1,9 @@
-mod OutsideLemmas
+mod EnvironmentLemmas
 mod BytesLemmas
 mod TakesLemmas
 mod ExchangeLemmas
 mod RepliesLemmas
 mod SoFarLemmas
 mod EndsLemmas
-mod FarewellLemmas
-mod CallersLemmas
+mod ClosingAnswerLemmas
+mod ClientsLemmas

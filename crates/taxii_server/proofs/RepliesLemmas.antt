@@ -5,7 +5,7 @@ use Rattle.std.proofs.lemmas.List.{append-nil}
 use Rattle.flow_edges.specs.Flow.{written_with, WritesPart}
 use Rattle.taxii_exchange.specs.Answers.{IsAnswerText}
 use Rattle.taxii_service.specs.Exchanges.{Exchange}
-use Rattle.taxii_server.specs.Connections.{Reply, is_out_of_memory, replies_within, GoOn, End, AreTexts, WritesReplies, CutsReplies}
+use Rattle.taxii_server.specs.Connections.{Reply, is_out_of_memory, replies_within, Continue, End, AreTexts, WritesReplies, CutsReplies}
 
 -- the reply to an exchange before which so many may be given
 abbrev pub reply_within : ℕ → Exchange → Reply
@@ -26,9 +26,9 @@ replies-count left (first ∷ exchanges) = ap suc (replies-count (left - 1) exch
 pub last-within : (most requests : ℕ) → requests < most → nat_eq (most - requests) 1 ≡ nat_eq (requests + 1) most
 last-within most requests few = grind (arith, nat_tests)
 
-pub go_on-next : (replies : List Reply) (reply : Reply) → GoOn replies → reply.close ≡ false → GoOn (replies ++ reply ∷ [])
-go_on-next [] reply go_on stays = (stays, tt)
-go_on-next (first ∷ replies) reply (its, go_on) stays = (its, go_on-next replies reply go_on stays)
+pub proceed-next : (replies : List Reply) (reply : Reply) → Continue replies → reply.close ≡ false → Continue (replies ++ reply ∷ [])
+proceed-next [] reply proceed stays = (stays, tt)
+proceed-next (first ∷ replies) reply (its, proceed) stays = (its, proceed-next replies reply proceed stays)
 
 texts-next : (replies : List Reply) (reply : Reply) (text more : List ℕ) → AreTexts replies text → IsAnswerText reply.answer reply.close more
     → AreTexts (replies ++ reply ∷ []) (text ++ more)
@@ -50,10 +50,10 @@ writes-next replies reply more before middle now (text, are, is) its says =
     (text ++ more, texts-next replies reply text more are its, says ∙ ap (written_with more) is ∙ written-then text more before)
 
 -- the last one ends the connection
-pub end-next : (replies : List Reply) (reply : Reply) → GoOn replies → reply.close ≡ true → End (replies ++ reply ∷ [])
-end-next replies reply go_on close = (replies, reply, refl, go_on, close)
+pub end-next : (replies : List Reply) (reply : Reply) → Continue replies → reply.close ≡ true → End (replies ++ reply ∷ [])
+end-next replies reply proceed close = (replies, reply, refl, proceed, close)
 
 -- less than all of the last one was written
-pub cuts-next : (replies : List Reply) (reply : Reply) (text : List ℕ) (before middle now : Option (List ℕ)) → GoOn replies → WritesReplies replies before middle
+pub cuts-next : (replies : List Reply) (reply : Reply) (text : List ℕ) (before middle now : Option (List ℕ)) → Continue replies → WritesReplies replies before middle
     → IsAnswerText reply.answer reply.close text → WritesPart text middle now → CutsReplies (replies ++ reply ∷ []) before now
-cuts-next replies reply text before middle now go_on writes its part = (replies, reply, middle, text, refl, go_on, writes, its, part)
+cuts-next replies reply text before middle now proceed writes its part = (replies, reply, middle, text, refl, proceed, writes, its, part)

@@ -10,14 +10,14 @@ use Rattle.taxii_exchange.specs.declared.config.Config.{Config}
 use Rattle.taxii_service.specs.declared.state.State.{State}
 use Rattle.taxii_service.specs.Exchanges.{Exchange, IsExchange, Follow, HasServed}
 use Rattle.taxii_server.specs.declared.connection.TheConstants.{MAX_BODY, MAX_REQUESTS}
-use Rattle.taxii_server.specs.declared.pause.Pause.{Pause}
-use Rattle.taxii_server.specs.Connections.{BeginWith, Reply, is_out_of_memory, replies_within, GoOn, WritesReplies, Pass}
-use Rattle.taxii_server.specs.Outside.{LinkView, Outside, Takes}
+use Rattle.taxii_server.specs.declared.receive_end.ReceiveEnd.{ReceiveEnd}
+use Rattle.taxii_server.specs.Connections.{BeginWith, Reply, is_out_of_memory, replies_within, Continue, WritesReplies, Pass}
+use Rattle.taxii_server.specs.Environment.{LinkView, Environment, Takes}
 use Rattle.taxii_server.specs.inner.Answering.{Answers}
 use Rattle.taxii_server.specs.inner.Receiving.{Receives, WantedMore, IsInTime}
 use Rattle.taxii_server.proofs.BytesLemmas.{LaterBytesChangeNothing, begin_with-more, begin_with-next}
-use Rattle.taxii_server.proofs.OutsideLemmas.{pass-none, pass-then}
-use Rattle.taxii_server.proofs.RepliesLemmas.{reply_within, replies-next, last-within, go_on-next, writes-none, writes-next}
+use Rattle.taxii_server.proofs.EnvironmentLemmas.{pass-none, pass-then}
+use Rattle.taxii_server.proofs.RepliesLemmas.{reply_within, replies-next, last-within, proceed-next, writes-none, writes-next}
 use Rattle.taxii_server.proofs.TakesLemmas.{takes-none, takes-then, still-in-time}
 
 -- ---- what a server did, and one exchange more
@@ -37,26 +37,26 @@ served-next config before middle after exchanges e served its is is_after = reco
 -- ---- what was answered
 
 -- these requests were answered so far: all but what was written
-pub record HasAnswered (config : Config) (before : State) (outside : Outside) (left : Option (List ℕ)) (rest : List ℕ) (requests : ℕ)
-    (now : State) (outside_now : Outside) (left_now : Option (List ℕ)) (exchanges : List Exchange) : Type 0 where
+pub record HasAnswered (config : Config) (before : State) (environment : Environment) (left : Option (List ℕ)) (rest : List ℕ) (requests : ℕ)
+    (now : State) (environment_now : Environment) (left_now : Option (List ℕ)) (exchanges : List Exchange) : Type 0 where
   pub taken : List ℕ
   pub takes : Takes taken left left_now
   pub begins : BeginWith taken (map (λ e. e.request) exchanges) rest
   pub served : HasServed config before exchanges now
   pub count : length exchanges ≡ requests
-  pub passes : Pass exchanges outside outside_now
+  pub passes : Pass exchanges environment environment_now
 
 -- so far the connection goes on
-pub record SoFar (config : Config) (before : State) (outside : Outside) (link : LinkView) (rest : List ℕ) (requests : ℕ)
-    (now : State) (outside_now : Outside) (left_now written_now : Option (List ℕ)) : Type 0 where
+pub record SoFar (config : Config) (before : State) (environment : Environment) (link : LinkView) (rest : List ℕ) (requests : ℕ)
+    (now : State) (environment_now : Environment) (left_now written_now : Option (List ℕ)) : Type 0 where
   pub exchanges : List Exchange
-  pub answered : HasAnswered config before outside link.left rest requests now outside_now left_now exchanges
-  pub go_on : GoOn (replies_within MAX_REQUESTS exchanges)
+  pub answered : HasAnswered config before environment link.left rest requests now environment_now left_now exchanges
+  pub proceed : Continue (replies_within MAX_REQUESTS exchanges)
   pub writes : WritesReplies (replies_within MAX_REQUESTS exchanges) link.written written_now
 
 -- nothing was taken yet
-pub so_far-start : (config : Config) (before : State) (outside : Outside) (link : LinkView) → SoFar config before outside link [] 0 before outside link.left link.written
-so_far-start config before outside link = record {
+pub so_far-start : (config : Config) (before : State) (environment : Environment) (link : LinkView) → SoFar config before environment link [] 0 before environment link.left link.written
+so_far-start config before environment link = record {
   exchanges = [];
   answered = record {
     taken = [];
@@ -64,18 +64,18 @@ so_far-start config before outside link = record {
     begins = refl;
     served = record { each = All-nil (IsExchange config); follow = refl };
     count = refl;
-    passes = pass-none outside;
+    passes = pass-none environment;
   };
-  go_on = tt;
+  proceed = tt;
   writes = writes-none link.written;
 }
 
 -- bytes were taken for the next request
-pub so_far-received : {config : Config} {before : State} {outside : Outside} {link : LinkView} {rest after : List ℕ} {requests : ℕ} {now : State}
-    {outside_now : Outside} {left_now left_then written_now written_then : Option (List ℕ)} {faults faults_now : ℕ} {result : Result Request Pause}
-    → LaterBytesChangeNothing → SoFar config before outside link rest requests now outside_now left_now written_now
+pub so_far-received : {config : Config} {before : State} {environment : Environment} {link : LinkView} {rest after : List ℕ} {requests : ℕ} {now : State}
+    {environment_now : Environment} {left_now left_then written_now written_then : Option (List ℕ)} {faults faults_now : ℕ} {result : Result Request ReceiveEnd}
+    → LaterBytesChangeNothing → SoFar config before environment link rest requests now environment_now left_now written_now
     → (received : Receives rest after left_now left_then faults faults_now result) → written_then ≡ written_now
-    → SoFar config before outside link (rest ++ received.taken) requests now outside_now left_then written_then
+    → SoFar config before environment link (rest ++ received.taken) requests now environment_now left_then written_then
 so_far-received later so_far received same = record {
   exchanges = so_far.exchanges;
   answered = record {
@@ -86,43 +86,43 @@ so_far-received later so_far received same = record {
     count = so_far.answered.count;
     passes = so_far.answered.passes;
   };
-  go_on = so_far.go_on;
+  proceed = so_far.proceed;
   writes = rw same so_far.writes;
 }
 
 -- the last read began when only the requests that were answered had come whole
-pub received-in-time : {L : Type 0} {config : Config} {before : State} {outside : Outside} {link : LinkView} {rest : List ℕ} {requests : ℕ} {now : State}
-    {outside_now : Outside} {written_now : Option (List ℕ)} → LaterBytesChangeNothing → (left began : L → Option (List ℕ)) (old new : L)
-    → SoFar config before outside link rest requests now outside_now (left old) written_now
+pub received-in-time : {L : Type 0} {config : Config} {before : State} {environment : Environment} {link : LinkView} {rest : List ℕ} {requests : ℕ} {now : State}
+    {environment_now : Environment} {written_now : Option (List ℕ)} → LaterBytesChangeNothing → (left began : L → Option (List ℕ)) (old new : L)
+    → SoFar config before environment link rest requests now environment_now (left old) written_now
     → IsInTime link.left (left old) (began old) requests → (new ≡ old) ⊎ IfSome (began new) (WantedMore rest (left old))
     → IsInTime link.left (left new) (began new) requests
 received-in-time {rest = rest} {requests = requests} later left began old new so_far in_time wanted =
     still-in-time so_far.answered.taken rest (map (λ e. e.request) so_far.exchanges) requests later in_time so_far.answered.takes so_far.answered.begins
-    (length-map so_far.exchanges (λ e. e.request) ∙ so_far.answered.count) (told wanted)
+    (length-map so_far.exchanges (λ e. e.request) ∙ so_far.answered.count) (observable wanted)
   where
-    told : (new ≡ old) ⊎ IfSome (began new) (WantedMore rest (left old))
+    observable : (new ≡ old) ⊎ IfSome (began new) (WantedMore rest (left old))
         → ((left new ≡ left old) × (began new ≡ began old)) ⊎ IfSome (began new) (WantedMore rest (left old))
-    told (inl same) = inl (ap left same, ap began same)
-    told (inr wants) = inr wants
+    observable (inl same) = inl (ap left same, ap began same)
+    observable (inr wants) = inr wants
 
 -- ---- one request more
 
 -- the request is the next one, and its answer, before which so many were given, was written or less than all of it
-pub record IsNextAnswer {E : Type 0} (config : Config) (rest after : List ℕ) (requests : ℕ) (now : State) (outside_now : Outside) (written_now : Option (List ℕ))
-    (result : Result Bool E) (state_then : State) (outside_then : Outside) (written_then : Option (List ℕ)) : Type 0 where
+pub record IsNextAnswer {E : Type 0} (config : Config) (rest after : List ℕ) (requests : ℕ) (now : State) (environment_now : Environment) (written_now : Option (List ℕ))
+    (result : Result Bool E) (state_then : State) (environment_then : Environment) (written_then : Option (List ℕ)) : Type 0 where
   pub request : Request
   pub is_last : Bool
-  pub answers : Answers config now request is_last outside_now outside_then written_now written_then result state_then
+  pub answers : Answers config now request is_last environment_now environment_then written_now written_then result state_then
   pub first : IsFirstFrame MAX_BODY rest (Given request) after
   pub last : is_last ≡ nat_eq (requests + 1) MAX_REQUESTS
   pub few : requests < MAX_REQUESTS
 
 -- what was answered with it
-pub answered-next : {E : Type 0} {config : Config} {before : State} {outside : Outside} {left : Option (List ℕ)} {rest after : List ℕ} {requests : ℕ}
-    {now state_then : State} {outside_now outside_then : Outside} {left_now written_now written_then : Option (List ℕ)} {exchanges : List Exchange} {result : Result Bool E}
-    → HasAnswered config before outside left rest requests now outside_now left_now exchanges
-    → (next : IsNextAnswer config rest after requests now outside_now written_now result state_then outside_then written_then)
-    → HasAnswered config before outside left after (requests + 1) state_then outside_then left_now (exchanges ++ next.answers.exchange ∷ [])
+pub answered-next : {E : Type 0} {config : Config} {before : State} {environment : Environment} {left : Option (List ℕ)} {rest after : List ℕ} {requests : ℕ}
+    {now state_then : State} {environment_now environment_then : Environment} {left_now written_now written_then : Option (List ℕ)} {exchanges : List Exchange} {result : Result Bool E}
+    → HasAnswered config before environment left rest requests now environment_now left_now exchanges
+    → (next : IsNextAnswer config rest after requests now environment_now written_now result state_then environment_then written_then)
+    → HasAnswered config before environment left after (requests + 1) state_then environment_then left_now (exchanges ++ next.answers.exchange ∷ [])
 answered-next {config = config} {before = before} {rest = rest} {after = after} {now = now} {state_then = state_then} {exchanges = exchanges} has next = record {
   taken = has.taken;
   takes = has.takes;
@@ -137,9 +137,9 @@ abbrev pub next_reply : List Exchange → Exchange → Reply
 next_reply exchanges e = reply_within (MAX_REQUESTS - length exchanges) e
 
 -- its reply ends the connection where its answer does
-pub next_reply-closes : {E : Type 0} {config : Config} {rest after : List ℕ} {requests : ℕ} {now state_then : State} {outside_now outside_then : Outside}
+pub next_reply-closes : {E : Type 0} {config : Config} {rest after : List ℕ} {requests : ℕ} {now state_then : State} {environment_now environment_then : Environment}
     {written_now written_then : Option (List ℕ)} {result : Result Bool E} (exchanges : List Exchange) → length exchanges ≡ requests
-    → (next : IsNextAnswer config rest after requests now outside_now written_now result state_then outside_then written_then)
+    → (next : IsNextAnswer config rest after requests now environment_now written_now result state_then environment_then written_then)
     → (next_reply exchanges next.answers.exchange).close ≡ next.answers.close
 next_reply-closes {requests = requests} exchanges count next =
     let at : nat_eq (MAX_REQUESTS - length exchanges) 1 ≡ next.is_last =
@@ -151,33 +151,33 @@ not-last : (requests most : ℕ) → requests < most → nat_eq (requests + 1) m
 not-last requests most few not = grind (arith, nat_tests)
 
 last-is : (asked lacks last : Bool) → (asked || lacks || last) ≡ false → last ≡ false
-last-is true lacks last go_on = absurd (cc go_on)
-last-is false true last go_on = absurd (cc go_on)
-last-is false false last go_on = go_on
+last-is true lacks last proceed = absurd (cc proceed)
+last-is false true last proceed = absurd (cc proceed)
+last-is false false last proceed = proceed
 
 -- where the connection goes on after it, it isn't the last that may be given
-pub few-next : {E : Type 0} {config : Config} {rest after : List ℕ} {requests : ℕ} {now state_then : State} {outside_now outside_then : Outside}
+pub few-next : {E : Type 0} {config : Config} {rest after : List ℕ} {requests : ℕ} {now state_then : State} {environment_now environment_then : Environment}
     {written_now written_then : Option (List ℕ)} {closes : Bool}
-    → IsNextAnswer {E = E} config rest after requests now outside_now written_now (Ok closes) state_then outside_then written_then
+    → IsNextAnswer {E = E} config rest after requests now environment_now written_now (Ok closes) state_then environment_then written_then
     → closes ≡ false → requests + 1 < MAX_REQUESTS
-few-next {requests = requests} next goes_on =
+few-next {requests = requests} next continues =
     let not : nat_eq (requests + 1) MAX_REQUESTS ≡ false =
-    sym next.last ∙ last-is next.request.close (is_out_of_memory next.answers.exchange.course) next.is_last (sym next.answers.close_is ∙ sym next.answers.writes.0 ∙ goes_on) in
+    sym next.last ∙ last-is next.request.close (is_out_of_memory next.answers.exchange.course) next.is_last (sym next.answers.close_is ∙ sym next.answers.writes.0 ∙ continues) in
     not-last requests MAX_REQUESTS next.few not
 
 -- the connection goes on after it
-pub so_far-next : {E : Type 0} {config : Config} {before : State} {outside : Outside} {link : LinkView} {rest after : List ℕ} {requests : ℕ}
-    {now state_then : State} {outside_now outside_then : Outside} {left_now written_now written_then : Option (List ℕ)} {closes : Bool} (left_then : Option (List ℕ))
-    → SoFar config before outside link rest requests now outside_now left_now written_now
-    → IsNextAnswer {E = E} config rest after requests now outside_now written_now (Ok closes) state_then outside_then written_then
+pub so_far-next : {E : Type 0} {config : Config} {before : State} {environment : Environment} {link : LinkView} {rest after : List ℕ} {requests : ℕ}
+    {now state_then : State} {environment_now environment_then : Environment} {left_now written_now written_then : Option (List ℕ)} {closes : Bool} (left_then : Option (List ℕ))
+    → SoFar config before environment link rest requests now environment_now left_now written_now
+    → IsNextAnswer {E = E} config rest after requests now environment_now written_now (Ok closes) state_then environment_then written_then
     → left_then ≡ left_now → closes ≡ false
-    → SoFar config before outside link after (requests + 1) state_then outside_then left_then written_then
-so_far-next left_then so_far next same goes_on =
+    → SoFar config before environment link after (requests + 1) state_then environment_then left_then written_then
+so_far-next left_then so_far next same continues =
     let reply = next_reply so_far.exchanges next.answers.exchange in
     let close : reply.close ≡ next.answers.close = next_reply-closes so_far.exchanges so_far.answered.count next in
     record {
       exchanges = so_far.exchanges ++ next.answers.exchange ∷ [];
       answered = rw same (answered-next so_far.answered next);
-      go_on = rw replies-next (go_on-next _ reply so_far.go_on (close ∙ sym next.answers.writes.0 ∙ goes_on));
+      proceed = rw replies-next (proceed-next _ reply so_far.proceed (close ∙ sym next.answers.writes.0 ∙ continues));
       writes = rw replies-next (writes-next _ reply next.answers.text _ _ _ so_far.writes (rw close next.answers.text_is) next.answers.writes.1);
     }

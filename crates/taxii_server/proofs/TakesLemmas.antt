@@ -7,12 +7,12 @@ use Rattle.http_messages.specs.declared.request_refusal.Refusal.{Refusal}
 use Rattle.http_messages.specs.declared.request.Request.{Request}
 use Rattle.http_messages.specs.Frames.{IsFirstFrame}
 use Rattle.taxii_server.specs.declared.connection.TheConstants.{MAX_BODY}
-use Rattle.taxii_server.specs.declared.pause.Pause.{Pause}
-use Rattle.taxii_server.specs.declared.pause.Pause.TheVariants.{AtEnd, Refused, NoMemory, Failed}
+use Rattle.taxii_server.specs.declared.receive_end.ReceiveEnd.{ReceiveEnd}
+use Rattle.taxii_server.specs.declared.receive_end.ReceiveEnd.TheVariants.{AtEnd, Refused, NoMemory, Failed}
 use Rattle.taxii_server.specs.Connections.{BeginWith, Reply, RepliesInTime}
-use Rattle.taxii_server.specs.Outside.{LinkView, Takes}
+use Rattle.taxii_server.specs.Environment.{LinkView, Takes}
 use Rattle.taxii_server.proofs.BytesLemmas.{LaterBytesChangeNothing, begin_with-more}
-use Rattle.taxii_server.specs.inner.Receiving.{Lacks, TakesMore, PausesAt, Receives, WantedMore, IsInTime}
+use Rattle.taxii_server.specs.inner.Receiving.{Lacks, TakesMore, StopsReceivingAt, Receives, WantedMore, IsInTime}
 
 -- none was taken
 pub takes-none : (left now : Option (List ℕ)) → now ≡ left → Takes [] left now
@@ -59,30 +59,30 @@ pub fed-falls : (most : ℕ) (before after taken : List ℕ) → length before <
 fed-falls most before after taken room fed some = omega (arith, ap length fed, length-append before taken)
 
 -- why no more bytes were taken
-pub takes_more-err : {T : Type 0} {before after : List ℕ} {left now : Option (List ℕ)} {faults faults_now : ℕ} (taken : List ℕ) (its : Pause) (result : Result T Pause)
-    → IsErrAnd result (λ pause. pause ≡ its) → Takes taken left now → Lacks taken now faults faults_now its → TakesMore before after left now faults faults_now result
+pub takes_more-err : {T : Type 0} {before after : List ℕ} {left now : Option (List ℕ)} {faults faults_now : ℕ} (taken : List ℕ) (its : ReceiveEnd) (result : Result T ReceiveEnd)
+    → IsErrAnd result (λ receive_end. receive_end ≡ its) → Takes taken left now → Lacks taken now faults faults_now its → TakesMore before after left now faults faults_now result
 takes_more-err taken its (Ok done) failed takes lacks = absurd failed
-takes_more-err {now = now} {faults = faults} {faults_now = faults_now} taken its (Err pause) failed takes lacks =
-    record { taken = taken; takes = takes; gives = subst (λ (p : Pause). Lacks taken now faults faults_now p) (sym failed) lacks }
+takes_more-err {now = now} {faults = faults} {faults_now = faults_now} taken its (Err receive_end) failed takes lacks =
+    record { taken = taken; takes = takes; gives = subst (λ (p : ReceiveEnd). Lacks taken now faults faults_now p) (sym failed) lacks }
 
 -- bytes to which none were added still want more
-pauses : (bytes taken : List ℕ) (left : Option (List ℕ)) (faults now : ℕ) (pause : Pause) → IsFirstFrame MAX_BODY bytes More bytes
-    → Lacks taken left faults now pause → PausesAt (bytes ++ taken) left faults now pause
+pauses : (bytes taken : List ℕ) (left : Option (List ℕ)) (faults now : ℕ) (receive_end : ReceiveEnd) → IsFirstFrame MAX_BODY bytes More bytes
+    → Lacks taken left faults now receive_end → StopsReceivingAt (bytes ++ taken) left faults now receive_end
 pauses bytes taken left faults now AtEnd first (none, ended) = (rw (none, append-nil bytes) first, ended)
 pauses bytes taken left faults now (Refused refusal) first lacks = absurd lacks
 pauses bytes taken left faults now NoMemory first lacks = tt
 pauses bytes taken left faults now Failed first (none, rose) = (rw (none, append-nil bytes) first, rose)
 
 -- after some bytes were taken, which want more, no more were
-pub receives-pause : {T : Type 0} {before fed rest after : List ℕ} {left middle now : Option (List ℕ)} {faults faults_middle faults_now : ℕ} {pause : Pause} (result : Result Request Pause)
-    → HasTaken before fed left middle → IsFirstFrame MAX_BODY fed More rest → TakesMore {T = T} rest after middle now faults_middle faults_now (Err pause)
-    → faults_middle ≡ faults → IsErrAnd result (λ p. p ≡ pause) → Receives before after left now faults faults_now result
-receives-pause (Ok request) has first more quiet failed = absurd failed
-receives-pause {before = before} {fed = fed} {left = left} {middle = middle} {now = now} {faults_middle = faults_middle} {faults_now = faults_now} {pause = pause} (Err its) has first more quiet failed =
+pub receives-receive_end : {T : Type 0} {before fed rest after : List ℕ} {left middle now : Option (List ℕ)} {faults faults_middle faults_now : ℕ} {receive_end : ReceiveEnd} (result : Result Request ReceiveEnd)
+    → HasTaken before fed left middle → IsFirstFrame MAX_BODY fed More rest → TakesMore {T = T} rest after middle now faults_middle faults_now (Err receive_end)
+    → faults_middle ≡ faults → IsErrAnd result (λ p. p ≡ receive_end) → Receives before after left now faults faults_now result
+receives-receive_end (Ok request) has first more quiet failed = absurd failed
+receives-receive_end {before = before} {fed = fed} {left = left} {middle = middle} {now = now} {faults_middle = faults_middle} {faults_now = faults_now} {receive_end = receive_end} (Err its) has first more quiet failed =
     let bytes : fed ++ more.taken ≡ before ++ (has.taken ++ more.taken) =
     ap (λ (front : List ℕ). front ++ more.taken) has.fed ∙ append_assoc before has.taken more.taken in
     let wants : IsFirstFrame MAX_BODY fed More fed = (first.0, refl) in
-    let at : PausesAt (fed ++ more.taken) now faults_middle faults_now pause = pauses fed more.taken now faults_middle faults_now pause wants more.gives in
+    let at : StopsReceivingAt (fed ++ more.taken) now faults_middle faults_now receive_end = pauses fed more.taken now faults_middle faults_now receive_end wants more.gives in
     record {
       taken = has.taken ++ more.taken;
       takes = takes-then has.taken more.taken left middle now has.takes more.takes;
@@ -97,8 +97,8 @@ receives-refused has first = record { taken = has.taken; takes = has.takes; give
 -- ---- when the last read began
 
 pub each_told : (began : Option (List ℕ)) {P Q : List ℕ → Type 0} → ((bytes : List ℕ) → P bytes → Q bytes) → IfSome began P → IfSome began Q
-each_told None each told = tt
-each_told (Some bytes) each told = each bytes told
+each_told None each observable = tt
+each_told (Some bytes) each observable = each bytes observable
 
 -- all bytes are those taken, and then those left
 takes-all : (taken bytes : List ℕ) (first left : Option (List ℕ)) → Takes taken first left → left ≡ Some bytes → first ≡ Some (taken ++ bytes)
@@ -110,13 +110,13 @@ takes-all taken bytes (Some all) left takes is =
 -- a read that began behind bytes that want more
 pub wanted-more : {before fed rest : List ℕ} {first left : Option (List ℕ)} → HasTaken before fed first left → IsFirstFrame MAX_BODY fed More rest
     → (began : Option (List ℕ)) → IfSome began (λ bytes. left ≡ Some bytes) → IfSome began (WantedMore before first)
-wanted-more {fed = fed} {first = first} {left = left} has more began told =
+wanted-more {fed = fed} {first = first} {left = left} has more began observable =
     let wants : IsFirstFrame MAX_BODY fed More fed = (more.0, refl) in
     each_told began (λ bytes is. record {
       early = has.taken;
       all = takes-all has.taken bytes first left has.takes is;
       wants = rw (← has.fed) wants;
-    }) told
+    }) observable
 
 -- so it began when only the requests that were given before had come whole
 pub still-in-time : {first left left_then began began_then : Option (List ℕ)} (taken rest : List ℕ) (requests : List Request) (given : ℕ)
@@ -124,7 +124,7 @@ pub still-in-time : {first left left_then began began_then : Option (List ℕ)} 
     → ((left_then ≡ left) × (began_then ≡ began)) ⊎ IfSome began_then (WantedMore rest left) → IsInTime first left_then began_then given
 still-in-time {first = first} {left_then = left_then} taken rest requests given later so_far takes begins count (inl same) =
     rw (same.0, same.1) so_far
-still-in-time {first = first} {left = left} {began_then = began_then} taken rest requests given later so_far takes begins count (inr told) =
+still-in-time {first = first} {left = left} {began_then = began_then} taken rest requests given later so_far takes begins count (inr observable) =
     inr (each_told began_then (λ bytes wanted. (
       given,
       omega arith,
@@ -137,14 +137,14 @@ still-in-time {first = first} {left = left} {began_then = began_then} taken rest
         wants = wanted.wants;
         count = count;
       },
-    )) told)
+    )) observable)
 
 -- and so before one reply more is due
 pub next-in-time : {first left : Option (List ℕ)} (began : Option (List ℕ)) (given later : ℕ) → given ≤ later → IsInTime first left began given → IsInTime first left began later
 next-in-time began given later fewer (inl same) = inl same
-next-in-time began given later fewer (inr told) = inr (each_told began (λ bytes came. (came.0, omega (arith, came.1, fewer), came.2)) told)
+next-in-time began given later fewer (inr observable) = inr (each_told began (λ bytes came. (came.0, omega (arith, came.1, fewer), came.2)) observable)
 
 pub replies-in-time : (before now : LinkView) (replies : List Reply) (given : ℕ) → given < length replies → IsInTime before.left now.left now.began given
     → RepliesInTime before now replies
 replies-in-time before now replies given fewer (inl same) = inl same
-replies-in-time before now replies given fewer (inr told) = inr (each_told now.began (λ bytes came. (came.0, omega (arith, came.1, fewer), came.2)) told)
+replies-in-time before now replies given fewer (inr observable) = inr (each_told now.began (λ bytes came. (came.0, omega (arith, came.1, fewer), came.2)) observable)

@@ -1,6 +1,6 @@
 -- One connection (RFC 9112, sections 9.3 and 9.6): the requests of its bytes, each answered in turn, and how it ends.
 use Rattle.std.specs.Prelude.{◌≡◌, ◌⊎◌, ⊤, ℕ, ◌+◌, ◌-◌, ◌<◌, List, [], ◌∷◌, ◌++◌, length, map, Bool, true, false, ◌||◌, if◌then◌else◌, nat_eq, Option, Some, None, IfSome}
-use Rattle.flow_edges.specs.Faults.{Rose}
+use Rattle.flow_edges.specs.Faults.{HasIncreased}
 use Rattle.flow_edges.specs.Flow.{written_with, WritesPart, IsAtEnd}
 use Rattle.http_messages.specs.declared.frame.Frame.TheVariants.{More, Request as Given, Refused}
 use Rattle.http_messages.specs.declared.request_refusal.Refusal.{Refusal}
@@ -15,7 +15,7 @@ use Rattle.taxii_service.specs.Exchanges.Course.{Stepped, KeeperFailed, OutOfMem
 use Rattle.taxii_server.specs.declared.connection.TheConstants.{MAX_BODY, MAX_REQUESTS}
 use Rattle.taxii_server.specs.declared.link_end.LinkEnd.{LinkEnd}
 use Rattle.taxii_server.specs.declared.link_end.LinkEnd.TheVariants.{Closed, LinkFault}
-use Rattle.taxii_server.specs.Outside.{LinkView, Takes, Outside, GivesMoments, RoseBy}
+use Rattle.taxii_server.specs.Environment.{LinkView, Takes, Environment, GivesMoments, HasIncreasedBy}
 
 -- the bytes begin with these requests, one after the other, and the rest follows them
 abbrev pub BeginWith : List ℕ → List Request → List ℕ → Type 0
@@ -64,27 +64,27 @@ replies_within left (e ∷ exchanges) =
 
 -- what is said besides the answers to requests, before the connection ends: why the bytes are refused that aren't given yet, or that
 -- memory ran out
-abbrev pub IsFarewell : List ℕ → Option Answer → Type 0
-IsFarewell rest None = ⊤
-IsFarewell rest (Some answer) = ((refusal : Refusal) × IsFirstFrame MAX_BODY rest (Refused refusal) rest × (answer ≡ answer_to refusal)) ⊎ (answer ≡ no_memory_answer)
+abbrev pub IsClosingAnswer : List ℕ → Option Answer → Type 0
+IsClosingAnswer rest None = ⊤
+IsClosingAnswer rest (Some answer) = ((refusal : Refusal) × IsFirstFrame MAX_BODY rest (Refused refusal) rest × (answer ≡ answer_to refusal)) ⊎ (answer ≡ no_memory_answer)
 
 -- it ends the connection
-abbrev pub farewell_reply : Option Answer → List Reply
-farewell_reply None = []
-farewell_reply (Some answer) = record { answer = answer; close = true } ∷ []
+abbrev pub closing_answer_reply : Option Answer → List Reply
+closing_answer_reply None = []
+closing_answer_reply (Some answer) = record { answer = answer; close = true } ∷ []
 
 -- all replies of a connection
 abbrev pub replies_of : List Exchange → Option Answer → List Reply
-replies_of exchanges farewell = replies_within MAX_REQUESTS exchanges ++ farewell_reply farewell
+replies_of exchanges closing_answer = replies_within MAX_REQUESTS exchanges ++ closing_answer_reply closing_answer
 
 -- no reply says that the connection ends
-abbrev pub GoOn : List Reply → Type 0
-GoOn [] = ⊤
-GoOn (reply ∷ replies) = (reply.close ≡ false) × GoOn replies
+abbrev pub Continue : List Reply → Type 0
+Continue [] = ⊤
+Continue (reply ∷ replies) = (reply.close ≡ false) × Continue replies
 
 -- the last reply says that the connection ends, and no other does
 abbrev pub End : List Reply → Type 0
-End replies = (before : List Reply) × (last : Reply) × (replies ≡ before ++ (last ∷ [])) × GoOn before × (last.close ≡ true)
+End replies = (before : List Reply) × (last : Reply) × (replies ≡ before ++ (last ∷ [])) × Continue before × (last.close ≡ true)
 
 -- the text of the replies, one after the other
 abbrev pub AreTexts : List Reply → List ℕ → Type 0
@@ -100,7 +100,7 @@ WritesReplies replies before now = (text : List ℕ) × AreTexts replies text ×
 abbrev pub CutsReplies : List Reply → Option (List ℕ) → Option (List ℕ) → Type 0
 CutsReplies replies before now =
     (whole : List Reply) × (last : Reply) × (middle : Option (List ℕ)) × (text : List ℕ) × (replies ≡ whole ++ (last ∷ []))
-    × GoOn whole × WritesReplies whole before middle × IsAnswerText last.answer last.close text × WritesPart text middle now
+    × Continue whole × WritesReplies whole before middle × IsAnswerText last.answer last.close text × WritesPart text middle now
 
 -- the last read began before the last of these replies was due, as fewer requests had come whole: so each reply is written before more is
 -- read. Where memory is wanting from the start, nothing was read
@@ -115,18 +115,18 @@ IsQuiet before now = (now.read_faults ≡ before.read_faults) × (now.write_faul
 -- so a connection ends: by a reply that says so, or at the end of what the peer sends
 abbrev pub IsClosed : LinkView → LinkView → List ℕ → List Reply → Type 0
 IsClosed before now rest replies = IsQuiet before now × WritesReplies replies before.written now.written
-    × (End replies ⊎ (GoOn replies × IsFirstFrame MAX_BODY rest More rest × IsAtEnd now.left))
+    × (End replies ⊎ (Continue replies × IsFirstFrame MAX_BODY rest More rest × IsAtEnd now.left))
 
 -- or a read failed, while more was wanted for the next request, or a write of a reply
 abbrev pub IsCut : LinkView → LinkView → List ℕ → List Reply → Type 0
 IsCut before now rest replies =
-    (Rose before.read_faults now.read_faults × GoOn replies × IsFirstFrame MAX_BODY rest More rest × WritesReplies replies before.written now.written)
-    ⊎ (Rose before.write_faults now.write_faults × CutsReplies replies before.written now.written × RepliesInTime before now replies)
+    (HasIncreased before.read_faults now.read_faults × Continue replies × IsFirstFrame MAX_BODY rest More rest × WritesReplies replies before.written now.written)
+    ⊎ (HasIncreased before.write_faults now.write_faults × CutsReplies replies before.written now.written × RepliesInTime before now replies)
 
 -- the connection ended so
 abbrev pub Ends : LinkEnd → LinkView → LinkView → List ℕ → List Exchange → Option Answer → Type 0
-Ends (Closed requests) before now rest exchanges farewell = IsClosed before now rest (replies_of exchanges farewell)
-Ends (LinkFault requests) before now rest exchanges farewell = IsCut before now rest (replies_of exchanges farewell)
+Ends (Closed requests) before now rest exchanges closing_answer = IsClosed before now rest (replies_of exchanges closing_answer)
+Ends (LinkFault requests) before now rest exchanges closing_answer = IsCut before now rest (replies_of exchanges closing_answer)
 
 -- how many requests were answered, or begun to be
 abbrev pub requests_of : LinkEnd → ℕ
@@ -137,17 +137,17 @@ requests_of (LinkFault requests) = requests
 pub record Connection (config : Config) (before : State) (link_before link_now : LinkView) (exchanges : List Exchange) (end : LinkEnd) (after : State) : Type 0 where
   pub taken : List ℕ
   pub rest : List ℕ
-  pub farewell : Option Answer
+  pub closing_answer : Option Answer
   pub takes : Takes taken link_before.left link_now.left
   pub requests : BeginWith taken (map (λ e. e.request) exchanges) rest
   pub served : HasServed config before exchanges after
   pub count : requests_of end ≡ length exchanges
-  pub farewell_is : IsFarewell rest farewell
-  pub ends : Ends end link_before link_now rest exchanges farewell
+  pub closing_answer_is : IsClosingAnswer rest closing_answer
+  pub ends : Ends end link_before link_now rest exchanges closing_answer
 
 -- what requests ask of the clock and of the keeper: each takes the next moment; each fault of the keeper was counted, and where there was none
 -- the count stays
-pub record Pass (exchanges : List Exchange) (before now : Outside) : Type 0 where
+pub record Pass (exchanges : List Exchange) (before now : Environment) : Type 0 where
   pub moments : GivesMoments (map (λ e. e.moment) exchanges) before.moments now.moments
-  pub faults : RoseBy (keeper_faults exchanges) before.faults now.faults
+  pub faults : HasIncreasedBy (keeper_faults exchanges) before.faults now.faults
   pub quiet : keeper_faults exchanges ≡ 0 → now.faults ≡ before.faults

@@ -1,4 +1,4 @@
-pub mod Outside
+pub mod Environment
 pub mod Connections
 pub mod Serving
 pub mod inner

@@ -1,4 +1,4 @@
--- A server behind its door: callers are served one after the other, each from what the one before left.
+-- A server behind its door: clients are served one after the other, each from what the one before left.
 use Rattle.std.specs.Prelude.{◌≡◌, ◌⊎◌, ℕ, List, [], ◌∷◌, ◌++◌, length, map, Option, Some, IfSome}
 use Rattle.std.specs.List.{flat_map}
 use Rattle.flow_edges.specs.Faults.{counted}
@@ -7,38 +7,38 @@ use Rattle.taxii_exchange.specs.declared.config.Config.{Config}
 use Rattle.taxii_service.specs.declared.state.State.{State}
 use Rattle.taxii_service.specs.Exchanges.{Exchange}
 use Rattle.taxii_server.specs.declared.link_end.LinkEnd.{LinkEnd}
-use Rattle.taxii_server.specs.Outside.{LinkView}
+use Rattle.taxii_server.specs.Environment.{LinkView}
 use Rattle.taxii_server.specs.Connections.{Connection}
 use Rattle.taxii_server.specs.declared.served.Served.{Served}
 
--- a caller: the link as the door gave it and as it was handed back, what was asked and answered over it, and how that ended
-pub record Caller (L : Type 0) : Type 0 where
+-- a client: the link as the door gave it and as it was handed back, what was asked and answered over it, and how that ended
+pub record Client (L : Type 0) : Type 0 where
   pub given : L
   pub finished : L
   pub exchanges : List Exchange
   pub end : LinkEnd
 
 -- all that was asked and answered
-abbrev pub exchanges_of : {L : Type 0} → List (Caller L) → List Exchange
-exchanges_of callers = flat_map (λ caller. caller.exchanges) callers
+abbrev pub exchanges_of : {L : Type 0} → List (Client L) → List Exchange
+exchanges_of clients = flat_map (λ client. client.exchanges) clients
 
--- each caller had its connection, from what the one before left
-abbrev pub HaveConnections : {L : Type 0} → (L → LinkView) → Config → State → List (Caller L) → State → Type 0
+-- each client had its connection, from what the one before left
+abbrev pub HaveConnections : {L : Type 0} → (L → LinkView) → Config → State → List (Client L) → State → Type 0
 HaveConnections view config before [] after = after ≡ before
-HaveConnections view config before (caller ∷ callers) after = (middle : State)
-    × Connection config before (view caller.given) (view caller.finished) caller.exchanges caller.end middle
-    × HaveConnections view config middle callers after
+HaveConnections view config before (client ∷ clients) after = (middle : State)
+    × Connection config before (view client.given) (view client.finished) client.exchanges client.end middle
+    × HaveConnections view config middle clients after
 
 -- the door was opened once, at the port; the links to come were given, and handed back, in order
-abbrev pub PassThrough : {L : Type 0} → ℕ → List (Caller L) → Option (DoorState L) → Option (DoorState L) → Type 0
-PassThrough port callers before now = Changes (λ state now.
-    (state.coming ≡ map (λ caller. caller.given) callers ++ now.coming)
-    × (now.finished ≡ state.finished ++ map (λ caller. caller.finished) callers)
+abbrev pub PassThrough : {L : Type 0} → ℕ → List (Client L) → Option (DoorState L) → Option (DoorState L) → Type 0
+PassThrough port clients before now = Changes (λ state now.
+    (state.coming ≡ map (λ client. client.given) clients ++ now.coming)
+    × (now.finished ≡ state.finished ++ map (λ client. client.finished) clients)
     × (now.opened ≡ counted state.opened)
     × (now.port ≡ Some port)
     × (now.given ≡ state.given)) before now
 
--- so many callers were served as were asked for, or no further one is to come, as far as the door tells
-abbrev pub IsWholeOf : {L : Type 0} → ℕ → List (Caller L) → Option (DoorState L) → Served → Type 0
-IsWholeOf many callers now served = (served.connections ≡ length callers) × (served.requests ≡ length (exchanges_of callers))
-    × ((length callers ≡ many) ⊎ IfSome now (λ state. state.coming ≡ []))
+-- so many clients were served as were asked for, or no further one is to come, as far as the door tells
+abbrev pub IsWholeOf : {L : Type 0} → ℕ → List (Client L) → Option (DoorState L) → Served → Type 0
+IsWholeOf many clients now served = (served.connections ≡ length clients) × (served.requests ≡ length (exchanges_of clients))
+    × ((length clients ≡ many) ⊎ IfSome now (λ state. state.coming ≡ []))

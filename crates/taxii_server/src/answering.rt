@@ -9,7 +9,7 @@ use flow_values::{Fault, NoMemory};
 use http_messages::Request;
 use taxii_exchange::{write_answer, write_no_memory};
 use taxii_rows::Keeper;
-use taxii_service::step_laws::no_step_tells_a_store_fault;
+use taxii_service::step_laws::no_step_reports_a_store_fault;
 use taxii_service::respond;
 
 /// Answers a request at the clock's next moment, and whether the connection ends then. Where memory ran
@@ -32,7 +32,7 @@ pub(crate) fn answer<K: Keeper, L: Link, C: Clock>(
     ensures causes { Counted (IsErr result) (L.Sink.faults link.old) (L.Sink.faults link.new) }
     ensures unread { L.Sink.other link.new ≡ L.Sink.other link.old }
 {
-    no_step_tells_a_store_fault();
+    no_step_reports_a_store_fault();
     let moment = clock.now();
     let answer = respond(&server.config, &mut server.state, keeper, moment, request);
     match answer {

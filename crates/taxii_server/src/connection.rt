@@ -2,11 +2,11 @@ ghost use Rattle.std.specs.Prelude.{◌≡◌, ◌≤◌, List};
 ghost use Rattle.taxii_store.specs.Agreement.{Agrees, without_rows};
 ghost use Rattle.taxii_service.specs.Exchanges.{Exchange};
 ghost use Rattle.taxii_server.specs.Connections.{Connection, Pass, requests_of};
-ghost use Rattle.taxii_server.specs.Outside.{link_view};
+ghost use Rattle.taxii_server.specs.Environment.{link_view};
 
 use crate::answering::answer;
-use crate::farewell::take_leave;
-use crate::pause::Pause;
+use crate::closing_answer::write_closing_answer;
+use crate::receive_end::ReceiveEnd;
 use crate::receiver::Receiver;
 use crate::{LinkEnd, Server};
 use flow_links::{Clock, Link};
@@ -44,13 +44,13 @@ pub fn serve_link<K: Keeper, L: Link, C: Clock>(
     let alloc = server.config.alloc;
     let mut receiver = match Receiver::new(alloc) {
         Ok(receiver) => receiver,
-        Err(NoMemory) => return LinkEnd::after(take_leave(alloc, Pause::NoMemory, link), 0),
+        Err(NoMemory) => return LinkEnd::after(write_closing_answer(alloc, ReceiveEnd::NoMemory, link), 0),
     };
     let mut requests = 0;
     loop {
         let request = match receiver.receive(link) {
             Ok(request) => request,
-            Err(pause) => return LinkEnd::after(take_leave(alloc, pause, link), requests),
+            Err(receive_end) => return LinkEnd::after(write_closing_answer(alloc, receive_end, link), requests),
         };
         requests += 1;
         let is_last = requests == MAX_REQUESTS;

@@ -1,4 +1,4 @@
-//! A TAXII 2.1 server behind its door: callers are served one after the other. The requests of a caller's
+//! A TAXII 2.1 server behind its door: clients are served one after the other. The requests of a caller's
 //! bytes are answered in turn, until one asks for the end, the peer sends no more, or its bytes are
 //! refused (RFC 9112, sections 9.3 and 9.6).
 //!
@@ -9,10 +9,10 @@
 mod answering;
 mod connection;
 mod door;
-mod farewell;
+mod closing_answer;
 pub mod laws;
 mod link_end;
-mod pause;
+mod receive_end;
 mod receiver;
 mod served;
 mod server;

@@ -2,11 +2,11 @@ ghost use Rattle.std.specs.Prelude.{◌≡◌, ◌≢◌, ◌⊎◌, [], Some, E
 ghost use Rattle.taxii_server.specs.inner.Receiving.{Receives, TakesMore, WantedMore};
 
 use crate::connection::MAX_BODY;
-use crate::pause::Pause;
+use crate::receive_end::ReceiveEnd;
 use flow_edges::MAX_READ;
 use flow_links::Link;
 use flow_values::NoMemory;
-use http_messages::request_laws::few_bytes_want_more;
+use http_messages::request_laws::few_bytes_need_more;
 use http_messages::{Frame, Request, Session};
 use std::alloc::Global;
 use std::marker::Model;
@@ -27,7 +27,7 @@ impl Model for Receiver {
 
     ghost view = { λ receiver. receiver.session.fed };
 
-    ghost invariant = { λ receiver. (receiver.session.greatest_body ≡ MAX_BODY) × (vec_len receiver.buffer ≡ MAX_READ) };
+    ghost invariant = { λ receiver. (receiver.session.max_body ≡ MAX_BODY) × (vec_len receiver.buffer ≡ MAX_READ) };
 }
 
 impl Receiver {
@@ -42,32 +42,32 @@ impl Receiver {
     }
 
     /// The next request, for which bytes are taken from the link as long as more are wanted.
-    pub(crate) fn receive<L: Link>(&mut self, link: &mut L) -> Result<Request, Pause>
+    pub(crate) fn receive<L: Link>(&mut self, link: &mut L) -> Result<Request, ReceiveEnd>
         ensures receives { Receives self.old self.new (L.left link.old) (L.left link.new) (L.Source.faults link.old) (L.Source.faults link.new) result }
         ensures in_time { (link.new ≡ link.old) ⊎ IfSome (L.began link.new) (WantedMore self.old (L.left link.old)) }
         ensures unwritten { L.Source.other link.new ≡ L.Source.other link.old }
-        ensures quiet { result ≢ Err Pause.Failed → L.Source.faults link.new ≡ L.Source.faults link.old }
+        ensures quiet { result ≢ Err ReceiveEnd.Failed → L.Source.faults link.new ≡ L.Source.faults link.old }
     {
-        few_bytes_want_more();
+        few_bytes_need_more();
         loop {
             match self.session.next_request()? {
                 Frame::Request(request) => return Ok(request),
-                Frame::Refused(refusal) => return Err(Pause::Refused(refusal)),
+                Frame::Refused(refusal) => return Err(ReceiveEnd::Refused(refusal)),
                 Frame::More => self.take(link)?,
             }
         }
     }
 
     /// Takes the next bytes of the link, one at least.
-    fn take<L: Link>(&mut self, link: &mut L) -> Result<(), Pause>
+    fn take<L: Link>(&mut self, link: &mut L) -> Result<(), ReceiveEnd>
         ensures takes { TakesMore self.old self.new (L.left link.old) (L.left link.new) (L.Source.faults link.old) (L.Source.faults link.new) result }
         ensures began { IfSome (L.began link.new) (λ bytes. L.left link.old ≡ Some bytes) }
         ensures unwritten { L.Source.other link.new ≡ L.Source.other link.old }
-        ensures quiet { result ≢ Err Pause.Failed → L.Source.faults link.new ≡ L.Source.faults link.old }
+        ensures quiet { result ≢ Err ReceiveEnd.Failed → L.Source.faults link.new ≡ L.Source.faults link.old }
     {
         let count = link.read(&mut self.buffer)?;
         if count == 0 {
-            return Err(Pause::AtEnd);
+            return Err(ReceiveEnd::AtEnd);
         }
         self.session.feed(&self.buffer[..count])?;
         Ok(())

@@ -4,7 +4,7 @@ use Rattle.std.specs.Prelude.{IfErr, IsErrAnd}
 use Rattle.taxii_rows.specs.declared.stored_row.StoredRow.{StoredRow}
 use Rattle.taxii_rows.specs.declared.described.Described.{Described}
 use Rattle.taxii_rows.specs.Described.{row_of}
-use Rattle.taxii_index.specs.Presence.{row_of_same}
+use Rattle.taxii_index.specs.Presence.{duplicate_of}
 use Rattle.taxii_store.specs.declared.add_outcome.AddOutcome.{AddOutcome}
 use Rattle.taxii_store.specs.declared.add_outcome.AddOutcome.TheVariants.{Added, Present}
 use Rattle.taxii_store.specs.Addition.{Adds}
@@ -17,7 +17,7 @@ handed_on (Err other) refusal Rule given its = subst Rule (sym given) its
 pub as_many : (collection date : ℕ) (rows : List StoredRow) (objects : List Described) (outcomes : List AddOutcome) (new : List StoredRow)
     → Adds collection date rows objects outcomes new → length outcomes ≡ length objects
 as_many collection date rows [] outcomes new adds = ap length adds.0
-as_many collection date rows (object ∷ objects) outcomes new adds = next (row_of_same collection object rows) adds
+as_many collection date rows (object ∷ objects) outcomes new adds = next (duplicate_of collection object rows) adds
     (λ others it. as_many collection date rows objects others new it)
     (λ others more it. as_many collection (date + 1) (rows ++ row_of object date collection ∷ []) objects others more it)
   where

@@ -1,56 +1,56 @@
--- Histories: one goes on with another, and each keeps the dates rising up to the mark.
+-- Histories: one goes on with another, and each keeps the dates ascending up to the watermark.
 use Rattle.std.proofs.Common.{◌≡◌, ◌⊎◌, inl, inr, ℕ, ◌+◌, ◌≤◌, List, [], ◌∷◌, ◌++◌, All, Bool, true, false, cond, refl, sym, subst, arith}
 use Rattle.std.specs.Prelude.{not, filter}
 use Rattle.std.proofs.lemmas.List.{map-append}
 use Rattle.std.proofs.lemmas.List.Elements.{All-head, All-tail, All-map, All-append, All-weaker, All-filter}
 use Rattle.taxii_rows.specs.declared.stored_row.StoredRow.{StoredRow}
-use Rattle.taxii_rows.specs.StoreState.{StoreState, dates_of, RiseFrom}
+use Rattle.taxii_rows.specs.StoreState.{StoreState, dates_of, AscendFrom}
 use Rattle.taxii_rows.specs.Keeper.{is_date_in, with_rows, without}
 use Rattle.taxii_store.specs.History.{IsDated, IsAddition, IsDeletion, Becomes, IsHistory}
 
--- ---- rising dates
+-- ---- ascending dates
 
-pub rise_from_earlier : (least later : ℕ) (dates : List ℕ) → least ≤ later → RiseFrom later dates → RiseFrom least dates
-rise_from_earlier least later [] earlier rise = tt
-rise_from_earlier least later (date ∷ dates) earlier rise = (omega (arith, rise.0), rise.1)
+pub ascend_from_earlier : (least later : ℕ) (dates : List ℕ) → least ≤ later → AscendFrom later dates → AscendFrom least dates
+ascend_from_earlier least later [] earlier ascend = tt
+ascend_from_earlier least later (date ∷ dates) earlier ascend = (omega (arith, ascend.0), ascend.1)
 
-rise_append : (least last : ℕ) (dates later : List ℕ) → least ≤ last + 1 → RiseFrom least dates → All (λ date. date ≤ last) dates → RiseFrom (last + 1) later
-    → RiseFrom least (dates ++ later)
-rise_append least last [] later before rise within behind = rise_from_earlier least (last + 1) later before behind
-rise_append least last (date ∷ dates) later before rise within behind =
+ascend_append : (least last : ℕ) (dates later : List ℕ) → least ≤ last + 1 → AscendFrom least dates → All (λ date. date ≤ last) dates → AscendFrom (last + 1) later
+    → AscendFrom least (dates ++ later)
+ascend_append least last [] later before ascend within behind = ascend_from_earlier least (last + 1) later before behind
+ascend_append least last (date ∷ dates) later before ascend within behind =
     let here : date ≤ last = All-head (λ date. date ≤ last) date dates within in
-    (rise.0, rise_append (date + 1) last dates later (omega arith) rise.1 (All-tail (λ date. date ≤ last) date dates within) behind)
+    (ascend.0, ascend_append (date + 1) last dates later (omega arith) ascend.1 (All-tail (λ date. date ≤ last) date dates within) behind)
 
-kept : (least : ℕ) (row : StoredRow) (rows : List StoredRow) (stays : Bool) → least ≤ row.date → RiseFrom (row.date + 1) (dates_of rows)
-    → RiseFrom least (dates_of (cond stays (row ∷ rows) rows))
-kept least row rows true here rise = (here, rise)
-kept least row rows false here rise = rise_from_earlier least (row.date + 1) (dates_of rows) (omega arith) rise
+kept : (least : ℕ) (row : StoredRow) (rows : List StoredRow) (stays : Bool) → least ≤ row.date → AscendFrom (row.date + 1) (dates_of rows)
+    → AscendFrom least (dates_of (cond stays (row ∷ rows) rows))
+kept least row rows true here ascend = (here, ascend)
+kept least row rows false here ascend = ascend_from_earlier least (row.date + 1) (dates_of rows) (omega arith) ascend
 
--- rows that are taken out leave the others rising
-rise_filter : (least : ℕ) (test : StoredRow → Bool) (rows : List StoredRow) → RiseFrom least (dates_of rows) → RiseFrom least (dates_of (filter test rows))
-rise_filter least test [] rise = tt
-rise_filter least test (row ∷ rows) rise = kept least row (filter test rows) (test row) rise.0 (rise_filter (row.date + 1) test rows rise.1)
+-- rows that are taken out leave the others ascending
+ascend_filter : (least : ℕ) (test : StoredRow → Bool) (rows : List StoredRow) → AscendFrom least (dates_of rows) → AscendFrom least (dates_of (filter test rows))
+ascend_filter least test [] ascend = tt
+ascend_filter least test (row ∷ rows) ascend = kept least row (filter test rows) (test row) ascend.0 (ascend_filter (row.date + 1) test rows ascend.1)
 
 -- ---- what keeps them so
 
-with_dated : (state after : StoreState) (step : IsAddition state after) → IsDated state → IsDated (with_rows step.rows after.mark state)
+with_dated : (state after : StoreState) (step : IsAddition state after) → IsDated state → IsDated (with_rows step.rows after.watermark state)
 with_dated state after step dated =
     let date = λ (row : StoredRow). row.date in
-    let within : All (λ date. date ≤ state.mark) (dates_of state.rows) = All-map (λ date. date ≤ state.mark) date state.rows dated.marked in
-    let rise : RiseFrom 1 (dates_of state.rows ++ dates_of step.rows) =
-    rise_append 1 state.mark (dates_of state.rows) (dates_of step.rows) (omega arith) dated.rise within step.rise in
-    let later = step.mark in
+    let within : All (λ date. date ≤ state.watermark) (dates_of state.rows) = All-map (λ date. date ≤ state.watermark) date state.rows dated.marked in
+    let ascend : AscendFrom 1 (dates_of state.rows ++ dates_of step.rows) =
+    ascend_append 1 state.watermark (dates_of state.rows) (dates_of step.rows) (omega arith) dated.ascend within step.ascend in
+    let later = step.watermark in
     record {
-      rise = subst (RiseFrom 1) (sym (map-append date state.rows step.rows)) rise;
-      marked = All-append (λ row. row.date ≤ after.mark) state.rows step.rows
-          (All-weaker (λ row. row.date ≤ state.mark) (λ row. row.date ≤ after.mark) (λ row low. omega (arith, low, later)) state.rows dated.marked) step.marked;
+      ascend = subst (AscendFrom 1) (sym (map-append date state.rows step.rows)) ascend;
+      marked = All-append (λ row. row.date ≤ after.watermark) state.rows step.rows
+          (All-weaker (λ row. row.date ≤ state.watermark) (λ row. row.date ≤ after.watermark) (λ row low. omega (arith, low, later)) state.rows dated.marked) step.marked;
     }
 
 without_dated : (state : StoreState) (dates : List ℕ) → IsDated state → IsDated (without dates state)
 without_dated state dates dated =
     let stays = λ (row : StoredRow). not (is_date_in dates row.date) in record {
-      rise = rise_filter 1 stays state.rows dated.rise;
-      marked = All-filter stays (λ row. row.date ≤ state.mark) state.rows dated.marked;
+      ascend = ascend_filter 1 stays state.rows dated.ascend;
+      marked = All-filter stays (λ row. row.date ≤ state.watermark) state.rows dated.marked;
     }
 
 -- an addition keeps a store dated, and so does a deletion

@@ -5,7 +5,7 @@ use Rattle.std.specs.List.{Contains, AllZip}
 use Rattle.std.proofs.lemmas.Bool.{eqb-true, eq-eqb}
 use Rattle.std.proofs.lemmas.List.Elements.{All-nil, All-cons, All-head, All-tail, All-contains, All-contains_itself, Contains-append_left, Contains-append_right, Contains-append_cases}
 use Rattle.taxii_rows.specs.declared.stored_row.StoredRow.{StoredRow}
-use Rattle.taxii_rows.specs.StoreState.{RiseFrom}
+use Rattle.taxii_rows.specs.StoreState.{AscendFrom}
 use Rattle.taxii_rows.specs.Keeper.{row_at}
 use Rattle.taxii_store.specs.declared.add_outcome.AddOutcome.{AddOutcome}
 use Rattle.taxii_store.specs.Addition.{date_in}
@@ -14,13 +14,13 @@ use Rattle.taxii_bodies.specs.Details.{IsSuccessOf}
 use Rattle.taxii_service.specs.Adding.{IsSuccess}
 use Rattle.taxii_service.specs.inner.Preparing.{HasRow}
 
-pub rise_from_1 : (least : ℕ) (dates : List ℕ) → 1 ≤ least → RiseFrom least dates → RiseFrom 1 dates
-rise_from_1 least [] some rise = tt
-rise_from_1 least (date ∷ dates) some rise = (omega (arith, some, rise.0), rise.1)
+pub ascend_from_1 : (least : ℕ) (dates : List ℕ) → 1 ≤ least → AscendFrom least dates → AscendFrom 1 dates
+ascend_from_1 least [] some ascend = tt
+ascend_from_1 least (date ∷ dates) some ascend = (omega (arith, some, ascend.0), ascend.1)
 
-pub rise_from_0 : (least : ℕ) (dates : List ℕ) → RiseFrom least dates → RiseFrom 0 dates
-rise_from_0 least [] rise = tt
-rise_from_0 least (date ∷ dates) rise = (omega arith, rise.1)
+pub ascend_from_0 : (least : ℕ) (dates : List ℕ) → AscendFrom least dates → AscendFrom 0 dates
+ascend_from_0 least [] ascend = tt
+ascend_from_0 least (date ∷ dates) ascend = (omega arith, ascend.1)
 
 find_is : (test : StoredRow → Bool) (P : StoredRow → Type 0) (rows : List StoredRow) → All P rows → IfSome (find test rows) (λ row. P row × (test row ≡ true))
 find_is test P [] all = tt

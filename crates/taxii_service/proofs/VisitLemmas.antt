@@ -35,7 +35,7 @@ is_stop : (config : Config) (wanted : Wanted) (next : Option ℕ) (e : Exchange)
 is_stop config wanted next e stop visit dated = record {
   dated = dated;
   alike = visit.alike;
-  goes_on = visit.goes_on;
+  continues = visit.continues;
   page = visit.page;
 }
 
@@ -59,10 +59,10 @@ ends_here config wanted next e state stop some here dated (visit, no_more, last)
 }
 
 -- or the walk goes on among those behind it
-goes_on_here : (config : Config) (wanted : Wanted) (next : Option ℕ) (e : Exchange) (state later : StoreState) (stop other : Stop) (stops : List Stop) (some : List Exchange)
+continues_here : (config : Config) (wanted : Wanted) (next : Option ℕ) (e : Exchange) (state later : StoreState) (stop other : Stop) (stops : List Stop) (some : List Exchange)
     → stop.state ≡ state → IsDated state → IsHistory state later → VisitFrom config wanted next (e ∷ some) stop (other ∷ stops)
     → Reaches wanted (last_date stop.page) later other stops → Reaches wanted next state stop (other ∷ stops)
-goes_on_here config wanted next e state later stop other stops some here dated between (visit, more, visits) reaches = record {
+continues_here config wanted next e state later stop other stops some here dated between (visit, more, visits) reaches = record {
   goes = (
     is_stop config wanted next e stop visit (subst IsDated (sym here) dated),
     more,
@@ -88,7 +88,7 @@ reached config wanted next (first ∷ exchanges) (e ∷ some) before after stop 
 reached config wanted next (first ∷ exchanges) (e ∷ some) before after stop (other ∷ stops) each (begins, follow) dated (inl (same, among)) visits =
     let here : stop.state ≡ before.library = visits.0.state ∙ ap (λ (one : Exchange). one.before.library) same ∙ ap (λ (state : State). state.library) begins in
     let between : IsHistory before.library first.after.library = first_history config before first begins (All-head (IsExchange config) first exchanges each) in
-    goes_on_here config wanted next e before.library first.after.library stop other stops some here dated between visits
+    continues_here config wanted next e before.library first.after.library stop other stops some here dated between visits
     (reached config wanted (last_date stop.page) exchanges some first.after after other stops (All-tail (IsExchange config) first exchanges each) follow
     (history_dated before.library first.after.library between dated) among visits.2)
 

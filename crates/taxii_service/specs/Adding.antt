@@ -4,7 +4,7 @@ use Rattle.std.specs.List.{Contains, AllZip}
 use Rattle.taxii_rows.specs.declared.stored_row.StoredRow.{StoredRow}
 use Rattle.taxii_rows.specs.Keeper.{with_rows}
 use Rattle.taxii_store.specs.declared.add_outcome.AddOutcome.{AddOutcome}
-use Rattle.taxii_store.specs.Addition.{IsAddition, UsesUpDates, date_in, mark_after}
+use Rattle.taxii_store.specs.Addition.{IsAddition, UsesUpDates, date_in, watermark_after}
 use Rattle.taxii_bodies.specs.declared.details.Detail.{Detail}
 use Rattle.taxii_bodies.specs.declared.status.StatusReport.{StatusReport}
 use Rattle.taxii_bodies.specs.Details.{IsSuccessOf}
@@ -45,7 +45,7 @@ pub record IsAdding (before : State) (collection moment : ℕ) (body : List ℕ)
 -- the state with new rows, and with the text as the latest status
 abbrev pub with_added : List StoredRow → List ℕ → State → State
 with_added new text before = record {
-  library = with_rows new (mark_after before.library.mark new) before.library;
+  library = with_rows new (watermark_after before.library.watermark new) before.library;
   statuses = with_status (record { id = status_id_of (next_number before.statuses); body = text }) before.statuses;
 }
 

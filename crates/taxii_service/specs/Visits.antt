@@ -15,7 +15,7 @@ use Rattle.taxii_routes.specs.Query.{pairs_of, IsQueryOf}
 use Rattle.taxii_routes.specs.Route.{IsPathOf}
 use Rattle.taxii_routes.specs.Target.{IsTargetOf}
 use Rattle.taxii_rows.specs.declared.stored_row.StoredRow.{StoredRow}
-use Rattle.taxii_rows.specs.StoreState.{dates_of, RiseFrom}
+use Rattle.taxii_rows.specs.StoreState.{dates_of, AscendFrom}
 use Rattle.taxii_bodies.specs.declared.collections.CollectionInfo.{CollectionInfo}
 use Rattle.taxii_bodies.specs.Envelope.{envelope_text}
 use Rattle.taxii_exchange.specs.declared.config.Config.{Config}
@@ -55,7 +55,7 @@ pub record IsVisit (config : Config) (wanted : Wanted) (next : Option ℕ) (e : 
   pub okay : e.answer.status ≡ Okay
   pub asks : Asks config e.request wanted.collection wanted.only stop.query
   pub alike : AsksAlike wanted.query stop.query
-  pub goes_on : stop.query.next ≡ next
+  pub continues : stop.query.next ≡ next
   pub state : stop.state ≡ e.before.library
   pub page : IsPage stop.state.rows wanted.collection wanted.only stop.query stop.page stop.more
 
@@ -86,7 +86,7 @@ answer_at stop = page_answer stop.page (envelope_text stop.page stop.more)
 -- every row that was asked for and is still stored at the last page
 pub record SkipsNoRow (wanted : Wanted) (visited : List Exchange) (first : Stop) (others : List Stop) : Type 0 where
   pub answers : map (λ e. e.answer) visited ≡ map answer_at (first ∷ others)
-  pub once : RiseFrom 1 (dates_of (rows_given first others))
+  pub once : AscendFrom 1 (dates_of (rows_given first others))
   pub asked : All (IsWanted wanted) (rows_given first others)
   pub whole : (row : StoredRow) → Contains (last_state first others).rows row → IsWanted wanted row → Contains (rows_given first others) row
 

@@ -2,7 +2,7 @@ ghost use Rattle.std.specs.Prelude.{◌≡◌, ◌≢◌, ◌⊎◌, ◌↔◌, 
 ghost use Rattle.flow_edges.specs.Faults.{Counted};
 ghost use Rattle.http_messages.specs.declared.status.Status.TheVariants.{Okay};
 ghost use Rattle.stix_ids.specs.declared.pick.Pick.TheVariants.{All as PickAll};
-ghost use Rattle.taxii_rows.specs.StoreState.{RiseFrom};
+ghost use Rattle.taxii_rows.specs.StoreState.{AscendFrom};
 ghost use Rattle.taxii_store.specs.Agreement.{Agrees, without_rows};
 ghost use Rattle.taxii_store.specs.Deleting.{AreDatesTaken};
 ghost use Rattle.taxii_bodies.specs.declared.problem.Problem.TheVariants as Trouble;
@@ -60,7 +60,7 @@ fn dates_of(
     library: &Library,
 ) -> Result<Items<u64>, NoMemory>
     ensures deleted { IfOk result (AreDeleted library.now collection id.now query) }
-    ensures rise { IfOk result (RiseFrom 0) }
+    ensures ascend { IfOk result (AscendFrom 0) }
 {
     if !allows_standard(&query) {
         return Ok(Items::new(alloc));
@@ -77,7 +77,7 @@ fn taken_dates(
     library: &Library,
 ) -> Result<Items<u64>, NoMemory>
     ensures taken { IfOk result (AreDatesTaken library.now.rows collection id.now picks.now) }
-    ensures rise { IfOk result (RiseFrom 0) }
+    ensures ascend { IfOk result (AscendFrom 0) }
 {
     library.plan_delete(collection, id, picks)
 }

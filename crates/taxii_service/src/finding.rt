@@ -6,7 +6,7 @@ ghost use Rattle.taxii_exchange.specs.Config.{collection_named, rights_of, all_r
 ghost use Rattle.taxii_exchange.specs.Statuses.{body_of};
 ghost use Rattle.taxii_service.specs.Finding.{allowed_of, Names, NamesRowOf, IsFound};
 
-use stix_ids::Parts;
+use stix_ids::IdRef;
 use taxii_exchange::Allow;
 use taxii_exchange::{Config, Rights};
 use taxii_routes::Route;
@@ -95,7 +95,7 @@ fn rights_to_object(
 fn has_row(library: &Library, collection: u128, object: &str) -> bool
     ensures { IsTrue result ↔ NamesRowOf object.now collection library.now.rows }
 {
-    match Parts::read(object) {
+    match IdRef::read(object) {
         Ok(parts) => library.has_object(collection, parts.number, parts.kind),
         Err(_) => false,
     }

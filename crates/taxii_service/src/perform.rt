@@ -92,7 +92,7 @@ fn identifier(alloc: Global, text: &str) -> Result<Id, NoMemory>
     match read_id(alloc, text) {
         Ok(id) => Ok(id),
         Err(IdRefusal::NoMemory) => Err(NoMemory),
-        Err(IdRefusal::NoMark) => unreachable!(),
+        Err(IdRefusal::NoSeparator) => unreachable!(),
         Err(IdRefusal::BadUuid) => unreachable!(),
         Err(IdRefusal::BadKind { .. }) => unreachable!(),
     }

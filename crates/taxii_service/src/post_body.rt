@@ -19,13 +19,13 @@ pub fn read_posted(alloc: Global, body: &[u8], moment: u64) -> Result<Posted, Po
     ensures err { IfErr result (IsUnreadable body.now) }
 {
     match read_entries(alloc, body, "objects") {
-        Ok(entries) => Ok(judge_entries(alloc, entries.into_vec(), moment)?),
+        Ok(entries) => Ok(check_entries(alloc, entries.into_vec(), moment)?),
         Err(refusal) => Err(PostRefusal::of(refusal)),
     }
 }
 
 /// What some entries hold. Each is dropped as soon as it is judged.
-fn judge_entries(alloc: Global, entries: Vec<Entry>, moment: u64) -> Result<Posted, NoMemory>
+fn check_entries(alloc: Global, entries: Vec<Entry>, moment: u64) -> Result<Posted, NoMemory>
     requires { All IsTaken entries.items }
     ensures holds { IfOk result (Holds moment entries.items) }
     ensures sound { IfOk result (λ posted. All IsSound posted.objects.items) }

@@ -60,7 +60,7 @@ impl Posted {
         requires room { self.old.failure_count < 2 ^ 63 }
         ensures { OnOk result (Adds moment (Good value.now) self.old self.new) }
     {
-        if self.failures.len() >= MAX_DETAILS && is_nameless(value) {
+        if self.failures.len() >= MAX_DETAILS && has_no_id(value) {
             self.failure_count += 1;
             return Ok(());
         }
@@ -128,7 +128,7 @@ impl Posted {
 }
 
 /// Whether the value has no identifier, and so breaks a rule.
-fn is_nameless(value: &Json) -> bool
+fn has_no_id(value: &Json) -> bool
     ensures { IsTrue result → ¬ AreBreaksOf (data_of value.now) [] }
 {
     no_breaks();

@@ -38,7 +38,7 @@ impl Prepared {
         moment: u64,
         body: &[u8],
     ) -> Result<Prepared, Refusal>
-        ensures mark { IfOk result (λ prepared. prepared.planned.mark ≡ state.now.library.mark) }
+        ensures watermark { IfOk result (λ prepared. prepared.planned.watermark ≡ state.now.library.watermark) }
         ensures adding { IfOk result (λ prepared. IsAdding state.now collection moment body.now prepared.planned.rows prepared.body) }
         ensures status { IfOk result (λ prepared. prepared.status ≡ record { id = status_id_of (next_number state.now.statuses); body = prepared.body }) }
         ensures err { IfErr result (λ refusal. (refusal ≡ Refused.NoMemory) ⊎ CannotAdd state.now collection moment body.now refusal) }
@@ -97,7 +97,7 @@ fn planned_of(
     objects: Vec<Described>,
 ) -> Result<Planned, Refusal>
     requires { All IsSound objects.items }
-    ensures mark { IfOk result (λ planned. planned.mark ≡ library.now.mark) }
+    ensures watermark { IfOk result (λ planned. planned.watermark ≡ library.now.watermark) }
     ensures ok { IfOk result (λ planned. IsAddition library.now collection moment objects.items planned.outcomes planned.rows) }
     ensures err { IfErr result (λ refusal. (refusal ≡ Refused.NoMemory)
         ⊎ ((refusal ≡ Refused.Problem Trouble.DatesUsedUp) × UsesUpDates library.now collection objects.items)) }

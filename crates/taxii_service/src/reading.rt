@@ -199,7 +199,7 @@ fn identifier(alloc: Global, text: &str) -> Result<Id, Refusal>
     match read_id(alloc, text) {
         Ok(id) => Ok(id),
         Err(IdRefusal::NoMemory) => Err(Refusal::NoMemory),
-        Err(IdRefusal::NoMark) => Err(NOT_FOUND),
+        Err(IdRefusal::NoSeparator) => Err(NOT_FOUND),
         Err(IdRefusal::BadUuid) => Err(NOT_FOUND),
         Err(IdRefusal::BadKind { .. }) => Err(NOT_FOUND),
     }

@@ -9,7 +9,7 @@ ghost use Rattle.taxii_service.specs.declared.state.State.{State};
 ghost use Rattle.taxii_service.specs.Step.{Step};
 
 /// No step answers 500: where a server does, its keeper failed.
-pub fn no_step_tells_a_store_fault()
+pub fn no_step_reports_a_store_fault()
     ensures { (config : Config) (before : State) (moment : ℕ) (request : Request) (answer : Answer) (after : State)
         → Step config before moment request answer after → answer.status ≢ Code.InternalServerError }
 {}

@@ -1,4 +1,4 @@
 mod InTurnLemmas
 mod StepLemmas
 mod CommitLemmas
-mod ShutLemmas
+mod ClosedByDiskLemmas

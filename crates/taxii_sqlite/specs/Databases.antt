@@ -10,11 +10,11 @@ use Rattle.sqlite.specs.Closing.{IsCopied}
 use Rattle.sqlite.specs.Files.{file_state, IsOpened}
 use Rattle.sqlite.specs.Held.{IsNew}
 use Rattle.taxii_rows.specs.declared.stored_row.StoredRow.{StoredRow}
-use Rattle.taxii_sqlite.specs.Statements.{AnswersNext, AnswersMark, Transacts, Adds, DeletesAll}
+use Rattle.taxii_sqlite.specs.Statements.{AnswersNext, AnswersWatermark, Transacts, Adds, DeletesAll}
 use Rattle.taxii_sqlite.specs.Forms.{IsReady}
 use Rattle.taxii_sqlite.specs.Transactions.{IsUntouched}
 use Rattle.taxii_sqlite.specs.declared.connection.Database.{Database}
-use Rattle.taxii_sqlite.specs.declared.connection.Database.TheVariants.{Closed, Nowhere, Disk}
+use Rattle.taxii_sqlite.specs.declared.connection.Database.TheVariants.{Closed, InMemory, Disk}
 
 module _ {D : Type 0} {disk : Ghosts D} where
   -- whether there is a database
@@ -25,25 +25,25 @@ module _ {D : Type 0} {disk : Ghosts D} where
   -- the first row that is later than the date
   abbrev pub FindsNext : ℕ → Database D disk → Database D disk → Option StoredRow → Type 0
   FindsNext date (Disk before) (Disk after) found = HasCleanDisk (file_state after.value) → AnswersNext date (file_state before.value) (file_state after.value) found
-  FindsNext date Nowhere Nowhere found = found ≡ None
+  FindsNext date InMemory InMemory found = found ≡ None
   FindsNext date _ _ found = ⊥
 
   -- the last date ever given
-  abbrev pub FindsMark : Database D disk → Database D disk → ℕ → Type 0
-  FindsMark (Disk before) (Disk after) mark = HasCleanDisk (file_state after.value) → AnswersMark (file_state before.value) (file_state after.value) mark
-  FindsMark Nowhere Nowhere mark = mark ≡ 0
-  FindsMark _ _ mark = ⊥
+  abbrev pub FindsWatermark : Database D disk → Database D disk → ℕ → Type 0
+  FindsWatermark (Disk before) (Disk after) watermark = HasCleanDisk (file_state after.value) → AnswersWatermark (file_state before.value) (file_state after.value) watermark
+  FindsWatermark InMemory InMemory watermark = watermark ≡ 0
+  FindsWatermark _ _ watermark = ⊥
 
-  -- the rows were added, and the date was made the mark
+  -- the rows were added, and the date was made the watermark
   abbrev pub Appends : List StoredRow → ℕ → Database D disk → Database D disk → Type 0
-  Appends rows mark (Disk before) (Disk after) = HasCleanDisk (file_state after.value) → Transacts file_state (Adds file_state rows mark) before.value after.value
-  Appends rows mark Nowhere Nowhere = ⊤
-  Appends rows mark _ _ = ⊥
+  Appends rows watermark (Disk before) (Disk after) = HasCleanDisk (file_state after.value) → Transacts file_state (Adds file_state rows watermark) before.value after.value
+  Appends rows watermark InMemory InMemory = ⊤
+  Appends rows watermark _ _ = ⊥
 
-  -- the rows of the dates were removed, and the mark stayed
+  -- the rows of the dates were removed, and the watermark stayed
   abbrev pub Removes : List ℕ → Database D disk → Database D disk → Type 0
   Removes dates (Disk before) (Disk after) = HasCleanDisk (file_state after.value) → Transacts file_state (DeletesAll file_state dates) before.value after.value
-  Removes dates Nowhere Nowhere = ⊤
+  Removes dates InMemory InMemory = ⊤
   Removes dates _ _ = ⊥
 
   -- it is in a file
@@ -53,20 +53,20 @@ module _ {D : Type 0} {disk : Ghosts D} where
 
   -- a call can fail: not where nothing is kept
   abbrev pub CanFail : Database D disk → Type 0
-  CanFail Nowhere = ⊥
+  CanFail InMemory = ⊥
   CanFail _ = ⊤
 
   -- a change failed and nothing was added or removed; of a file: what it holds and what is committed are as before, unless a failure
-  -- has shut it
+  -- has closed by disk it
   abbrev pub StaysAs : Database D disk → Database D disk → Type 0
   StaysAs (Disk before) (Disk after) = HasCleanDisk (file_state after.value) → IsUntouched (file_state before.value) (file_state after.value)
   StaysAs Closed Closed = ⊤
   StaysAs _ _ = ⊥
 
-  -- a failure of the disk has shut the file: each later call is refused, until the file is opened anew
-  abbrev pub IsShut : Database D disk → Type 0
-  IsShut (Disk held) = (file_state held.value).is_open ≡ false
-  IsShut _ = ⊥
+  -- a failure of the disk has closed by disk the file: each later call is refused, until the file is opened anew
+  abbrev pub IsClosedByDisk : Database D disk → Type 0
+  IsClosedByDisk (Disk held) = (file_state held.value).is_open ≡ false
+  IsClosedByDisk _ = ⊥
 
   -- the disk has returned what was written
   abbrev pub IsClean : Database D disk → Type 0
@@ -76,7 +76,7 @@ module _ {D : Type 0} {disk : Ghosts D} where
   -- what was opened under a path: with an empty one nothing; with another one a file, whose database is the one that these
   -- files held, a database and its log, and which was then made ready
   abbrev pub IsOpenAt : Image → List ℕ → Database D disk → Type 0
-  IsOpenAt files path Nowhere = path ≡ []
+  IsOpenAt files path InMemory = path ≡ []
   IsOpenAt files path (Disk after) =
       (path ≢ [])
       × (HasCleanDisk (file_state after.value) → (before : _) × IsNew before × IsOpened before × FindsIn files (file_state before) × IsReady file_state before after.value)
@@ -87,5 +87,5 @@ module _ {D : Type 0} {disk : Ghosts D} where
   abbrev pub Leaves : Database D disk → Option (Files D) → Type 0
   Leaves (Disk held) (Some files) = AreClean disk files.log files.db → IsCopied held.value files
   Leaves (Disk held) None = ⊥
-  Leaves Nowhere left = left ≡ None
+  Leaves InMemory left = left ≡ None
   Leaves Closed left = left ≡ None

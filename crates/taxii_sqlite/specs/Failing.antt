@@ -13,11 +13,11 @@ use Rattle.taxii_sqlite.specs.declared.failure.Failure.{Failure}
 use Rattle.taxii_sqlite.specs.declared.failure.Failure.TheVariants.{Fault, NoMemory}
 
 -- the database had no memory: its store, its compiler or its parser
-abbrev pub is_want_of_memory : Error → Bool
-is_want_of_memory (SqliteFailure StoreOutOfMemory) = true
-is_want_of_memory (SqlInputError CompilerOutOfMemory) = true
-is_want_of_memory (SqlInputError (Parse ParserOutOfMemory)) = true
-is_want_of_memory _ = false
+abbrev pub is_out_of_memory : Error → Bool
+is_out_of_memory (SqliteFailure StoreOutOfMemory) = true
+is_out_of_memory (SqlInputError CompilerOutOfMemory) = true
+is_out_of_memory (SqlInputError (Parse ParserOutOfMemory)) = true
+is_out_of_memory _ = false
 
 -- why any other error came
 abbrev pub cause_of : Error → FaultCause
@@ -32,7 +32,7 @@ cause_of _ = Unsound
 
 -- every other error is a fault
 abbrev pub failure_of : Error → Failure
-failure_of error = if is_want_of_memory error then NoMemory else Fault (cause_of error)
+failure_of error = if is_out_of_memory error then NoMemory else Fault (cause_of error)
 
 -- what the keeper answers of a failure
 abbrev pub refused : Failure → KeeperRefusal
@@ -40,6 +40,6 @@ refused (Fault cause) = refusal.Fault
 refused NoMemory = refusal.NoMemory
 
 -- the cause of the last fault, where the one before had that cause
-abbrev pub blamed_after : FaultCause → Failure → FaultCause
-blamed_after before (Fault cause) = cause
-blamed_after before NoMemory = before
+abbrev pub last_cause_after : FaultCause → Failure → FaultCause
+last_cause_after before (Fault cause) = cause
+last_cause_after before NoMemory = before

@@ -9,7 +9,7 @@ use Rattle.sqlite.specs.Held.{Held}
 use Rattle.sqlite.specs.declared.error.Error.TheVariants.{QueryReturnedNoRows}
 use Rattle.taxii_rows.specs.declared.stored_row.StoredRow.{StoredRow}
 use Rattle.taxii_sqlite.specs.Columns.{HoldsRow, date_value}
-use Rattle.taxii_sqlite.specs.declared.schema.TheConstants.{COUNT_EARLY_ROWS, NEXT_ROW, READ_MARK, INSERT_ROW, DELETE_ROW, WRITE_MARK, KEEP_MARK}
+use Rattle.taxii_sqlite.specs.declared.schema.TheConstants.{COUNT_EARLY_ROWS, NEXT_ROW, READ_WATERMARK, INSERT_ROW, DELETE_ROW, WRITE_WATERMARK, KEEP_WATERMARK}
 
 -- the first row that is later than the date: the columns that `NEXT_ROW` answers hold it, or it answers no row
 abbrev pub AnswersNext : ℕ → State → State → Option StoredRow → Type 0
@@ -17,10 +17,10 @@ AnswersNext date before after None = QueriesRow NEXT_ROW.now (date_value date �
 AnswersNext date before after (Some row) =
     (columns : List Value) × HoldsRow columns row × QueriesRow NEXT_ROW.now (date_value date ∷ []) before after (Ok columns)
 
--- the mark: the column that `READ_MARK` answers holds it
-abbrev pub AnswersMark : State → State → ℕ → Type 0
-AnswersMark before after mark =
-    (columns : List Value) × (column columns 0 ≡ date_value mark) × QueriesRow READ_MARK.now [] before after (Ok columns)
+-- the watermark: the column that `READ_WATERMARK` answers holds it
+abbrev pub AnswersWatermark : State → State → ℕ → Type 0
+AnswersWatermark before after watermark =
+    (columns : List Value) × (column columns 0 ≡ date_value watermark) × QueriesRow READ_WATERMARK.now [] before after (Ok columns)
 
 -- how many rows are early: no `NEXT_ROW` gives them, since their dates aren't past 0, and `COUNT_EARLY_ROWS` answers their count
 abbrev pub AnswersCount : State → State → ℤ → Type 0
@@ -65,18 +65,18 @@ module _ {S : Type 0} (shown : Held S → State) where
   abbrev pub Deletes : ℕ → Held S → Held S → Type 0
   Deletes date = Runs DELETE_ROW.now (date_value date ∷ [])
 
-  -- the date was written as the mark
-  abbrev pub WritesMark : ℕ → Held S → Held S → Type 0
-  WritesMark mark = Runs WRITE_MARK.now (date_value mark ∷ [])
+  -- the date was written as the watermark
+  abbrev pub WritesWatermark : ℕ → Held S → Held S → Type 0
+  WritesWatermark watermark = Runs WRITE_WATERMARK.now (date_value watermark ∷ [])
 
-  -- the date became the mark: where the last of the rows has it, by that row, and nothing was written; else it was written
-  abbrev pub SetsMark : List StoredRow → ℕ → Held S → Held S → Type 0
-  SetsMark rows mark before after = MatchBool (ends_at rows mark) (after ≡ before) (WritesMark mark before after)
+  -- the date became the watermark: where the last of the rows has it, by that row, and nothing was written; else it was written
+  abbrev pub SetsWatermark : List StoredRow → ℕ → Held S → Held S → Type 0
+  SetsWatermark rows watermark before after = MatchBool (ends_at rows watermark) (after ≡ before) (WritesWatermark watermark before after)
 
-  -- the rows were added in turn, and then the date was made the mark
+  -- the rows were added in turn, and then the date was made the watermark
   abbrev pub Adds : List StoredRow → ℕ → Held S → Held S → Type 0
-  Adds rows mark before after = (with_rows : Held S) × InTurn Inserts rows before with_rows × SetsMark rows mark with_rows after
+  Adds rows watermark before after = (with_rows : Held S) × InTurn Inserts rows before with_rows × SetsWatermark rows watermark with_rows after
 
-  -- the mark was written as it is read, so that it stands when the last row goes, and then the rows of the dates were removed in turn
+  -- the watermark was written as it is read, so that it stands when the last row goes, and then the rows of the dates were removed in turn
   abbrev pub DeletesAll : List ℕ → Held S → Held S → Type 0
-  DeletesAll dates before after = (marked : Held S) × Runs KEEP_MARK.now [] before marked × InTurn Deletes dates marked after
+  DeletesAll dates before after = (marked : Held S) × Runs KEEP_WATERMARK.now [] before marked × InTurn Deletes dates marked after

@@ -9,13 +9,13 @@ use Rattle.taxii_sqlite.specs.declared.failure.Failure.{Failure}
 abbrev pub IsSettled : State → Type 0
 IsSettled now = IsTrue now.is_open × (now.now ≡ now.committed)
 
--- the connection holds what it held, and the last commit is what it was, unless a failure of the disk has shut it
+-- the connection holds what it held, and the last commit is what it was, unless a failure of the disk has closed by disk it
 abbrev pub IsUntouched : State → State → Type 0
 IsUntouched before after = IsTrue after.is_open → (after.now ≡ before.now) × (after.committed ≡ before.committed)
 
 -- a step inside a transaction commits nothing
-abbrev pub GoesOn : State → State → Type 0
-GoesOn before after = HasCleanDisk after → HasCleanDisk before × KeepsCommit before after
+abbrev pub Continues : State → State → Type 0
+Continues before after = HasCleanDisk after → HasCleanDisk before × KeepsCommit before after
 
 -- and doesn't end it
 abbrev pub StaysUnended : State → State → Type 0
@@ -25,6 +25,6 @@ StaysUnended before after = HasCleanDisk after → after.in_transaction ≡ befo
 -- step succeeds it was this, and hasn't ended the transaction; `shown` is what a connection shows
 pub record IsStep {S : Type 0} (shown : Held S → State) (Run : Held S → Held S → Type 0) (before after : MutBor (Held S)) (result : Result (Unit {0}) Failure) : Type 0 where
   pub same_reference : after.ghost_name ≡ before.ghost_name
-  pub inside : GoesOn (shown before.now) (shown after.now)
+  pub inside : Continues (shown before.now) (shown after.now)
   pub unended : OnOk result (StaysUnended (shown before.now) (shown after.now))
   pub runs : HasCleanDisk (shown after.now) → OnOk result (Run before.now after.now)

@@ -8,7 +8,7 @@ ghost use Rattle.taxii_sqlite.specs.Statements.{Transacts};
 ghost use Rattle.taxii_sqlite.specs.Transactions.{IsUntouched, IsSettled, IsStep};
 
 use crate::failure::Failure;
-use crate::{form, statements};
+use crate::{layout, statements};
 use sqlite::{Alter, Connection, Transaction};
 use taxii_rows::{FaultCause, StoredRow};
 
@@ -17,12 +17,12 @@ use taxii_rows::{FaultCause, StoredRow};
 pub(crate) enum Change<'a> {
     /// All tables are made, of a database that has none.
     MakeTables,
-    /// The form is named, of a store that was made before forms had names.
-    NameForm,
+    /// The layout is named, of a store that was made before forms had names.
+    NameLayout,
     /// The version becomes this one, of a store of the version before.
-    Renew,
-    /// These rows are added, and the date is made the mark.
-    Append { rows: &'a [StoredRow], mark: u64 },
+    Migrate,
+    /// These rows are added, and the date is made the watermark.
+    Append { rows: &'a [StoredRow], watermark: u64 },
     /// The rows of these dates are removed.
     Remove { dates: &'a [u64] },
 }
@@ -49,10 +49,10 @@ impl Change<'_> {
         ensures { IsStep (state S.Store) (Does (state S.Store) self.entry) transaction.old.conn transaction.new.conn result }
     {
         match self {
-            Change::MakeTables => form::make_tables(transaction),
-            Change::NameForm => form::name(transaction),
-            Change::Renew => form::write_version(transaction),
-            Change::Append { rows, mark } => statements::append(transaction, rows, mark),
+            Change::MakeTables => layout::make_tables(transaction),
+            Change::NameLayout => layout::name(transaction),
+            Change::Migrate => layout::write_version(transaction),
+            Change::Append { rows, watermark } => statements::append(transaction, rows, watermark),
             Change::Remove { dates } => statements::remove(transaction, dates),
         }
     }

@@ -2,8 +2,8 @@ ghost use Rattle.std.specs.Prelude.{◌≡◌, ◌≢◌, true, [], IfOk, OnOk, 
 ghost use Rattle.sqlite_wal.specs.Files.{image_at};
 ghost use Rattle.sqlite_wal.specs.Reads.{AreClean};
 ghost use Rattle.sqlite.specs.Closing.{IsCopied};
-ghost use Rattle.taxii_rows.specs.StoreState.{RiseFrom};
-ghost use Rattle.taxii_sqlite.specs.Databases.{is_open, FindsNext, FindsMark, Appends, Removes, HasFile, CanFail, StaysAs, IsOpenAt, Leaves};
+ghost use Rattle.taxii_rows.specs.StoreState.{AscendFrom};
+ghost use Rattle.taxii_sqlite.specs.Databases.{is_open, FindsNext, FindsWatermark, Appends, Removes, HasFile, CanFail, StaysAs, IsOpenAt, Leaves};
 
 use crate::change::Change;
 use crate::failure::Failure;
@@ -20,7 +20,7 @@ pub(crate) enum Database<D: Disk + Drop> {
     /// None yet: each call fails.
     Closed,
     /// A store without a file: its rows last in the library alone, and are held once.
-    Nowhere,
+    InMemory,
     Disk(Box<Connection<FileStore<D>>>),
 }
 
@@ -35,7 +35,7 @@ impl<D: Disk + Drop> Database<D> {
     {
         match self {
             Database::Disk(connection) => Ok(Some(copy_log(Box::into_inner(connection))?)),
-            Database::Closed | Database::Nowhere => Ok(None),
+            Database::Closed | Database::InMemory => Ok(None),
         }
     }
 
@@ -51,47 +51,47 @@ impl<D: Disk + Drop> Database<D> {
     {
         match self {
             Database::Closed => Err(CLOSED),
-            Database::Nowhere => Ok(None),
+            Database::InMemory => Ok(None),
             Database::Disk(connection) => statements::next_after(alloc, connection, date),
         }
     }
 
     /// The last date ever given.
-    pub(crate) fn read_mark(&mut self) -> Result<u64, Failure>
+    pub(crate) fn read_watermark(&mut self) -> Result<u64, Failure>
         ensures open { is_open self.new ≡ is_open self.old }
-        ensures finds { IfOk result (FindsMark self.old self.new) }
+        ensures finds { IfOk result (FindsWatermark self.old self.new) }
         ensures fails { OnErr result (CanFail self.old) }
     {
         match self {
             Database::Closed => Err(CLOSED),
-            Database::Nowhere => Ok(0),
-            Database::Disk(connection) => statements::read_mark(connection),
+            Database::InMemory => Ok(0),
+            Database::Disk(connection) => statements::read_watermark(connection),
         }
     }
 
-    /// Adds the rows and sets the mark, or changes nothing.
-    pub(crate) fn append(&mut self, rows: &[StoredRow], mark: u64) -> Result<(), Failure>
+    /// Adds the rows and sets the watermark, or changes nothing.
+    pub(crate) fn append(&mut self, rows: &[StoredRow], watermark: u64) -> Result<(), Failure>
         ensures open { is_open self.new ≡ is_open self.old }
-        ensures appends { OnOk result (Appends rows.now mark self.old self.new) }
+        ensures appends { OnOk result (Appends rows.now watermark self.old self.new) }
         ensures untouched { OnErr result (StaysAs self.old self.new) }
     {
         match self {
             Database::Closed => Err(CLOSED),
-            Database::Nowhere => Ok(()),
-            Database::Disk(connection) => Change::Append { rows, mark }.commit(connection),
+            Database::InMemory => Ok(()),
+            Database::Disk(connection) => Change::Append { rows, watermark }.commit(connection),
         }
     }
 
-    /// Removes the rows of these dates, which rise, or changes nothing.
+    /// Removes the rows of these dates, which ascend, or changes nothing.
     pub(crate) fn remove(&mut self, dates: &[u64]) -> Result<(), Failure>
-        requires { RiseFrom 0 dates.now }
+        requires { AscendFrom 0 dates.now }
         ensures open { is_open self.new ≡ is_open self.old }
         ensures removes { OnOk result (Removes dates.now self.old self.new) }
         ensures untouched { OnErr result (StaysAs self.old self.new) }
     {
         match self {
             Database::Closed => Err(CLOSED),
-            Database::Nowhere => Ok(()),
+            Database::InMemory => Ok(()),
             Database::Disk(connection) => Change::Remove { dates }.commit(connection),
         }
     }

@@ -1,6 +1,6 @@
 ghost use Rattle.std.specs.Prelude.{◌≡◌, IfOk, IfErr, OnOk, Ok, Err};
 ghost use Rattle.flow_edges.specs.Faults.{Counted};
-ghost use Rattle.taxii_sqlite.specs.Failing.{is_want_of_memory as is_want, cause_of as cause_in, refused, blamed_after};
+ghost use Rattle.taxii_sqlite.specs.Failing.{is_out_of_memory as is_memory_error, cause_of as cause_in, refused, last_cause_after};
 
 use sqlite::{Error, ErrorCode};
 use sqlite_resolve::CompileError;
@@ -11,7 +11,7 @@ use taxii_rows::{FaultCause, KeeperRefusal};
 /// Why a call of the database failed. It isn't counted yet.
 #[derive(Clone, Copy)]
 pub(crate) enum Failure {
-    /// The outside failed, or gave what isn't of a store's form.
+    /// The outside failed, or gave what isn't of a store's layout.
     Fault(FaultCause),
     /// Memory ran out.
     NoMemory,
@@ -24,7 +24,7 @@ impl From<Error> for Failure {
     ghost from_gives = { λ error failure. failure ≡ failure_of error };
 
     fn from(error: Error) -> Failure {
-        if is_want_of_memory(error) {
+        if is_out_of_memory(error) {
             Failure::NoMemory
         } else {
             Failure::Fault(cause_of(error))
@@ -44,8 +44,8 @@ impl From<AllocError> for Failure {
 }
 
 /// Whether an error of the database is want of memory: of its store, of its compiler or of its parser.
-fn is_want_of_memory(error: Error) -> bool
-    ensures { result ≡ is_want error }
+fn is_out_of_memory(error: Error) -> bool
+    ensures { result ≡ is_memory_error error }
 {
     matches!(
         error,
@@ -87,7 +87,7 @@ impl Faults {
         ensures ok { IfOk answer (λ value. result ≡ Ok value) }
         ensures err { IfErr answer (λ failure. result ≡ Err (refused failure)) }
         ensures causes { Counted (result ≡ Err KeeperRefusal.Fault) self.old.count self.new.count }
-        ensures blames { IfErr answer (λ failure. self.new.cause ≡ blamed_after self.old.cause failure) }
+        ensures sets_cause { IfErr answer (λ failure. self.new.cause ≡ last_cause_after self.old.cause failure) }
         ensures stays { OnOk answer (self.new.cause ≡ self.old.cause) }
     {
         match answer {

@@ -25,13 +25,13 @@ pub(crate) fn make_private(rt: &HostRuntime, path: &str) -> Result<(), Failure>
         .open(rt, path)
     {
         Ok(_) => Ok(()),
-        Err(error) if error.kind() == ErrorKind::AlreadyExists => see(rt, path),
+        Err(error) if error.kind() == ErrorKind::AlreadyExists => check_access(rt, path),
         Err(error) => Err(failure_of(error)),
     }
 }
 
 /// Sees that the file can be read and written.
-fn see(rt: &HostRuntime, path: &str) -> Result<(), Failure> {
+fn check_access(rt: &HostRuntime, path: &str) -> Result<(), Failure> {
     match OpenOptions::new().read(true).write(true).open(rt, path) {
         Ok(_) => Ok(()),
         Err(error) => Err(failure_of(error)),

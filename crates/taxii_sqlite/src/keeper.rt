@@ -1,8 +1,8 @@
 ghost use Rattle.std.specs.Prelude.{◌≡◌, ◌≢◌, [], None, true, IfOk, OnOk, OnErr, Err};
 ghost use Rattle.flow_edges.specs.Faults.{Counted};
 ghost use Rattle.sqlite_wal.specs.Files.{image_at};
-ghost use Rattle.taxii_rows.specs.StoreState.{RiseFrom};
-ghost use Rattle.taxii_sqlite.specs.Databases.{is_open, FindsNext, FindsMark, Appends, Removes, HasFile, CanFail, StaysAs, IsOpenAt, Leaves};
+ghost use Rattle.taxii_rows.specs.StoreState.{AscendFrom};
+ghost use Rattle.taxii_sqlite.specs.Databases.{is_open, FindsNext, FindsWatermark, Appends, Removes, HasFile, CanFail, StaysAs, IsOpenAt, Leaves};
 ghost use Rattle.taxii_sqlite.specs.declared.connection.Database.TheVariants.{Closed};
 
 use crate::connection::{self, Database};
@@ -13,7 +13,7 @@ use std::random::RandomSource;
 use std::rt::HostRuntime;
 use taxii_rows::{FaultCause, Keeper, KeeperRefusal, StoredRow};
 
-/// Rows in a database of SQLite, or nowhere. It tells no rows; contracts see its database, whose calls are told in
+/// Rows in a database of SQLite, or nowhere. It tells no rows; contracts check access its database, whose calls are told in
 /// `specs/Databases.antt`, and its faults. `S` stands for what the file held before it is opened.
 #[derive(Drop)]
 pub struct SqliteKeeper<D: Disk + Drop, S: Start> {
@@ -27,7 +27,7 @@ impl<S: Start> SqliteKeeper<FileFrom<S>, S> {
     /// A keeper that isn't attached, and has failed in no call yet. Opens nothing and takes no memory.
     pub fn new(rt: HostRuntime, start: S) -> SqliteKeeper<FileFrom<S>, S>
         ensures closed { result.database ≡ Closed }
-        ensures faults { result.faults ≡ record { count = 0; cause = FaultCause.Untold } }
+        ensures faults { result.faults ≡ record { count = 0; cause = FaultCause.NotKnown } }
     {
         SqliteKeeper {
             rt,
@@ -35,7 +35,7 @@ impl<S: Start> SqliteKeeper<FileFrom<S>, S> {
             database: Database::Closed,
             faults: Faults {
                 count: 0,
-                cause: FaultCause::Untold,
+                cause: FaultCause::NotKnown,
             },
         }
     }
@@ -60,7 +60,7 @@ impl<S: Start> SqliteKeeper<FileFrom<S>, S> {
         ensures faults { self.new.faults ≡ self.old.faults }
     {
         if path.is_empty() {
-            return Ok(Database::Nowhere);
+            return Ok(Database::InMemory);
         }
         match self.start.take() {
             Some(start) => connection::open(&self.rt, path, start),
@@ -70,11 +70,11 @@ impl<S: Start> SqliteKeeper<FileFrom<S>, S> {
 }
 
 impl<S: Start> Keeper for SqliteKeeper<FileFrom<S>, S> {
-    ghost kept = { λ keeper. record { told = None; name = None; attached = is_open keeper.database } };
+    ghost kept = { λ keeper. record { observable = None; name = None; attached = is_open keeper.database } };
 
     ghost faults = { λ keeper. keeper.faults.count };
 
-    ghost blamed = { λ keeper. keeper.faults.cause };
+    ghost last_cause = { λ keeper. keeper.faults.cause };
 
     /// A number of the system's own choice, another one at each call, or 0 where the system gives none.
     fn secret(&self) -> u128 {
@@ -115,28 +115,28 @@ impl<S: Start> Keeper for SqliteKeeper<FileFrom<S>, S> {
         self.faults.counted(found)
     }
 
-    fn mark(&mut self) -> Result<u64, KeeperRefusal>
-        ensures finds { IfOk result (FindsMark self.old.database self.new.database) }
+    fn watermark(&mut self) -> Result<u64, KeeperRefusal>
+        ensures finds { IfOk result (FindsWatermark self.old.database self.new.database) }
         ensures fails { OnErr result (CanFail self.old.database) }
         ensures attached { is_open self.new.database ≡ is_open self.old.database }
         ensures causes { Counted (result ≡ Err KeeperRefusal.Fault) self.old.faults.count self.new.faults.count }
     {
-        let mark = self.database.read_mark();
-        self.faults.counted(mark)
+        let watermark = self.database.read_watermark();
+        self.faults.counted(watermark)
     }
 
-    fn append(&mut self, rows: &[StoredRow], mark: u64) -> Result<(), KeeperRefusal>
-        ensures appends { OnOk result (Appends rows.now mark self.old.database self.new.database) }
+    fn append(&mut self, rows: &[StoredRow], watermark: u64) -> Result<(), KeeperRefusal>
+        ensures appends { OnOk result (Appends rows.now watermark self.old.database self.new.database) }
         ensures untouched { OnErr result (StaysAs self.old.database self.new.database) }
         ensures attached { is_open self.new.database ≡ is_open self.old.database }
         ensures causes { Counted (result ≡ Err KeeperRefusal.Fault) self.old.faults.count self.new.faults.count }
     {
-        let done = self.database.append(rows, mark);
+        let done = self.database.append(rows, watermark);
         self.faults.counted(done)
     }
 
     fn remove(&mut self, dates: &[u64]) -> Result<(), KeeperRefusal>
-        requires rise { RiseFrom 0 dates.now }
+        requires ascend { AscendFrom 0 dates.now }
         ensures removes { OnOk result (Removes dates.now self.old.database self.new.database) }
         ensures untouched { OnErr result (StaysAs self.old.database self.new.database) }
         ensures attached { is_open self.new.database ≡ is_open self.old.database }

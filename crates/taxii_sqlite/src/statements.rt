@@ -5,28 +5,28 @@ ghost use Rattle.sqlite.specs.Held.{state};
 ghost use Rattle.sqlite.specs.State.{HasCleanDisk};
 ghost use Rattle.sqlite.specs.Values.{bound};
 ghost use Rattle.taxii_sqlite.specs.Forms.{IsReady};
-ghost use Rattle.taxii_sqlite.specs.Statements.{AnswersNext, AnswersMark, AnswersCount, Runs, Inserts, Deletes, WritesMark, ends_at, SetsMark, InTurn, Adds, DeletesAll};
+ghost use Rattle.taxii_sqlite.specs.Statements.{AnswersNext, AnswersWatermark, AnswersCount, Runs, Inserts, Deletes, WritesWatermark, ends_at, SetsWatermark, InTurn, Adds, DeletesAll};
 ghost use Rattle.taxii_sqlite.specs.Transactions.{IsStep};
 
 use crate::failure::Failure;
-use crate::form;
+use crate::layout;
 use crate::row::{bytes_of, columns_of, date_at, integer_of, read_row};
 use crate::schema::{
-    COUNT_EARLY_ROWS, DELETE_ROW, INSERT_ROW, KEEP_MARK, NEXT_ROW, READ_MARK, WRITE_MARK,
+    COUNT_EARLY_ROWS, DELETE_ROW, INSERT_ROW, KEEP_WATERMARK, NEXT_ROW, READ_WATERMARK, WRITE_WATERMARK,
 };
 use sqlite::types::ValueRef;
 use sqlite::{Alter, Connection, Error, Transaction, params};
 use std::alloc::Global;
 use taxii_rows::{FaultCause, StoredRow};
 
-/// Sees that the database is a store, or makes one of it where it may be (`form::take`): it has a mark, and no row that
+/// Sees that the database is a store, or makes one of it where it may be (`layout::take`): it has a watermark, and no row that
 /// `next_after` would never give.
 pub(crate) fn make_ready<S: Alter>(connection: &mut Connection<S>) -> Result<(), Failure>
     ensures ready { HasCleanDisk (state S.Store connection.new) → OnOk result (IsReady (state S.Store) connection.old connection.new) }
     ensures clean { HasCleanDisk (state S.Store connection.new) → HasCleanDisk (state S.Store connection.old) }
 {
-    form::take(connection)?;
-    let _mark = read_mark(connection)?;
+    layout::take(connection)?;
+    let _watermark = read_watermark(connection)?;
     if count_early_rows(connection)? == 0 {
         Ok(())
     } else {
@@ -51,11 +51,11 @@ pub(crate) fn next_after<S: Alter>(
 }
 
 /// The last date ever given.
-pub(crate) fn read_mark<S: Alter>(connection: &mut Connection<S>) -> Result<u64, Failure>
-    ensures asks { HasCleanDisk (state S.Store connection.new) → IfOk result (AnswersMark (state S.Store connection.old) (state S.Store connection.new)) }
+pub(crate) fn read_watermark<S: Alter>(connection: &mut Connection<S>) -> Result<u64, Failure>
+    ensures asks { HasCleanDisk (state S.Store connection.new) → IfOk result (AnswersWatermark (state S.Store connection.old) (state S.Store connection.new)) }
     ensures clean { HasCleanDisk (state S.Store connection.new) → HasCleanDisk (state S.Store connection.old) }
 {
-    let columns = connection.query_row(READ_MARK, &[])?;
+    let columns = connection.query_row(READ_WATERMARK, &[])?;
     date_at(&columns, 0)
 }
 
@@ -68,27 +68,27 @@ fn count_early_rows<S: Alter>(connection: &mut Connection<S>) -> Result<i64, Fai
     Ok(columns.get(0)?)
 }
 
-/// Adds the rows and sets the mark.
+/// Adds the rows and sets the watermark.
 pub(crate) fn append<S: Alter>(
     transaction: &mut Transaction<'_, S>,
     rows: &[StoredRow],
-    mark: u64,
+    watermark: u64,
 ) -> Result<(), Failure>
-    ensures { IsStep (state S.Store) (Adds (state S.Store) rows.now mark) transaction.old.conn transaction.new.conn result }
+    ensures { IsStep (state S.Store) (Adds (state S.Store) rows.now watermark) transaction.old.conn transaction.new.conn result }
 {
     insert_rows(transaction, rows)?;
-    set_mark(transaction, rows, mark)?;
+    set_watermark(transaction, rows, watermark)?;
     Ok(())
 }
 
-/// Removes the rows of these dates. The mark is written first, since the last row may go.
+/// Removes the rows of these dates. The watermark is written first, since the last row may go.
 pub(crate) fn remove<S: Alter>(
     transaction: &mut Transaction<'_, S>,
     dates: &[u64],
 ) -> Result<(), Failure>
     ensures { IsStep (state S.Store) (DeletesAll (state S.Store) dates.now) transaction.old.conn transaction.new.conn result }
 {
-    execute(transaction, KEEP_MARK, &[])?;
+    execute(transaction, KEEP_WATERMARK, &[])?;
     delete_rows(transaction, dates)?;
     Ok(())
 }
@@ -134,18 +134,18 @@ fn delete_row<S: Alter>(transaction: &mut Transaction<'_, S>, date: u64) -> Resu
     execute(transaction, DELETE_ROW, params![date])
 }
 
-/// Makes a date the mark. That of the last of the rows is it by its row.
-fn set_mark<S: Alter>(
+/// Makes a date the watermark. That of the last of the rows is it by its row.
+fn set_watermark<S: Alter>(
     transaction: &mut Transaction<'_, S>,
     rows: &[StoredRow],
-    mark: u64,
+    watermark: u64,
 ) -> Result<(), Failure>
-    ensures { IsStep (state S.Store) (SetsMark (state S.Store) rows.now mark) transaction.old.conn transaction.new.conn result }
+    ensures { IsStep (state S.Store) (SetsWatermark (state S.Store) rows.now watermark) transaction.old.conn transaction.new.conn result }
 {
-    if end_at(rows, mark) {
+    if end_at(rows, watermark) {
         Ok(())
     } else {
-        write_mark(transaction, mark)
+        write_watermark(transaction, watermark)
     }
 }
 
@@ -159,11 +159,11 @@ fn end_at(rows: &[StoredRow], date: u64) -> bool
     }
 }
 
-fn write_mark<S: Alter>(transaction: &mut Transaction<'_, S>, mark: u64) -> Result<(), Failure>
-    ensures { IsStep (state S.Store) (WritesMark (state S.Store) mark) transaction.old.conn transaction.new.conn result }
+fn write_watermark<S: Alter>(transaction: &mut Transaction<'_, S>, watermark: u64) -> Result<(), Failure>
+    ensures { IsStep (state S.Store) (WritesWatermark (state S.Store) watermark) transaction.old.conn transaction.new.conn result }
 {
-    let mark = integer_of(mark)?;
-    execute(transaction, WRITE_MARK, params![mark])
+    let watermark = integer_of(watermark)?;
+    execute(transaction, WRITE_WATERMARK, params![watermark])
 }
 
 /// Runs a statement of a transaction, which it doesn't end.

@@ -6,12 +6,12 @@ use Rattle.std.proofs.lemmas.Bool.{and_from, eq-eqb}
 use Rattle.std.proofs.lemmas.List.Elements.{All-contains, Contains-append_right, Contains-append_cases}
 use Rattle.stix_ids.specs.declared.id.Id.{Id}
 use Rattle.taxii_rows.specs.declared.stored_row.StoredRow.{StoredRow}
-use Rattle.taxii_rows.specs.StoreState.{dates_of, RiseFrom}
+use Rattle.taxii_rows.specs.StoreState.{dates_of, AscendFrom}
 use Rattle.taxii_rows.specs.Identity.{is_row_of}
 use Rattle.taxii_routes.specs.declared.query.Query.{Query}
 use Rattle.taxii_store.specs.Meeting.{Meets}
 use Rattle.taxii_index.specs.Index.{AreRowsOf}
-use Rattle.taxii_store.specs.inner.Candidates.{IsBehind, CanMeet, AreCandidates, AreChosen}
+use Rattle.taxii_store.specs.inner.Candidates.{IsAfter, CanMeet, AreCandidates, AreChosen}
 use Rattle.taxii_store.proofs.CutLemmas.{at_least}
 use Rattle.taxii_store.proofs.PageLemmas.{from_earlier}
 
@@ -21,15 +21,15 @@ can_meet rows collection only query row meets = record {
   specs = meets.asked.specs;
 }
 
-rise_behind : (passed later : List StoredRow) (least : ℕ) → RiseFrom least (dates_of (passed ++ later)) → RiseFrom least (dates_of later)
-rise_behind [] later least rise = rise
-rise_behind (row ∷ passed) later least rise = from_earlier least (row.date + 1) later (omega (arith, rise.0)) (rise_behind passed later (row.date + 1) rise.1)
+ascend_behind : (passed later : List StoredRow) (least : ℕ) → AscendFrom least (dates_of (passed ++ later)) → AscendFrom least (dates_of later)
+ascend_behind [] later least ascend = ascend
+ascend_behind (row ∷ passed) later least ascend = from_earlier least (row.date + 1) later (omega (arith, ascend.0)) (ascend_behind passed later (row.date + 1) ascend.1)
 
 -- behind the rows that can't meet it
-pub chosen_behind : (rows : List StoredRow) (collection : ℕ) (only : Option Id) (query : Query) (candidates : List StoredRow) → RiseFrom 1 (dates_of rows)
+pub chosen_behind : (rows : List StoredRow) (collection : ℕ) (only : Option Id) (query : Query) (candidates : List StoredRow) → AscendFrom 1 (dates_of rows)
     → AreCandidates query rows candidates → AreChosen rows collection only query candidates
-chosen_behind rows collection only query candidates rise are = record {
-  rise = rise_behind are.passed candidates 1 (subst (λ (all : List StoredRow). RiseFrom 1 (dates_of all)) are.all rise);
+chosen_behind rows collection only query candidates ascend are = record {
+  ascend = ascend_behind are.passed candidates 1 (subst (λ (all : List StoredRow). AscendFrom 1 (dates_of all)) are.all ascend);
   own = λ row here. subst (λ (all : List StoredRow). Contains all row) (sym are.all) (Contains-append_right are.passed candidates row here);
   every = λ row here meets.
       elim (Contains-append_cases are.passed candidates row (subst (λ (all : List StoredRow). Contains all row) are.all here)) [
@@ -47,7 +47,7 @@ of_object collection id row its one = subst (λ (c : ℕ). is_row_of c id row �
 pub chosen_of_object : (rows : List StoredRow) (collection : ℕ) (id : Id) (query : Query) (found : List StoredRow) → AreRowsOf collection id rows found
     → AreChosen rows collection (Some id) query found
 chosen_of_object rows collection id query found are = record {
-  rise = are.rise;
+  ascend = are.ascend;
   own = λ row here. ((are.each row).0 here).0;
   every = λ row here meets. (are.each row).1 (here, of_object collection id row meets.asked.its meets.asked.one);
 }
@@ -55,16 +55,16 @@ chosen_of_object rows collection id query found are = record {
 pub none_chosen : (rows : List StoredRow) (collection : ℕ) (only : Option Id) (query : Query) → ¬ IfSome query.specs (λ specs. Contains specs (codes "2.1"))
     → AreChosen rows collection only query []
 none_chosen rows collection only query never = record {
-  rise = tt;
+  ascend = tt;
   own = λ row here. absurd (omega (arith, here.1));
   every = λ row here meets. absurd (never meets.asked.specs);
 }
 
 -- ---- what can meet a query
 
-dated : (rows : List StoredRow) (i : ℕ) (row : StoredRow) → RiseFrom 1 (dates_of rows) → i < length rows → row ≡ get_or rows i row → 0 < row.date
-dated rows i row rise within is =
-    let least = at_least 1 rows i row rise within in subst (λ (r : StoredRow). 0 < r.date) (sym is) (omega (arith, least))
+dated : (rows : List StoredRow) (i : ℕ) (row : StoredRow) → AscendFrom 1 (dates_of rows) → i < length rows → row ≡ get_or rows i row → 0 < row.date
+dated rows i row ascend within is =
+    let least = at_least 1 rows i row ascend within in subst (λ (r : StoredRow). 0 < r.date) (sym is) (omega (arith, least))
 
 -- a candidate can
 pub candidate_can : (query : Query) (rows candidates : List StoredRow) (i : ℕ) (row : StoredRow) → AreCandidates query rows candidates
@@ -72,16 +72,16 @@ pub candidate_can : (query : Query) (rows candidates : List StoredRow) (i : ℕ)
 candidate_can query rows candidates i row are within is = All-contains (CanMeet query) candidates row are.each (i, within, sym is)
 
 -- of an object's rows those can that were added behind where the query begins
-pub own_can : (query : Query) (after : ℕ) (rows : List StoredRow) (i : ℕ) (row : StoredRow) → RiseFrom 1 (dates_of rows) → i < length rows → row ≡ get_or rows i row
-    → ((date : ℕ) → 0 < date → (after < date) ↔ IsBehind query date) → IfSome query.specs (λ specs. Contains specs (codes "2.1")) → after < row.date → CanMeet query row
-own_can query after rows i row rise within is begins version later = record {
-  behind = (begins row.date (dated rows i row rise within is)).0 later;
+pub own_can : (query : Query) (after : ℕ) (rows : List StoredRow) (i : ℕ) (row : StoredRow) → AscendFrom 1 (dates_of rows) → i < length rows → row ≡ get_or rows i row
+    → ((date : ℕ) → 0 < date → (after < date) ↔ IsAfter query date) → IfSome query.specs (λ specs. Contains specs (codes "2.1")) → after < row.date → CanMeet query row
+own_can query after rows i row ascend within is begins version later = record {
+  behind = (begins row.date (dated rows i row ascend within is)).0 later;
   specs = version;
 }
 
 -- and no other meets it
 pub own_never : (store : List StoredRow) (collection : ℕ) (only : Option Id) (query : Query) (after : ℕ) (rows : List StoredRow) (i : ℕ) (row : StoredRow)
-    → RiseFrom 1 (dates_of rows) → i < length rows → row ≡ get_or rows i row → ((date : ℕ) → 0 < date → (after < date) ↔ IsBehind query date)
+    → AscendFrom 1 (dates_of rows) → i < length rows → row ≡ get_or rows i row → ((date : ℕ) → 0 < date → (after < date) ↔ IsAfter query date)
     → row.date ≤ after → ¬ Meets store collection only query row
-own_never store collection only query after rows i row rise within is begins early meets =
-    let later = (begins row.date (dated rows i row rise within is)).1 (can_meet store collection only query row meets).behind in omega (arith, early, later)
+own_never store collection only query after rows i row ascend within is begins early meets =
+    let later = (begins row.date (dated rows i row ascend within is)).1 (can_meet store collection only query row meets).behind in omega (arith, early, later)

@@ -5,23 +5,23 @@ use Rattle.std.specs.List.Sorted.{IsNonDecreasingBy}
 use Rattle.std.proofs.lemmas.Bool.{leb-true, leb-false}
 use Rattle.std.proofs.lemmas.List.Elements.{All-nil, All-cons, All-weaker, All-contains, All-contains_itself, Contains-append_left, Contains-append_right}
 use Rattle.taxii_rows.specs.declared.stored_row.StoredRow.{StoredRow}
-use Rattle.taxii_rows.specs.StoreState.{dates_of, RiseFrom}
+use Rattle.taxii_rows.specs.StoreState.{dates_of, AscendFrom}
 use Rattle.taxii_routes.specs.declared.query.Query.{Query}
-use Rattle.taxii_store.specs.inner.Candidates.{IsBehind, CanMeet, AreCandidates, IsCutAt}
+use Rattle.taxii_store.specs.inner.Candidates.{IsAfter, CanMeet, AreCandidates, IsCutAt}
 
-pub at_least : (least : ℕ) (rows : List StoredRow) (j : ℕ) (d : StoredRow) → RiseFrom least (dates_of rows) → j < length rows → least ≤ (get_or rows j d).date
-at_least least [] j d rise within = absurd (omega (arith, within))
-at_least least (row ∷ rows) zero d rise within = rise.0
-at_least least (row ∷ rows) (suc j) d rise within =
-    let rest = at_least (row.date + 1) rows j d rise.1 (omega (arith, within)) in omega (arith, rest, rise.0)
+pub at_least : (least : ℕ) (rows : List StoredRow) (j : ℕ) (d : StoredRow) → AscendFrom least (dates_of rows) → j < length rows → least ≤ (get_or rows j d).date
+at_least least [] j d ascend within = absurd (omega (arith, within))
+at_least least (row ∷ rows) zero d ascend within = ascend.0
+at_least least (row ∷ rows) (suc j) d ascend within =
+    let rest = at_least (row.date + 1) rows j d ascend.1 (omega (arith, within)) in omega (arith, rest, ascend.0)
 
-pub never_fall : (least : ℕ) (rows : List StoredRow) → RiseFrom least (dates_of rows) → IsNonDecreasingBy (λ row. row.date) rows
-never_fall least [] rise i j d before within = absurd (omega (arith, within))
-never_fall least (row ∷ rows) rise zero zero d before within = omega arith
-never_fall least (row ∷ rows) rise zero (suc j) d before within =
-    let rest = at_least (row.date + 1) rows j d rise.1 (omega (arith, within)) in omega (arith, rest)
-never_fall least (row ∷ rows) rise (suc i) zero d before within = absurd (omega (arith, before))
-never_fall least (row ∷ rows) rise (suc i) (suc j) d before within = never_fall (row.date + 1) rows rise.1 i j d (omega (arith, before)) (omega (arith, within))
+pub never_fall : (least : ℕ) (rows : List StoredRow) → AscendFrom least (dates_of rows) → IsNonDecreasingBy (λ row. row.date) rows
+never_fall least [] ascend i j d before within = absurd (omega (arith, within))
+never_fall least (row ∷ rows) ascend zero zero d before within = omega arith
+never_fall least (row ∷ rows) ascend zero (suc j) d before within =
+    let rest = at_least (row.date + 1) rows j d ascend.1 (omega (arith, within)) in omega (arith, rest)
+never_fall least (row ∷ rows) ascend (suc i) zero d before within = absurd (omega (arith, before))
+never_fall least (row ∷ rows) ascend (suc i) (suc j) d before within = never_fall (row.date + 1) rows ascend.1 i j d (omega (arith, before)) (omega (arith, within))
 
 upto : (date : ℕ) (rows : List StoredRow) (at : ℕ) → AllWithin (λ row. leb row.date date ≡ true) rows 0 at → All (λ row. row.date ≤ date) (take at rows)
 upto date [] zero before = All-nil (λ row. row.date ≤ date)
@@ -54,19 +54,19 @@ cut_at date rows at before behind = subst (IsCutAt date rows) (sym (rest_from ro
 
 -- ---- where a page may begin
 
-positive : (rows : List StoredRow) → RiseFrom 1 (dates_of rows) → All (λ row. 0 < row.date) rows
-positive rows rise k d within = let least = at_least 1 rows k d rise within in omega (arith, least)
+positive : (rows : List StoredRow) → AscendFrom 1 (dates_of rows) → All (λ row. 0 < row.date) rows
+positive rows ascend k d within = let least = at_least 1 rows k d ascend within in omega (arith, least)
 
 all_of : (P : StoredRow → Type 0) (rows : List StoredRow) → ((row : StoredRow) → Contains rows row → P row) → All P rows
 all_of P rows each = All-weaker (Contains rows) P each rows (All-contains_itself rows)
 
 -- what the date after which the rows of a query were added tells
 abbrev Begins : Query → ℕ → Type 0
-Begins query after = (date : ℕ) → 0 < date → (after < date) ↔ IsBehind query date
+Begins query after = (date : ℕ) → 0 < date → (after < date) ↔ IsAfter query date
 
-pub candidates_behind : (query : Query) (rows candidates : List StoredRow) (after : ℕ) → RiseFrom 1 (dates_of rows) → IsCutAt after rows candidates
+pub candidates_behind : (query : Query) (rows candidates : List StoredRow) (after : ℕ) → AscendFrom 1 (dates_of rows) → IsCutAt after rows candidates
     → Begins query after → IfSome query.specs (λ specs. Contains specs (codes "2.1")) → AreCandidates query rows candidates
-candidates_behind query rows candidates after rise cut begins version = record {
+candidates_behind query rows candidates after ascend cut begins version = record {
   passed = cut.upto;
   all = cut.all;
   before = all_of (λ row. ¬ CanMeet query row) cut.upto never;
@@ -74,7 +74,7 @@ candidates_behind query rows candidates after rise cut begins version = record {
 }
   where
     dated : (row : StoredRow) → Contains (cut.upto ++ candidates) row → 0 < row.date
-    dated row here = All-contains (λ (row : StoredRow). 0 < row.date) rows row (positive rows rise) (subst (λ (rs : List StoredRow). Contains rs row) (sym cut.all) here)
+    dated row here = All-contains (λ (row : StoredRow). 0 < row.date) rows row (positive rows ascend) (subst (λ (rs : List StoredRow). Contains rs row) (sym cut.all) here)
 
     never : (row : StoredRow) → Contains cut.upto row → ¬ CanMeet query row
     never row here can =

@@ -1,4 +1,4 @@
--- What additions and deletions leave of a store: its rows, and such as were added past its mark.
+-- What additions and deletions leave of a store: its rows, and such as were added past its watermark.
 use Rattle.std.proofs.Common.{◌⊎◌, inl, inr, ◌+◌, ◌<◌, ◌≤◌, List, [], ◌∷◌, sym, ap, subst, arith}
 use Rattle.std.specs.Prelude.{not}
 use Rattle.std.specs.List.{Contains}
@@ -9,39 +9,39 @@ use Rattle.taxii_rows.specs.Keeper.{without, is_date_in}
 use Rattle.taxii_store.specs.History.{IsAddition, IsDeletion, Becomes, IsHistory}
 use Rattle.taxii_store.proofs.RowsLemmas.{least}
 
--- the mark doesn't fall, and each row is one of those before or is past their mark
+-- the watermark doesn't fall, and each row is one of those before or is past their watermark
 pub record Later (state after : StoreState) : Type 0 where
-  pub mark : state.mark ≤ after.mark
-  pub rows : (r : StoredRow) → Contains after.rows r → Contains state.rows r ⊎ (state.mark < r.date)
+  pub watermark : state.watermark ≤ after.watermark
+  pub rows : (r : StoredRow) → Contains after.rows r → Contains state.rows r ⊎ (state.watermark < r.date)
 
 pub later_itself : (state : StoreState) → Later state state
-later_itself state = record { mark = omega arith; rows = λ r h. inl h }
+later_itself state = record { watermark = omega arith; rows = λ r h. inl h }
 
 pub later_both : (a b c : StoreState) → Later a b → Later b c → Later a c
 later_both a b c first second = record {
-  mark = omega (arith, first.mark, second.mark);
+  watermark = omega (arith, first.watermark, second.watermark);
   rows = λ r h. elim (second.rows r h) [
     | inl there ↦ first.rows r there
-    | inr past ↦ inr (omega (arith, past, first.mark))
+    | inr past ↦ inr (omega (arith, past, first.watermark))
   ];
 }
 
 added : (state after : StoreState) → IsAddition state after → Later state after
-added state after step = record { mark = step.mark; rows = rows }
+added state after step = record { watermark = step.watermark; rows = rows }
   where
-    rows : (r : StoredRow) → Contains after.rows r → Contains state.rows r ⊎ (state.mark < r.date)
+    rows : (r : StoredRow) → Contains after.rows r → Contains state.rows r ⊎ (state.watermark < r.date)
     rows r h = elim (Contains-append_cases state.rows step.rows r (subst (λ (s : StoreState). Contains s.rows r) step.after_is h)) [
       | inl there ↦ inl there
-      | inr new ↦ let past = least (state.mark + 1) step.rows r step.rise new in inr (omega (arith, past))
+      | inr new ↦ let past = least (state.watermark + 1) step.rows r step.ascend new in inr (omega (arith, past))
     ]
 
 deleted : (state after : StoreState) → IsDeletion state after → Later state after
-deleted state after step = record { mark = mark; rows = rows }
+deleted state after step = record { watermark = watermark; rows = rows }
   where
-    mark : state.mark ≤ after.mark
-    mark = let same = ap (λ (s : StoreState). s.mark) step.after_is in omega (arith, same)
+    watermark : state.watermark ≤ after.watermark
+    watermark = let same = ap (λ (s : StoreState). s.watermark) step.after_is in omega (arith, same)
 
-    rows : (r : StoredRow) → Contains after.rows r → Contains state.rows r ⊎ (state.mark < r.date)
+    rows : (r : StoredRow) → Contains after.rows r → Contains state.rows r ⊎ (state.watermark < r.date)
     rows r h = inl (All-contains (Contains state.rows) (without step.dates state).rows r
         (All-filter (λ (row : StoredRow). not (is_date_in step.dates row.date)) (Contains state.rows) state.rows (All-contains_itself state.rows))
         (subst (λ (s : StoreState). Contains s.rows r) step.after_is h))

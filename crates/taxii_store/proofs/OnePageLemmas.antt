@@ -6,13 +6,13 @@ use Rattle.stix_ids.specs.declared.id.Id.{Id}
 use Rattle.taxii_rows.specs.declared.stored_row.StoredRow.{StoredRow}
 use Rattle.taxii_routes.specs.declared.query.Query.{Query}
 use Rattle.taxii_store.specs.Page.{page_size, AreAllWhere, IsPage}
-use Rattle.taxii_store.proofs.RowsLemmas.{Rises, none_in, in_cases, in_first, in_rest, least}
+use Rattle.taxii_store.proofs.RowsLemmas.{Ascends, none_in, in_cases, in_first, in_rest, least}
 
 abbrev Within : List StoredRow → List StoredRow → Type 0
 Within xs ys = (r : StoredRow) → Contains xs r → Contains ys r
 
 -- the first rows of two such lists are one
-first_same : (n m : ℕ) (x y : StoredRow) (xs ys : List StoredRow) → Rises n (x ∷ xs) → Rises m (y ∷ ys)
+first_same : (n m : ℕ) (x y : StoredRow) (xs ys : List StoredRow) → Ascends n (x ∷ xs) → Ascends m (y ∷ ys)
     → Within (x ∷ xs) (y ∷ ys) → Within (y ∷ ys) (x ∷ xs) → x ≡ y
 first_same n m x y xs ys p q to from = go (in_cases y ys x (to x (in_first x xs))) (in_cases x xs y (from y (in_first y ys)))
   where
@@ -24,7 +24,7 @@ first_same n m x y xs ys p q to from = go (in_cases y ys x (to x (in_first x xs)
         let second = least (x.date + 1) xs y p.1 later in
         absurd (omega (arith, first, second))
 
-rest_within : (n : ℕ) (x : StoredRow) (xs ys : List StoredRow) → Rises n (x ∷ xs) → Within (x ∷ xs) (x ∷ ys) → Within xs ys
+rest_within : (n : ℕ) (x : StoredRow) (xs ys : List StoredRow) → Ascends n (x ∷ xs) → Within (x ∷ xs) (x ∷ ys) → Within xs ys
 rest_within n x xs ys p to r h = go (in_cases x ys r (to r (in_rest x xs r h)))
   where
     go : (x ≡ r) ⊎ Contains ys r → Contains ys r
@@ -34,20 +34,20 @@ rest_within n x xs ys p to r h = go (in_cases x ys r (to r (in_rest x xs r h)))
         absurd (omega (arith, later, date))
     go (inr there) = there
 
-same_rows : (n m : ℕ) (xs ys : List StoredRow) → Rises n xs → Rises m ys → Within xs ys → Within ys xs → xs ≡ ys
+same_rows : (n m : ℕ) (xs ys : List StoredRow) → Ascends n xs → Ascends m ys → Within xs ys → Within ys xs → xs ≡ ys
 same_rows n m [] [] p q to from = refl
 same_rows n m [] (y ∷ ys) p q to from = absurd (none_in y (from y (in_first y ys)))
 same_rows n m (x ∷ xs) [] p q to from = absurd (none_in x (to x (in_first x xs)))
 same_rows n m (x ∷ xs) (y ∷ ys) p q to from =
     let same = first_same n m x y xs ys p q to from in
-    let q_too = subst (λ (r : StoredRow). Rises m (r ∷ ys)) (sym same) q in
+    let q_too = subst (λ (r : StoredRow). Ascends m (r ∷ ys)) (sym same) q in
     let to_too = subst (λ (r : StoredRow). Within (x ∷ xs) (r ∷ ys)) (sym same) to in
     let from_too = subst (λ (r : StoredRow). Within (r ∷ ys) (x ∷ xs)) (sym same) from in
     let rest = same_rows (x.date + 1) (x.date + 1) xs ys p.1 q_too.1 (rest_within n x xs ys p to_too) (rest_within m x ys xs q_too from_too) in
     ap (λ (r : StoredRow). r ∷ xs) same ∙ ap (λ (rs : List StoredRow). y ∷ rs) rest
 
 all_same : (Rule : StoredRow → Type 0) (rows first second : List StoredRow) → AreAllWhere Rule rows first → AreAllWhere Rule rows second → first ≡ second
-all_same Rule rows first second a b = same_rows 1 1 first second a.rise b.rise
+all_same Rule rows first second a b = same_rows 1 1 first second a.ascend b.ascend
     (λ r h. (b.each r).1 ((a.each r).0 h)) (λ r h. (a.each r).1 ((b.each r).0 h))
 
 meeting_same : (rows : List StoredRow) (collection : ℕ) (only : Option Id) (query : Query) (first second : List StoredRow) (left more : Bool)

@@ -7,7 +7,7 @@ use Rattle.std.proofs.lemmas.List.{take-append-le}
 use Rattle.std.proofs.lemmas.List.Elements.{All-weaker, All-contains, All-contains_itself, Contains-append_left, filter-append, filter_more}
 use Rattle.stix_ids.specs.declared.id.Id.{Id}
 use Rattle.taxii_rows.specs.declared.stored_row.StoredRow.{StoredRow}
-use Rattle.taxii_rows.specs.StoreState.{StoreState, dates_of, RiseFrom}
+use Rattle.taxii_rows.specs.StoreState.{StoreState, dates_of, AscendFrom}
 use Rattle.taxii_rows.specs.SoundRow.{IsSoundRow, IsSoundState}
 use Rattle.taxii_routes.specs.declared.query.Query.{Query}
 use Rattle.taxii_store.specs.Meeting.{Meets}
@@ -55,18 +55,18 @@ from_kept test (x ∷ xs) y there = elim (kept_cases (test x) x y (filter test x
   | inr rest ↦ let found = from_kept test xs y rest in ((suc found.0.0, omega (arith, found.0.1), found.0.2), found.1)
 ]
 
-pub from_earlier : (least then : ℕ) (rows : List StoredRow) → least ≤ then → RiseFrom then (dates_of rows) → RiseFrom least (dates_of rows)
-from_earlier least then [] earlier rise = tt
-from_earlier least then (row ∷ rows) earlier rise = (omega (arith, rise.0, earlier), rise.1)
+pub from_earlier : (least then : ℕ) (rows : List StoredRow) → least ≤ then → AscendFrom then (dates_of rows) → AscendFrom least (dates_of rows)
+from_earlier least then [] earlier ascend = tt
+from_earlier least then (row ∷ rows) earlier ascend = (omega (arith, ascend.0, earlier), ascend.1)
 
-kept_rise : (least : ℕ) (stays : Bool) (row : StoredRow) (rows : List StoredRow) → least ≤ row.date → RiseFrom (row.date + 1) (dates_of rows)
-    → RiseFrom least (dates_of (cond stays (row ∷ rows) rows))
-kept_rise least true row rows here rise = (here, rise)
-kept_rise least false row rows here rise = from_earlier least (row.date + 1) rows (omega (arith, here)) rise
+kept_ascend : (least : ℕ) (stays : Bool) (row : StoredRow) (rows : List StoredRow) → least ≤ row.date → AscendFrom (row.date + 1) (dates_of rows)
+    → AscendFrom least (dates_of (cond stays (row ∷ rows) rows))
+kept_ascend least true row rows here ascend = (here, ascend)
+kept_ascend least false row rows here ascend = from_earlier least (row.date + 1) rows (omega (arith, here)) ascend
 
-rise_kept : (least : ℕ) (test : StoredRow → Bool) (rows : List StoredRow) → RiseFrom least (dates_of rows) → RiseFrom least (dates_of (filter test rows))
-rise_kept least test [] rise = tt
-rise_kept least test (row ∷ rows) rise = kept_rise least (test row) row (filter test rows) rise.0 (rise_kept (row.date + 1) test rows rise.1)
+ascend_kept : (least : ℕ) (test : StoredRow → Bool) (rows : List StoredRow) → AscendFrom least (dates_of rows) → AscendFrom least (dates_of (filter test rows))
+ascend_kept least test [] ascend = tt
+ascend_kept least test (row ∷ rows) ascend = kept_ascend least (test row) row (filter test rows) ascend.0 (ascend_kept (row.date + 1) test rows ascend.1)
 
 -- the first of them, where one more follows
 front : (xs ys : List StoredRow) (row : StoredRow) (zs : List StoredRow) (size : ℕ) → zs ≡ (xs ++ row ∷ []) ++ ys → length xs ≡ size
@@ -147,7 +147,7 @@ module _ (rows : List StoredRow) (collection : ℕ) (only : Option Id) (query : 
       → AreAllWhere (Meets rows collection only query) rows (meeting rows collection only query chosen)
   unfolding meeting
   meeting_all chosen are = record {
-    rise = rise_kept 1 (meets_test rows collection only query) chosen are.rise;
+    ascend = ascend_kept 1 (meets_test rows collection only query) chosen are.ascend;
     each = λ row. (
       λ there. let found = from_kept (meets_test rows collection only query) chosen row there in
           (are.own row found.0, it_holds (settled_meets rows collection only query row) found.1),

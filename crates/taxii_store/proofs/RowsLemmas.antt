@@ -5,10 +5,10 @@ use Rattle.std.specs.List.{Contains}
 use Rattle.std.proofs.lemmas.Bool.{ltb-true, ltb-false, le-ltb}
 use Rattle.std.proofs.lemmas.List.Elements.{Contains-append_left, Contains-append_right, Contains-append_cases, Contains-push, Contains-push_cases}
 use Rattle.taxii_rows.specs.declared.stored_row.StoredRow.{StoredRow}
-use Rattle.taxii_rows.specs.StoreState.{dates_of, RiseFrom}
+use Rattle.taxii_rows.specs.StoreState.{dates_of, AscendFrom}
 
-abbrev pub Rises : ℕ → List StoredRow → Type 0
-Rises n rows = RiseFrom n (dates_of rows)
+abbrev pub Ascends : ℕ → List StoredRow → Type 0
+Ascends n rows = AscendFrom n (dates_of rows)
 
 pub compare : (a b : ℕ) → (a ≤ b) ⊎ (b < a)
 compare zero b = inl (omega arith)
@@ -47,13 +47,13 @@ in_take (suc k) (x ∷ xs) r h = elim (in_cases x (take k xs) r h) [
   | inr rest ↦ in_rest x xs r (in_take k xs r rest)
 ]
 
--- ---- rising dates
+-- ---- ascending dates
 
-pub weaken : (m n : ℕ) (xs : List StoredRow) → m ≤ n → Rises n xs → Rises m xs
+pub weaken : (m n : ℕ) (xs : List StoredRow) → m ≤ n → Ascends n xs → Ascends m xs
 weaken m n [] h p = tt
 weaken m n (x ∷ xs) h p = (omega (arith, p.0), p.1)
 
-pub least : (n : ℕ) (xs : List StoredRow) (r : StoredRow) → Rises n xs → Contains xs r → n ≤ r.date
+pub least : (n : ℕ) (xs : List StoredRow) (r : StoredRow) → Ascends n xs → Contains xs r → n ≤ r.date
 least n [] r p h = absurd (none_in r h)
 least n (x ∷ xs) r p h = go (in_cases x xs r h) (λ rest. least (x.date + 1) xs r p.1 rest)
   where
@@ -66,23 +66,23 @@ abbrev pub last_or : ℕ → List StoredRow → ℕ
 last_or date [] = date
 last_or date (x ∷ xs) = last_or x.date xs
 
-pub rises_append : (n m : ℕ) (xs ys : List StoredRow) → n ≤ m + 1 → Rises n xs → Rises (last_or m xs + 1) ys → Rises n (xs ++ ys)
-rises_append n m [] ys h p q = weaken n (m + 1) ys h q
-rises_append n m (x ∷ xs) ys h p q = (p.0, rises_append (x.date + 1) x.date xs ys (omega arith) p.1 q)
+pub ascends_append : (n m : ℕ) (xs ys : List StoredRow) → n ≤ m + 1 → Ascends n xs → Ascends (last_or m xs + 1) ys → Ascends n (xs ++ ys)
+ascends_append n m [] ys h p q = weaken n (m + 1) ys h q
+ascends_append n m (x ∷ xs) ys h p q = (p.0, ascends_append (x.date + 1) x.date xs ys (omega arith) p.1 q)
 
-pub rises_take : (n k : ℕ) (xs : List StoredRow) → Rises n xs → Rises n (take k xs)
-rises_take n zero [] p = tt
-rises_take n zero (x ∷ xs) p = tt
-rises_take n (suc k) [] p = tt
-rises_take n (suc k) (x ∷ xs) p = (p.0, rises_take (x.date + 1) k xs p.1)
+pub ascends_take : (n k : ℕ) (xs : List StoredRow) → Ascends n xs → Ascends n (take k xs)
+ascends_take n zero [] p = tt
+ascends_take n zero (x ∷ xs) p = tt
+ascends_take n (suc k) [] p = tt
+ascends_take n (suc k) (x ∷ xs) p = (p.0, ascends_take (x.date + 1) k xs p.1)
 
--- rows that are all past a date rise from behind it
-pub rises_past : (n c : ℕ) (xs : List StoredRow) → Rises n xs → ((r : StoredRow) → Contains xs r → c < r.date) → Rises (c + 1) xs
-rises_past n c [] p past = tt
-rises_past n c (x ∷ xs) p past = let first = past x (in_first x xs) in (omega (arith, first), p.1)
+-- rows that are all past a date ascend from behind it
+pub ascends_past : (n c : ℕ) (xs : List StoredRow) → Ascends n xs → ((r : StoredRow) → Contains xs r → c < r.date) → Ascends (c + 1) xs
+ascends_past n c [] p past = tt
+ascends_past n c (x ∷ xs) p past = let first = past x (in_first x xs) in (omega (arith, first), p.1)
 
--- of rising rows, those up to the last of the first k are among the first k
-pub in_first_k : (n m k : ℕ) (xs : List StoredRow) (r : StoredRow) → Rises n xs → Contains xs r → m < r.date → r.date ≤ last_or m (take k xs) → Contains (take k xs) r
+-- of ascending rows, those up to the last of the first k are among the first k
+pub in_first_k : (n m k : ℕ) (xs : List StoredRow) (r : StoredRow) → Ascends n xs → Contains xs r → m < r.date → r.date ≤ last_or m (take k xs) → Contains (take k xs) r
 in_first_k n m k [] r p h past upto = absurd (none_in r h)
 in_first_k n m zero (x ∷ xs) r p h past upto = absurd (omega (arith, past, upto))
 in_first_k n m (suc k) (x ∷ xs) r p h past upto = go (in_cases x xs r h) (λ rest later. in_first_k (x.date + 1) x.date k xs r p.1 rest later upto) (λ rest. least (x.date + 1) xs r p.1 rest)

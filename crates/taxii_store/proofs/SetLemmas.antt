@@ -108,11 +108,11 @@ key_ties x y = both_tied _ _ (nat_cmp x.0 y.0) (slice_cmp nat_cmp x.1.now y.1.no
 -- ---- keys of a list
 
 sorted_keys : (items : List (ℕ × List ℕ)) (keys sorted : List Key) → map parts_of keys ≡ items → IsPermutation keys sorted → IsSorted key_cmp sorted → AreKeysOf items sorted
-sorted_keys items keys sorted is moved ordered = record {
+sorted_keys items keys sorted is shifted ordered = record {
   ordered = ordered;
   same = λ item. (
-    λ here. subst (λ (all : List (ℕ × List ℕ)). Contains all item) is (Contains-permutation _ _ item (IsPermutation-sym _ _ (IsPermutation-map parts_of _ _ moved)) here),
-    λ here. Contains-permutation _ _ item (IsPermutation-map parts_of _ _ moved) (subst (λ (all : List (ℕ × List ℕ)). Contains all item) (sym is) here),
+    λ here. subst (λ (all : List (ℕ × List ℕ)). Contains all item) is (Contains-permutation _ _ item (IsPermutation-sym _ _ (IsPermutation-map parts_of _ _ shifted)) here),
+    λ here. Contains-permutation _ _ item (IsPermutation-map parts_of _ _ shifted) (subst (λ (all : List (ℕ × List ℕ)). Contains all item) (sym is) here),
   );
 }
 
@@ -134,7 +134,7 @@ keys_once items keys once are filtered = subst (AreKeysOf items) (sym (dedup_is 
 -- keys that are sorted, and then those that come twice dropped
 pub keys_of : (items : List (ℕ × List ℕ)) (row sorted once : List Key) → map parts_of row ≡ items → IsPermutation row sorted → IsSorted key_cmp sorted
     → IsFiltered (DiffersFromLast key_eq) [] sorted once → AreKeysOf items once
-keys_of items row sorted once is moved ordered filtered = keys_once items sorted once (sorted_keys items row sorted is moved ordered) filtered
+keys_of items row sorted once is shifted ordered filtered = keys_once items sorted once (sorted_keys items row sorted is shifted ordered) filtered
 
 -- ---- what a look-up finds
 
@@ -162,11 +162,11 @@ found_key : {X : Type 0} (f : X → ℕ × List ℕ) → ((x y : X) → f x ≡ 
     → lent ≡ keys → found ≡ is_ok answer → parts_of key ≡ f x → AreKeysOf (map f xs) keys → IsSearchInRange answer (length lent) → IsBinarySearchResult (λ one. key_cmp one key) lent answer
     → IsTrue found ↔ Contains xs x
 found_key f back xs lent keys key x answer found same is own are within position =
-    let told = subst (λ (item : ℕ × List ℕ). IsTrue (is_ok answer) ↔ Contains (map parts_of keys) item) own
+    let observable = subst (λ (item : ℕ × List ℕ). IsTrue (is_ok answer) ↔ Contains (map parts_of keys) item) own
     (subst (λ (all : List Key). IsTrue (is_ok answer) ↔ Contains (map parts_of all) (parts_of key)) same (searched lent key answer (subst (IsSorted key_cmp) (sym same) are.ordered) within position)) in
     let kept = are.same (f x) in (
-      λ holds. let there = unmapped f xs (f x) (kept.0 (told.0 (sym is ∙ holds))) in subst (Contains xs) (back there.0 x there.2) there.1,
-      λ here. is ∙ told.1 (kept.1 (mapped f xs x here)),
+      λ holds. let there = unmapped f xs (f x) (kept.0 (observable.0 (sym is ∙ holds))) in subst (Contains xs) (back there.0 x there.2) there.1,
+      λ here. is ∙ observable.1 (kept.1 (mapped f xs x here)),
     )
 
 -- ---- texts and identifiers

@@ -12,7 +12,7 @@ use Rattle.taxii_routes.specs.declared.query.Query.{Query}
 use Rattle.taxii_store.specs.Meeting.{IsAskedFor, picks_of}
 use Rattle.taxii_store.specs.Page.{page_size}
 use Rattle.taxii_store.specs.Walk.{Stop, Wanted, AsksAlike, IsStop, GoesFrom, IsWanted, rows_given, last_state, last_date}
-use Rattle.taxii_store.proofs.RowsLemmas.{Rises, compare, least, last_or, rises_append, rises_take, rises_past, in_take, in_first_k, take_all, last_of_k}
+use Rattle.taxii_store.proofs.RowsLemmas.{Ascends, compare, least, last_or, ascends_append, ascends_take, ascends_past, in_take, in_first_k, take_all, last_of_k}
 use Rattle.taxii_store.proofs.HistoryLemmas.{Later, later_itself, later_both, history}
 
 -- the date after which a page goes on
@@ -77,15 +77,15 @@ past : (wanted : Wanted) (next : Option ℕ) (s : Stop) (stop : IsStop wanted ne
     → Contains stop.page.meeting r → cut next < r.date
 past wanted next s stop r h =
     let it = (stop.page.meeting_are.each r).0 h in
-    past_cut next r (least 1 stop.page.meeting r stop.page.meeting_are.rise h)
-    (subst (λ (o : Option ℕ). IfSome o (λ date. date < r.date)) stop.goes_on it.1.asked.next)
+    past_cut next r (least 1 stop.page.meeting r stop.page.meeting_are.ascend h)
+    (subst (λ (o : Option ℕ). IfSome o (λ date. date < r.date)) stop.continues it.1.asked.next)
 
-meeting_rises : (wanted : Wanted) (next : Option ℕ) (s : Stop) (stop : IsStop wanted next s) → Rises (cut next + 1) stop.page.meeting
-meeting_rises wanted next s stop = rises_past 1 (cut next) stop.page.meeting stop.page.meeting_are.rise (past wanted next s stop)
+meeting_ascends : (wanted : Wanted) (next : Option ℕ) (s : Stop) (stop : IsStop wanted next s) → Ascends (cut next + 1) stop.page.meeting
+meeting_ascends wanted next s stop = ascends_past 1 (cut next) stop.page.meeting stop.page.meeting_are.ascend (past wanted next s stop)
 
-page_rises : (wanted : Wanted) (next : Option ℕ) (s : Stop) (stop : IsStop wanted next s) → Rises (cut next + 1) s.page
-page_rises wanted next s stop = subst (λ (xs : List StoredRow). Rises (cut next + 1) xs) (sym stop.page.page_is)
-    (rises_take (cut next + 1) (page_size s.query) stop.page.meeting (meeting_rises wanted next s stop))
+page_ascends : (wanted : Wanted) (next : Option ℕ) (s : Stop) (stop : IsStop wanted next s) → Ascends (cut next + 1) s.page
+page_ascends wanted next s stop = subst (λ (xs : List StoredRow). Ascends (cut next + 1) xs) (sym stop.page.page_is)
+    (ascends_take (cut next + 1) (page_size s.query) stop.page.meeting (meeting_ascends wanted next s stop))
 
 page_asked : (wanted : Wanted) (next : Option ℕ) (s : Stop) → wanted.query.next ≡ None → IsStop wanted next s
     → (r : StoredRow) → Contains s.page r → IsWanted wanted r
@@ -99,14 +99,14 @@ meets_there : (wanted : Wanted) (next : Option ℕ) (s : Stop) (stop : IsStop wa
 meets_there wanted next s stop r there asked after = (stop.page.meeting_are.each r).1 (
   there,
   record {
-    asked = from_wanted wanted s.query next r stop.alike stop.goes_on after asked;
+    asked = from_wanted wanted s.query next r stop.alike stop.continues after asked;
     picked = picked s.query s.state.rows r stop.alike.all;
   },
 )
 
--- where there is more, the page ends at a date that is at most the mark
+-- where there is more, the page ends at a date that is at most the watermark
 ends_marked : (wanted : Wanted) (next : Option ℕ) (s : Stop) → IsStop wanted next s → s.more ≡ true
-    → (last_or (cut next) s.page ≤ s.state.mark) × (cut (last_date s.page) ≡ last_or (cut next) s.page)
+    → (last_or (cut next) s.page ≤ s.state.watermark) × (cut (last_date s.page) ≡ last_or (cut next) s.page)
 ends_marked wanted next s stop more = (marked, same)
   where
     size : 1 ≤ page_size s.query
@@ -118,11 +118,11 @@ ends_marked wanted next s stop more = (marked, same)
     page_same : last_or (cut next) s.page ≡ last_or (cut next) (take (page_size s.query) stop.page.meeting)
     page_same = ap (last_or (cut next)) stop.page.page_is
 
-    marked : last_or (cut next) s.page ≤ s.state.mark
+    marked : last_or (cut next) s.page ≤ s.state.watermark
     marked =
         let it = last_of_k (cut next) (page_size s.query) stop.page.meeting size left in
         let row = (stop.page.meeting_are.each it.0).0 it.1 in
-        let bound = All-contains (λ (row : StoredRow). row.date ≤ s.state.mark) s.state.rows it.0 stop.dated.marked row.0 in
+        let bound = All-contains (λ (row : StoredRow). row.date ≤ s.state.watermark) s.state.rows it.0 stop.dated.marked row.0 in
         omega (arith, page_same, it.2, bound)
 
     same : cut (last_date s.page) ≡ last_or (cut next) s.page
@@ -135,12 +135,12 @@ came : (wanted : Wanted) (next : Option ℕ) (s : Stop) (ts : List Stop) → Goe
 came wanted next s [] w = later_itself s.state
 came wanted next s (t ∷ ts) w = later_both s.state t.state (last_state t ts) (history s.state t.state w.2) (came wanted (last_date s.page) t ts w.3)
 
-pub rises : (wanted : Wanted) (next : Option ℕ) (s : Stop) (ts : List Stop) → GoesFrom wanted next s ts → Rises (cut next + 1) (rows_given s ts)
-rises wanted next s [] w = page_rises wanted next s w.0
-rises wanted next s (t ∷ ts) w =
+pub ascends : (wanted : Wanted) (next : Option ℕ) (s : Stop) (ts : List Stop) → GoesFrom wanted next s ts → Ascends (cut next + 1) (rows_given s ts)
+ascends wanted next s [] w = page_ascends wanted next s w.0
+ascends wanted next s (t ∷ ts) w =
     let ends = ends_marked wanted next s w.0 w.1 in
-    rises_append (cut next + 1) (cut next) s.page (rows_given t ts) (omega arith) (page_rises wanted next s w.0)
-    (subst (λ (n : ℕ). Rises (n + 1) (rows_given t ts)) ends.1 (rises wanted (last_date s.page) t ts w.3))
+    ascends_append (cut next + 1) (cut next) s.page (rows_given t ts) (omega arith) (page_ascends wanted next s w.0)
+    (subst (λ (n : ℕ). Ascends (n + 1) (rows_given t ts)) ends.1 (ascends wanted (last_date s.page) t ts w.3))
 
 pub asked : (wanted : Wanted) (next : Option ℕ) (s : Stop) (ts : List Stop) → wanted.query.next ≡ None → GoesFrom wanted next s ts
     → (r : StoredRow) → Contains (rows_given s ts) r → IsWanted wanted r
@@ -163,7 +163,7 @@ whole wanted next s (t ∷ ts) w r h wish after =
           (whole wanted (last_date s.page) t ts w.3 r h wish (subst (λ (n : ℕ). n < r.date) (sym ends.1) behind))
     ]
   where
-    ends : (last_or (cut next) s.page ≤ s.state.mark) × (cut (last_date s.page) ≡ last_or (cut next) s.page)
+    ends : (last_or (cut next) s.page ≤ s.state.watermark) × (cut (last_date s.page) ≡ last_or (cut next) s.page)
     ends = ends_marked wanted next s w.0 w.1
 
     there : r.date ≤ last_or (cut next) s.page → Contains s.state.rows r
@@ -176,11 +176,11 @@ whole wanted next s (t ∷ ts) w r h wish after =
     on_page upto =
         let met = meets_there wanted next s w.0 r (there upto) wish after in
         subst (λ (xs : List StoredRow). Contains xs r) (sym w.0.page.page_is)
-        (in_first_k (cut next + 1) (cut next) (page_size s.query) w.0.page.meeting r (meeting_rises wanted next s w.0) met after
+        (in_first_k (cut next + 1) (cut next) (page_size s.query) w.0.page.meeting r (meeting_ascends wanted next s w.0) met after
         (subst (λ (xs : List StoredRow). r.date ≤ last_or (cut next) xs) w.0.page.page_is upto))
 
 -- every row has a date past 0
 pub dated : (wanted : Wanted) (next : Option ℕ) (s : Stop) (ts : List Stop) → GoesFrom wanted next s ts
     → (r : StoredRow) → Contains (last_state s ts).rows r → 0 < r.date
-dated wanted next s [] w r h = let it = least 1 s.state.rows r w.0.dated.rise h in omega (arith, it)
+dated wanted next s [] w r h = let it = least 1 s.state.rows r w.0.dated.ascend h in omega (arith, it)
 dated wanted next s (t ∷ ts) w r h = dated wanted (last_date s.page) t ts w.3 r h

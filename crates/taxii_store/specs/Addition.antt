@@ -5,7 +5,7 @@ use Rattle.taxii_rows.specs.declared.stored_row.TheConstants.{LAST_DATE}
 use Rattle.taxii_rows.specs.declared.described.Described.{Described}
 use Rattle.taxii_rows.specs.Described.{row_of}
 use Rattle.taxii_rows.specs.StoreState.{StoreState}
-use Rattle.taxii_index.specs.Presence.{row_of_same}
+use Rattle.taxii_index.specs.Presence.{duplicate_of}
 use Rattle.taxii_store.specs.declared.add_outcome.AddOutcome.{AddOutcome}
 use Rattle.taxii_store.specs.declared.add_outcome.AddOutcome.TheVariants.{Added, Present}
 
@@ -18,7 +18,7 @@ date_in (Present date) = date
 -- first such row. Any other one becomes a row with the next date, which stands behind the others for the objects after it
 abbrev pub Adds : ℕ → ℕ → List StoredRow → List Described → List AddOutcome → List StoredRow → Type 0
 Adds collection date rows [] outcomes new = (outcomes ≡ []) × (new ≡ [])
-Adds collection date rows (object ∷ objects) outcomes new = MatchOption (row_of_same collection object rows)
+Adds collection date rows (object ∷ objects) outcomes new = MatchOption (duplicate_of collection object rows)
     ((others : List AddOutcome) × (more : List StoredRow)
     × (outcomes ≡ Added date ∷ others) × (new ≡ row_of object date collection ∷ more)
     × Adds collection (date + 1) (rows ++ row_of object date collection ∷ []) objects others more)
@@ -26,21 +26,21 @@ Adds collection date rows (object ∷ objects) outcomes new = MatchOption (row_o
 
 -- the date of the first of so many new rows: the moment, but past every date given, and early enough that the others have dates too
 abbrev pub first_date : ℕ → ℕ → ℕ → ℕ
-first_date mark moment count = max (mark + 1) (min moment (LAST_DATE + 1 - count))
+first_date watermark moment count = max (watermark + 1) (min moment (LAST_DATE + 1 - count))
 
 -- an addition at a moment: what becomes of each object, and the new rows by date
 pub record IsAddition (state : StoreState) (collection moment : ℕ) (objects : List Described) (outcomes : List AddOutcome) (new : List StoredRow) : Type 0 where
-  pub adds : Adds collection (first_date state.mark moment (length new)) state.rows objects outcomes new
-  pub room : state.mark + length new ≤ LAST_DATE
+  pub adds : Adds collection (first_date state.watermark moment (length new)) state.rows objects outcomes new
+  pub room : state.watermark + length new ≤ LAST_DATE
 
 -- fewer dates are left than the addition has new rows
 pub record UsesUpDates (state : StoreState) (collection : ℕ) (objects : List Described) : Type 0 where
   pub outcomes : List AddOutcome
   pub new : List StoredRow
-  pub adds : Adds collection (state.mark + 1) state.rows objects outcomes new
-  pub lacks : LAST_DATE < state.mark + length new
+  pub adds : Adds collection (state.watermark + 1) state.rows objects outcomes new
+  pub lacks : LAST_DATE < state.watermark + length new
 
 -- the last date given after some new rows
-abbrev pub mark_after : ℕ → List StoredRow → ℕ
-mark_after mark [] = mark
-mark_after mark (row ∷ rows) = mark_after row.date rows
+abbrev pub watermark_after : ℕ → List StoredRow → ℕ
+watermark_after watermark [] = watermark
+watermark_after watermark (row ∷ rows) = watermark_after row.date rows

@@ -4,7 +4,7 @@ use Rattle.std.specs.List.{Contains}
 use Rattle.stix_ids.specs.declared.id.Id.{Id}
 use Rattle.stix_ids.specs.declared.pick.Pick.{Pick}
 use Rattle.taxii_rows.specs.declared.stored_row.StoredRow.{StoredRow}
-use Rattle.taxii_rows.specs.StoreState.{RiseFrom}
+use Rattle.taxii_rows.specs.StoreState.{AscendFrom}
 use Rattle.taxii_rows.specs.Identity.{is_row_of}
 use Rattle.taxii_rows.specs.Picking.{IsPicked}
 
@@ -13,7 +13,7 @@ pub record IsTaken (rows : List StoredRow) (collection : ℕ) (id : Id) (picks :
   pub its : is_row_of collection id row ≡ true
   pub picked : IsPicked picks rows row
 
--- the dates of the rows that are taken, rising
+-- the dates of the rows that are taken, ascending
 pub record AreDatesTaken (rows : List StoredRow) (collection : ℕ) (id : Id) (picks : List Pick) (dates : List ℕ) : Type 0 where
-  pub rise : RiseFrom 1 dates
+  pub ascend : AscendFrom 1 dates
   pub each : (date : ℕ) → Contains dates date ↔ ((row : StoredRow) × Contains rows row × IsTaken rows collection id picks row × (row.date ≡ date))

@@ -1,23 +1,23 @@
 -- Histories of a store: what additions and deletions make of it, in turn. Nothing else changes it.
 use Rattle.std.specs.Prelude.{◌≡◌, ◌⊎◌, ℕ, ◌+◌, ◌≤◌, List, [], ◌∷◌, All}
 use Rattle.taxii_rows.specs.declared.stored_row.StoredRow.{StoredRow}
-use Rattle.taxii_rows.specs.StoreState.{StoreState, dates_of, RiseFrom}
+use Rattle.taxii_rows.specs.StoreState.{StoreState, dates_of, AscendFrom}
 use Rattle.taxii_rows.specs.Keeper.{with_rows, without}
 
--- the dates rise strictly from at least 1, and none is later than the mark
+-- the dates ascend strictly from at least 1, and none is later than the watermark
 pub record IsDated (state : StoreState) : Type 0 where
-  pub rise : RiseFrom 1 (dates_of state.rows)
-  pub marked : All (λ row. row.date ≤ state.mark) state.rows
+  pub ascend : AscendFrom 1 (dates_of state.rows)
+  pub marked : All (λ row. row.date ≤ state.watermark) state.rows
 
--- an addition: rows stand behind the others, each later than every date that was given before, and the last date given is the mark
+-- an addition: rows stand behind the others, each later than every date that was given before, and the last date given is the watermark
 pub record IsAddition (state after : StoreState) : Type 0 where
   pub rows : List StoredRow
-  pub rise : RiseFrom (state.mark + 1) (dates_of rows)
-  pub marked : All (λ row. row.date ≤ after.mark) rows
-  pub mark : state.mark ≤ after.mark
-  pub after_is : after ≡ with_rows rows after.mark state
+  pub ascend : AscendFrom (state.watermark + 1) (dates_of rows)
+  pub marked : All (λ row. row.date ≤ after.watermark) rows
+  pub watermark : state.watermark ≤ after.watermark
+  pub after_is : after ≡ with_rows rows after.watermark state
 
--- a deletion: the rows of some dates are gone, and the mark stays
+-- a deletion: the rows of some dates are gone, and the watermark stays
 pub record IsDeletion (state after : StoreState) : Type 0 where
   pub dates : List ℕ
   pub after_is : after ≡ without dates state

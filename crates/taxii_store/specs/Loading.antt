@@ -17,24 +17,24 @@ abbrev pub load_refusal : KeeperRefusal → LoadRefusal
 load_refusal Fault = KeeperFault
 load_refusal KeeperWants = OutOfMemory
 
--- the row is sound, and neither past the mark nor past the last date there is
-pub record IsFit (mark : ℕ) (row : StoredRow) : Type 0 where
-  pub marked : row.date ≤ mark
+-- the row is sound, and neither past the watermark nor past the last date there is
+pub record IsFit (watermark : ℕ) (row : StoredRow) : Type 0 where
+  pub marked : row.date ≤ watermark
   pub last : row.date ≤ LAST_DATE
   pub sound : IsSoundRow row
 
 -- the rows up to that date are fit, of which it is the last, or there is none
 pub record AreFitUpTo (state : StoreState) (after : ℕ) : Type 0 where
-  pub fit : (row : StoredRow) → Contains state.rows row → row.date ≤ after → IsFit state.mark row
+  pub fit : (row : StoredRow) → Contains state.rows row → row.date ≤ after → IsFit state.watermark row
   pub ends : (after ≡ 0) ⊎ ((row : StoredRow) × Contains state.rows row × (row.date ≡ after))
 
--- the first row that isn't fit is the one behind that date; where no row is behind it, the mark is past the last date there is
+-- the first row that isn't fit is the one behind that date; where no row is behind it, the watermark is past the last date there is
 pub record IsBadAfter (state : StoreState) (after : ℕ) : Type 0 where
   pub before : AreFitUpTo state after
-  pub bad : MatchOption (row_after after state.rows) (LAST_DATE < state.mark) (λ row. ¬ IsFit state.mark row)
+  pub bad : MatchOption (row_after after state.rows) (LAST_DATE < state.watermark) (λ row. ¬ IsFit state.watermark row)
 
 -- a library was loaded from the rows that a keeper has under a name
 pub record IsLoaded (name : List ℕ) (kept : Kept) (library : StoreState) : Type 0 where
   pub agrees : Agrees kept library
   pub sound : IsSoundState library
-  pub named : kept.name ≡ option_map (λ _. name) kept.told
+  pub named : kept.name ≡ option_map (λ _. name) kept.observable

@@ -3,7 +3,7 @@ use Rattle.std.specs.Prelude.{◌≡◌, ◌↔◌, ℕ, List, length, take, min
 use Rattle.std.specs.List.{Contains}
 use Rattle.stix_ids.specs.declared.id.Id.{Id}
 use Rattle.taxii_rows.specs.declared.stored_row.StoredRow.{StoredRow}
-use Rattle.taxii_rows.specs.StoreState.{dates_of, RiseFrom}
+use Rattle.taxii_rows.specs.StoreState.{dates_of, AscendFrom}
 use Rattle.taxii_routes.specs.declared.query.Query.{Query}
 use Rattle.taxii_store.specs.Meeting.{Meets}
 
@@ -13,7 +13,7 @@ page_size query = min (unwrap_or query.limit 100) 100
 
 -- all rows of which the rule holds, each once, by date
 pub record AreAllWhere (Rule : StoredRow → Type 0) (rows all : List StoredRow) : Type 0 where
-  pub rise : RiseFrom 1 (dates_of all)
+  pub ascend : AscendFrom 1 (dates_of all)
   pub each : (row : StoredRow) → Contains all row ↔ (Contains rows row × Rule row)
 
 -- the page has the first of the rows that meet the query, and `more` is whether it leaves any

@@ -5,13 +5,13 @@ use Rattle.taxii_rows.specs.declared.stored_row.TheConstants.{LAST_DATE}
 use Rattle.taxii_rows.specs.declared.described.Described.{Described}
 use Rattle.taxii_rows.specs.Described.{row_of}
 use Rattle.taxii_rows.specs.SoundRow.{IsSoundRow}
-use Rattle.taxii_rows.specs.StoreState.{dates_of, RiseFrom}
+use Rattle.taxii_rows.specs.StoreState.{dates_of, AscendFrom}
 use Rattle.taxii_store.specs.declared.add_outcome.AddOutcome.{AddOutcome}
-use Rattle.taxii_store.specs.Addition.{mark_after}
+use Rattle.taxii_store.specs.Addition.{watermark_after}
 
--- the mark of the store that it was planned for, what became of each object, and the new rows by date
+-- the watermark of the store that it was planned for, what became of each object, and the new rows by date
 pub record PlannedState : Type 0 where
-  pub mark : ℕ
+  pub watermark : ℕ
   pub outcomes : List AddOutcome
   pub rows : List StoredRow
 
@@ -19,9 +19,9 @@ pub record PlannedState : Type 0 where
 abbrev pub IsSound : Described → Type 0
 IsSound object = (date collection : ℕ) → IsSoundRow (row_of object date collection)
 
--- the new rows may be added to a sound store with that mark, which then is sound with their last date as its mark
+-- the new rows may be added to a sound store with that watermark, which then is sound with their last date as its watermark
 pub record IsSoundPlan (planned : PlannedState) : Type 0 where
-  pub rise : RiseFrom (planned.mark + 1) (dates_of planned.rows)
-  pub last : mark_after planned.mark planned.rows ≤ LAST_DATE
+  pub ascend : AscendFrom (planned.watermark + 1) (dates_of planned.rows)
+  pub last : watermark_after planned.watermark planned.rows ≤ LAST_DATE
   pub dates : All (λ row. row.date ≤ LAST_DATE) planned.rows
   pub rows : All IsSoundRow planned.rows

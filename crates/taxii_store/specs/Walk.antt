@@ -37,7 +37,7 @@ pub record AsksAlike (wanted query : Query) : Type 0 where
 pub record IsStop (wanted : Wanted) (next : Option ℕ) (stop : Stop) : Type 0 where
   pub dated : IsDated stop.state
   pub alike : AsksAlike wanted.query stop.query
-  pub goes_on : stop.query.next ≡ next
+  pub continues : stop.query.next ≡ next
   pub page : IsPage stop.state.rows wanted.collection wanted.only stop.query stop.page stop.more
 
 -- the date of the last of some rows

@@ -18,7 +18,7 @@ use crate::{Library, PickSet};
 
 /// What a request asks of a row, prepared once: lists are sets.
 #[derive(Drop)]
-pub(crate) struct Asked<'a> {
+pub(crate) struct RowFilter<'a> {
     collection: u128,
     only: Option<&'a Id>,
     kinds: Option<TextSet<'a>>,
@@ -26,20 +26,20 @@ pub(crate) struct Asked<'a> {
     picks: PickSet,
 }
 
-impl<'a> Asked<'a> {
+impl<'a> RowFilter<'a> {
     /// What a query asks of a collection, and of that object only where one is named.
     pub(crate) fn of(
         alloc: Global,
         collection: u128,
         only: Option<&'a Id>,
         query: &'a Query,
-    ) -> Result<Asked<'a>, NoMemory>
+    ) -> Result<RowFilter<'a>, NoMemory>
         ensures { IfOk result (Asks collection (option_map (λ id. id.now) only.entry) query.now) }
     {
         let kinds = kind_set(alloc, &query.kinds)?;
         let ids = id_set(alloc, &query.ids)?;
         let picks = pick_set(alloc, query)?;
-        Ok(Asked {
+        Ok(RowFilter {
             collection,
             only,
             kinds,
@@ -57,10 +57,10 @@ impl<'a> Asked<'a> {
         ensures same { (collection : ℕ) (only : Option Identifier) (query : Wanted) → Asks collection only query self.old
             → Asks collection only query self.new }
     {
-        self.picks.may_select(library, place, row) && self.is_met(library, row)
+        self.picks.may_select(library, place, row) && self.is_match(library, row)
     }
 
-    fn is_met(&mut self, library: &Library, row: &'a StoredRow) -> bool
+    fn is_match(&mut self, library: &Library, row: &'a StoredRow) -> bool
         requires there { Contains library.now.rows row.now }
         ensures meets { (collection : ℕ) (only : Option Identifier) (query : Wanted) → Asks collection only query self.old
             → CanMeet query row.now → IsTrue result ↔ Meets library.now.rows collection only query row.now }

@@ -1,6 +1,6 @@
 ghost use Rattle.std.specs.Prelude.{◌↔◌, IsTrue, IfSome, codes};
 ghost use Rattle.std.specs.List.{Contains};
-ghost use Rattle.taxii_rows.specs.StoreState.{dates_of, RiseFrom};
+ghost use Rattle.taxii_rows.specs.StoreState.{dates_of, AscendFrom};
 ghost use Rattle.taxii_store.specs.inner.Candidates.{AreCandidates, IsCutAt};
 
 use crate::cursor::cursor;
@@ -12,12 +12,12 @@ use crate::Library;
 /// The rows that can meet the query by when they were added, found by halving, and none where it doesn't
 /// ask for the version of the standard that all rows have.
 pub(crate) fn candidates<'a>(library: &'a Library, query: &Query) -> &'a [StoredRow]
-    ensures rise { RiseFrom 1 (dates_of library.now.rows) }
+    ensures ascend { AscendFrom 1 (dates_of library.now.rows) }
     ensures candidates { AreCandidates query.now library.now.rows result.now }
 {
     let rows = library.rows();
     if asks_for_version(query) {
-        rows_behind(rows, cursor(query))
+        rows_after(rows, cursor(query))
     } else {
         &rows[rows.len()..]
     }
@@ -31,8 +31,8 @@ pub(crate) fn asks_for_version(query: &Query) -> bool
 }
 
 /// The rows that were added later than the date.
-fn rows_behind(rows: &[StoredRow], date: u64) -> &[StoredRow]
-    requires { RiseFrom 1 (dates_of rows.now) }
+fn rows_after(rows: &[StoredRow], date: u64) -> &[StoredRow]
+    requires { AscendFrom 1 (dates_of rows.now) }
     ensures { IsCutAt date rows.now result.now }
 {
     let first = rows.partition_point(|row| row.date <= date);

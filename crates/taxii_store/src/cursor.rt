@@ -1,12 +1,12 @@
 ghost use Rattle.std.specs.Prelude.{ℕ, ◌*◌, ◌<◌, ◌↔◌, pos, ◌<ℤ◌};
-ghost use Rattle.taxii_store.specs.inner.Candidates.{IsBehind};
+ghost use Rattle.taxii_store.specs.inner.Candidates.{IsAfter};
 
 use stix_times::{Instant, nanos};
 use taxii_routes::Query;
 
 /// The date, in microseconds since 1970, behind which a row must have been added.
 pub(crate) fn cursor(query: &Query) -> u64
-    ensures { (date : ℕ) → 0 < date → (result < date) ↔ IsBehind query.now date }
+    ensures { (date : ℕ) → 0 < date → (result < date) ↔ IsAfter query.now date }
 {
     let added = match query.added_after {
         Some(instant) => micros(instant),

@@ -2,7 +2,7 @@ ghost use Rattle.std.specs.Prelude.{◌≡◌, ◌↔◌, List, [], IsTrue, IsOk
 ghost use Rattle.std.specs.List.{Contains};
 ghost use Rattle.taxii_rows.specs.Keeper.{without};
 ghost use Rattle.flow_edges.specs.Faults.{Counted};
-ghost use Rattle.taxii_rows.specs.StoreState.{RiseFrom};
+ghost use Rattle.taxii_rows.specs.StoreState.{AscendFrom};
 ghost use Rattle.taxii_store.specs.Agreement.{Agrees, without_rows};
 ghost use Rattle.stix_ids.specs.declared.pick.Pick.{Pick as Picked};
 ghost use Rattle.taxii_rows.specs.Picking.{IsPicked};
@@ -16,7 +16,7 @@ use taxii_rows::laws::sound_states;
 use taxii_rows::{Keeper, KeeperRefusal, StoredRow};
 
 impl Library {
-    /// The dates of the rows of an object in a collection that the picks select, rising. Nothing changes. It takes as many
+    /// The dates of the rows of an object in a collection that the picks select, ascending. Nothing changes. It takes as many
     /// look-ups as the object has rows, and no pass over all.
     pub fn plan_delete(
         &self,
@@ -42,10 +42,10 @@ impl Library {
         requires { Contains self.now.rows row.now }
         ensures { (picks : List Picked) → HasPicks picks set.now → IsTrue result ↔ IsPicked picks self.now.rows row.now }
     {
-        set.may_select(self, self.place_of(row.date), row) && set.selects(self, row)
+        set.may_select(self, self.position_of(row.date), row) && set.selects(self, row)
     }
 
-    /// Removes the rows of these dates, which rise, from the keeper and then from the library. Where there
+    /// Removes the rows of these dates, which ascend, from the keeper and then from the library. Where there
     /// is none the keeper isn't called. The last date ever given stays.
     pub fn commit_delete<K: Keeper>(
         &mut self,
@@ -53,7 +53,7 @@ impl Library {
         dates: &[u64],
     ) -> Result<(), KeeperRefusal>
         requires agrees { Agrees (K.kept keeper.old) self.old }
-        requires rise { RiseFrom 0 dates.now }
+        requires ascend { AscendFrom 0 dates.now }
         ensures agrees { Agrees (K.kept keeper.new) self.new }
         ensures keeper { without_rows (K.kept keeper.new) ≡ without_rows (K.kept keeper.old) }
         ensures ok { OnOk result (self.new ≡ without dates.now self.old) }

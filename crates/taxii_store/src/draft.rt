@@ -1,20 +1,20 @@
 ghost use Rattle.std.specs.Prelude.{◌≡◌, ◌+◌, ◌≤◌, ◌<◌, ◌++◌, ◌∷◌, [], None, Ok, All, IfOk, IfErr, IfSome, OnOk, OnErr, option_map, length};
 ghost use Rattle.taxii_rows.specs.declared.stored_row.TheConstants.{LAST_DATE as last_date};
 ghost use Rattle.taxii_rows.specs.Described.{row_of};
-ghost use Rattle.taxii_index.specs.Presence.{row_of_same};
+ghost use Rattle.taxii_index.specs.Presence.{duplicate_of};
 ghost use Rattle.taxii_store.specs.declared.plan_refusal.PlanRefusal.TheVariants.{DatesUsedUp as UsedUp};
 ghost use Rattle.taxii_store.specs.Addition.{Adds, UsesUpDates, date_in};
 ghost use Rattle.taxii_store.specs.Planned.{IsSound};
 ghost use Rattle.taxii_store.specs.inner.Moving.{IsDraft, Places, LacksDate, plan_of};
 
-use crate::moved::{first_date, last_of, move_outcomes, move_rows};
+use crate::shifted::{first_date, last_of, shift_outcomes, shift_rows};
 use crate::{AddOutcome, Library, PlanRefusal, Planned};
 use flow_values::{Items, NoMemory};
 use std::alloc::Global;
 use taxii_index::{HintedRows, IndexedRows};
 use taxii_rows::{Described, LAST_DATE};
 
-/// An addition whose new rows have the dates behind the mark, while it isn't known how many they are.
+/// An addition whose new rows have the dates behind the watermark, while it isn't known how many they are.
 #[derive(Drop)]
 pub(crate) struct Draft {
     outcomes: Items<AddOutcome>,
@@ -29,8 +29,8 @@ impl Draft {
         objects: Vec<Described>,
     ) -> Result<Draft, PlanRefusal>
         requires { All IsSound objects.items }
-        ensures ok { IfOk result (λ draft. Adds collection (library.now.mark + 1) library.now.rows objects.items draft.outcomes draft.added) }
-        ensures draft { IfOk result (λ draft. IsDraft library.now.mark draft.outcomes draft.added) }
+        ensures ok { IfOk result (λ draft. Adds collection (library.now.watermark + 1) library.now.rows objects.items draft.outcomes draft.added) }
+        ensures draft { IfOk result (λ draft. IsDraft library.now.watermark draft.outcomes draft.added) }
         ensures err { IfErr result (λ refusal. refusal ≡ UsedUp → UsesUpDates library.now collection objects.items) }
     {
         let mut draft = Draft::empty(library.alloc, library.secret, objects.len())?;
@@ -41,20 +41,20 @@ impl Draft {
     }
 
     /// The plan at a moment, in microseconds since 1970: its new rows begin there where that is past the
-    /// mark, and where the last of them still has a date.
-    pub(crate) fn planned_at(self, mark: u64, moment: u64) -> Planned
-        requires draft { IsDraft mark self.outcomes self.added }
-        ensures { result ≡ plan_of mark moment self.outcomes self.added }
+    /// watermark, and where the last of them still has a date.
+    pub(crate) fn planned_at(self, watermark: u64, moment: u64) -> Planned
+        requires draft { IsDraft watermark self.outcomes self.added }
+        ensures { result ≡ plan_of watermark moment self.outcomes self.added }
     {
         let count = self.added.as_slice().len() as u64;
-        let ahead = first_date(mark, moment, count) - (mark + 1);
+        let shift = first_date(watermark, moment, count) - (watermark + 1);
         let mut rows = self.added.into_rows();
         let mut outcomes = self.outcomes.into_vec();
-        move_rows(&mut rows, ahead);
-        move_outcomes(&mut outcomes, mark, ahead);
-        let last = last_of(&rows, mark);
+        shift_rows(&mut rows, shift);
+        shift_outcomes(&mut outcomes, watermark, shift);
+        let last = last_of(&rows, watermark);
         Planned {
-            mark,
+            watermark,
             last,
             outcomes,
             rows,
@@ -79,24 +79,24 @@ impl Draft {
         collection: u128,
         object: Described,
     ) -> Result<(), PlanRefusal>
-        requires draft { IsDraft library.now.mark self.old.outcomes self.old.added }
+        requires draft { IsDraft library.now.watermark self.old.outcomes self.old.added }
         requires sound { IsSound object }
         ensures ok { OnOk result (Places library.now collection object self.old.outcomes self.old.added self.new.outcomes self.new.added) }
-        ensures draft { OnOk result (IsDraft library.now.mark self.new.outcomes self.new.added) }
+        ensures draft { OnOk result (IsDraft library.now.watermark self.new.outcomes self.new.added) }
         ensures err { IfErr result (λ refusal. refusal ≡ UsedUp → LacksDate library.now collection object self.old.added) }
     {
-        let outcome = match self.date_of_same(library, collection, &object) {
+        let outcome = match self.date_of_duplicate(library, collection, &object) {
             Some(date) => AddOutcome::Present { date },
-            None => self.add(library.mark, collection, object)?,
+            None => self.add(library.watermark, collection, object)?,
         };
         self.outcomes.push(outcome)?;
         Ok(())
     }
 
     /// The date of the first row that makes the object present.
-    fn date_of_same(&self, library: &Library, collection: u128, object: &Described) -> Option<u64>
-        requires { IsDraft library.now.mark self.now.outcomes self.now.added }
-        ensures date { result ≡ option_map (λ row. row.date) (row_of_same collection object.now (library.now.rows ++ self.now.added)) }
+    fn date_of_duplicate(&self, library: &Library, collection: u128, object: &Described) -> Option<u64>
+        requires { IsDraft library.now.watermark self.now.outcomes self.now.added }
+        ensures date { result ≡ option_map (λ row. row.date) (duplicate_of collection object.now (library.now.rows ++ self.now.added)) }
         ensures known { IfSome result (λ date. date ≤ last_date) }
     {
         let held = date_held(&library.rows, collection, object);
@@ -109,20 +109,20 @@ impl Draft {
     /// A new row of the object, with the next date.
     fn add(
         &mut self,
-        mark: u64,
+        watermark: u64,
         collection: u128,
         object: Described,
     ) -> Result<AddOutcome, PlanRefusal>
-        requires draft { IsDraft mark self.old.outcomes self.old.added }
+        requires draft { IsDraft watermark self.old.outcomes self.old.added }
         requires sound { IsSound object }
-        ensures outcome { IfOk result (λ outcome. outcome ≡ AddOutcome.Added (mark + 1 + length self.old.added)) }
+        ensures outcome { IfOk result (λ outcome. outcome ≡ AddOutcome.Added (watermark + 1 + length self.old.added)) }
         ensures known { IfOk result (λ outcome. date_in outcome ≤ last_date) }
-        ensures row { OnOk result (self.new.added ≡ self.old.added ++ row_of object (mark + 1 + length self.old.added) collection ∷ []) }
-        ensures draft { OnOk result (IsDraft mark self.new.outcomes self.new.added) }
+        ensures row { OnOk result (self.new.added ≡ self.old.added ++ row_of object (watermark + 1 + length self.old.added) collection ∷ []) }
+        ensures draft { OnOk result (IsDraft watermark self.new.outcomes self.new.added) }
         ensures outcomes { self.new.outcomes ≡ self.old.outcomes }
-        ensures err { IfErr result (λ refusal. refusal ≡ UsedUp → last_date < mark + 1 + length self.old.added) }
+        ensures err { IfErr result (λ refusal. refusal ≡ UsedUp → last_date < watermark + 1 + length self.old.added) }
     {
-        let date = mark + 1 + self.added.as_slice().len() as u64;
+        let date = watermark + 1 + self.added.as_slice().len() as u64;
         if date > LAST_DATE {
             return Err(PlanRefusal::DatesUsedUp);
         }
@@ -133,16 +133,16 @@ impl Draft {
 
 /// The date of the first of the rows of a library that makes the object present.
 fn date_held(rows: &HintedRows, collection: u128, object: &Described) -> Option<u64>
-    ensures { result ≡ option_map (λ row. row.date) (row_of_same collection object.now rows.now) }
+    ensures { result ≡ option_map (λ row. row.date) (duplicate_of collection object.now rows.now) }
 {
-    let row = rows.row_of_same(collection, object)?;
+    let row = rows.duplicate_of(collection, object)?;
     Some(row.date)
 }
 
 /// The date of the first of the new rows that makes the object present.
 fn date_added(rows: &IndexedRows, collection: u128, object: &Described) -> Option<u64>
-    ensures { result ≡ option_map (λ row. row.date) (row_of_same collection object.now rows.now) }
+    ensures { result ≡ option_map (λ row. row.date) (duplicate_of collection object.now rows.now) }
 {
-    let row = rows.row_of_same(collection, object)?;
+    let row = rows.duplicate_of(collection, object)?;
     Some(row.date)
 }

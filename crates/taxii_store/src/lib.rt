@@ -23,7 +23,7 @@ mod id_set;
 mod library;
 mod load;
 mod load_refusal;
-mod moved;
+mod shifted;
 mod page;
 pub mod page_laws;
 mod pick_set;

@@ -7,7 +7,7 @@ ghost use Rattle.stix_ids.specs.declared.pick.Pick.TheVariants.{Last as LastOne,
 ghost use Rattle.taxii_rows.specs.SoundRow.{IsSoundState};
 ghost use Rattle.taxii_index.specs.Names.{id_of};
 ghost use Rattle.taxii_index.specs.Index.{HasRowOf, AreRowsOf};
-ghost use Rattle.taxii_store.specs.Addition.{mark_after};
+ghost use Rattle.taxii_store.specs.Addition.{watermark_after};
 ghost use Rattle.taxii_store.specs.Agreement.{Agrees, without_rows};
 
 use crate::Planned;
@@ -25,7 +25,7 @@ pub struct Library {
     pub(crate) alloc: Global,
     pub(crate) secret: u128,
     pub(crate) rows: HintedRows,
-    pub(crate) mark: u64,
+    pub(crate) watermark: u64,
 }
 
 impl Model for Library {
@@ -34,9 +34,9 @@ impl Model for Library {
 
     ghost Value = { StoreState };
 
-    ghost view = { λ library. record { rows = library.rows; mark = library.mark } };
+    ghost view = { λ library. record { rows = library.rows; watermark = library.watermark } };
 
-    ghost invariant = { λ library. IsSoundState (record { rows = library.rows; mark = library.mark }) };
+    ghost invariant = { λ library. IsSoundState (record { rows = library.rows; watermark = library.watermark }) };
 }
 
 impl Library {
@@ -77,8 +77,8 @@ impl Library {
     }
 
     /// Where the row of a date stands among the rows, if there is one. It only hints.
-    pub fn place_of(&self, date: u64) -> usize {
-        self.rows.place_of(date)
+    pub fn position_of(&self, date: u64) -> usize {
+        self.rows.position_of(date)
     }
 
     /// Whether one of the picks selects a row of the library, among the rows of its object.
@@ -114,10 +114,10 @@ impl Library {
         planned: Planned,
     ) -> Result<(), KeeperRefusal>
         requires agrees { Agrees (K.kept keeper.old) self.old }
-        requires mark { planned.mark ≡ self.old.mark }
+        requires watermark { planned.watermark ≡ self.old.watermark }
         ensures agrees { Agrees (K.kept keeper.new) self.new }
         ensures keeper { without_rows (K.kept keeper.new) ≡ without_rows (K.kept keeper.old) }
-        ensures ok { OnOk result (self.new ≡ with_rows planned.rows (mark_after planned.mark planned.rows) self.old) }
+        ensures ok { OnOk result (self.new ≡ with_rows planned.rows (watermark_after planned.watermark planned.rows) self.old) }
         ensures err { OnErr result (self.new ≡ self.old) }
         ensures nothing { planned.rows ≡ [] → IsOk result × (keeper.new ≡ keeper.old) }
         ensures causes { Counted (result ≡ Err KeeperRefusal.Fault) (K.faults keeper.old) (K.faults keeper.new) }
@@ -132,7 +132,7 @@ impl Library {
         self.rows.append(planned.rows)?;
         match keeper.append(&self.rows.as_slice()[length..], last) {
             Ok(()) => {
-                self.mark = last;
+                self.watermark = last;
                 Ok(())
             }
             Err(refusal) => {

@@ -2,7 +2,7 @@ ghost use Rattle.std.specs.Prelude.{◌≡◌, ◌≤◌, ◌<◌, ◌↔◌, �
 ghost use Rattle.flow_edges.specs.Faults.{Counted};
 ghost use Rattle.taxii_rows.specs.declared.stored_row.TheConstants.{LAST_DATE as last_date};
 ghost use Rattle.taxii_rows.specs.Keeper.{row_after};
-ghost use Rattle.taxii_rows.specs.StoreState.{dates_of, RiseFrom};
+ghost use Rattle.taxii_rows.specs.StoreState.{dates_of, AscendFrom};
 ghost use Rattle.taxii_store.specs.Loading.{IsFit, IsBadAfter, IsLoaded};
 ghost use Rattle.taxii_store.specs.inner.Reading.{AreFit, IsBadNext};
 ghost use Rattle.taxii_store.specs.declared.load_refusal.LoadRefusal.TheVariants as Refused;
@@ -15,20 +15,20 @@ use taxii_index::HintedRows;
 use taxii_rows::{Keeper, LAST_DATE, StoredRow, is_sound_row};
 
 impl Library {
-    /// Reads the rows of a keeper under a name, and its mark. The keeper's rows and its mark stay.
+    /// Reads the rows of a keeper under a name, and its watermark. The keeper's rows and its watermark stay.
     pub fn load<K: Keeper>(
         alloc: Global,
         keeper: &mut K,
         name: &str,
     ) -> Result<Library, LoadRefusal>
         ensures ok { IfOk result (IsLoaded name.now (K.kept keeper.new)) }
-        ensures bad { IfErr result (λ refusal. (after : ℕ) → refusal ≡ Refused.BadRow after → IfSome (K.kept keeper.old).told (λ state. IsBadAfter state after)) }
-        ensures told { (K.kept keeper.new).told ≡ (K.kept keeper.old).told }
+        ensures bad { IfErr result (λ refusal. (after : ℕ) → refusal ≡ Refused.BadRow after → IfSome (K.kept keeper.old).observable (λ state. IsBadAfter state after)) }
+        ensures observable { (K.kept keeper.new).observable ≡ (K.kept keeper.old).observable }
         ensures causes { Counted (result ≡ Err Refused.KeeperFault) (K.faults keeper.old) (K.faults keeper.new) }
     {
         keeper.attach(name)?;
-        let mark = keeper.mark()?;
-        let found = read_rows(alloc, keeper, mark)?;
+        let watermark = keeper.watermark()?;
+        let found = read_rows(alloc, keeper, watermark)?;
         let secret = keeper.secret();
         let mut rows = HintedRows::new(alloc, secret);
         rows.append(found.into_vec())?;
@@ -36,7 +36,7 @@ impl Library {
             alloc,
             secret,
             rows,
-            mark,
+            watermark,
         })
     }
 }
@@ -45,13 +45,13 @@ impl Library {
 fn read_rows<K: Keeper>(
     alloc: Global,
     keeper: &mut K,
-    mark: u64,
+    watermark: u64,
 ) -> Result<Items<StoredRow>, LoadRefusal>
     requires attached { (K.kept keeper.old).attached ≡ true }
-    requires told { IfSome (K.kept keeper.old).told (λ state. (state.mark ≡ mark) × RiseFrom 1 (dates_of state.rows)) }
-    ensures rows { IfOk result (λ rows. IfSome (K.kept keeper.old).told (λ state. rows ≡ state.rows)) }
-    ensures fit { IfOk result (λ rows. AreFit mark rows) }
-    ensures bad { IfErr result (λ refusal. (after : ℕ) → refusal ≡ Refused.BadRow after → IfSome (K.kept keeper.old).told (λ state. IsBadAfter state after)) }
+    requires observable { IfSome (K.kept keeper.old).observable (λ state. (state.watermark ≡ watermark) × AscendFrom 1 (dates_of state.rows)) }
+    ensures rows { IfOk result (λ rows. IfSome (K.kept keeper.old).observable (λ state. rows ≡ state.rows)) }
+    ensures fit { IfOk result (λ rows. AreFit watermark rows) }
+    ensures bad { IfErr result (λ refusal. (after : ℕ) → refusal ≡ Refused.BadRow after → IfSome (K.kept keeper.old).observable (λ state. IsBadAfter state after)) }
     ensures stays { K.kept keeper.new ≡ K.kept keeper.old }
     ensures causes { Counted (result ≡ Err Refused.KeeperFault) (K.faults keeper.old) (K.faults keeper.new) }
 {
@@ -59,7 +59,7 @@ fn read_rows<K: Keeper>(
     let mut rows = Items::new(alloc);
     let mut after = 0;
     loop {
-        let Some(row) = next_fit(alloc, &mut reader, keeper, after, mark)? else {
+        let Some(row) = next_fit(alloc, &mut reader, keeper, after, watermark)? else {
             return Ok(rows);
         };
         after = row.date;
@@ -67,25 +67,25 @@ fn read_rows<K: Keeper>(
     }
 }
 
-/// The first row behind the date, where it may stand there. At the end, the mark has to be a date.
+/// The first row behind the date, where it may stand there. At the end, the watermark has to be a date.
 fn next_fit<K: Keeper>(
     alloc: Global,
     reader: &mut JsonReader,
     keeper: &mut K,
     after: u64,
-    mark: u64,
+    watermark: u64,
 ) -> Result<Option<StoredRow>, LoadRefusal>
     requires attached { (K.kept keeper.old).attached ≡ true }
-    requires mark { IfSome (K.kept keeper.old).told (λ state. state.mark ≡ mark) }
-    ensures next { IfOk result (λ found. IfSome (K.kept keeper.old).told (λ state. found ≡ row_after after state.rows)) }
-    ensures fit { IfOk result (λ found. IfSome found (λ row. (after < row.date) × IsFit mark row)) }
-    ensures last { result ≡ Ok None → mark ≤ last_date }
-    ensures bad { IfErr result (λ refusal. (at : ℕ) → refusal ≡ Refused.BadRow at → (at ≡ after) × IfSome (K.kept keeper.old).told (λ state. IsBadNext state after)) }
+    requires watermark { IfSome (K.kept keeper.old).observable (λ state. state.watermark ≡ watermark) }
+    ensures next { IfOk result (λ found. IfSome (K.kept keeper.old).observable (λ state. found ≡ row_after after state.rows)) }
+    ensures fit { IfOk result (λ found. IfSome found (λ row. (after < row.date) × IsFit watermark row)) }
+    ensures last { result ≡ Ok None → watermark ≤ last_date }
+    ensures bad { IfErr result (λ refusal. (at : ℕ) → refusal ≡ Refused.BadRow at → (at ≡ after) × IfSome (K.kept keeper.old).observable (λ state. IsBadNext state after)) }
     ensures stays { K.kept keeper.new ≡ K.kept keeper.old }
     ensures causes { Counted (result ≡ Err Refused.KeeperFault) (K.faults keeper.old) (K.faults keeper.new) }
 {
     let found = keeper.next_after(after)?;
-    if may_follow(alloc, reader, &found, after, mark)? {
+    if may_follow(alloc, reader, &found, after, watermark)? {
         Ok(found)
     } else {
         Err(LoadRefusal::BadRow { after })
@@ -98,19 +98,19 @@ fn may_follow(
     reader: &mut JsonReader,
     found: &Option<StoredRow>,
     after: u64,
-    mark: u64,
+    watermark: u64,
 ) -> Result<bool, NoMemory>
-    ensures { IfOk result (λ follows. IsTrue follows ↔ MatchOption found.now (mark ≤ last_date) (λ row. (after < row.date) × IsFit mark row)) }
+    ensures { IfOk result (λ follows. IsTrue follows ↔ MatchOption found.now (watermark ≤ last_date) (λ row. (after < row.date) × IsFit watermark row)) }
 {
     match found {
-        Some(row) => Ok(is_dated(row, after, mark) && is_sound_row(alloc, reader, row)?),
-        None => Ok(mark <= LAST_DATE),
+        Some(row) => Ok(is_dated(row, after, watermark) && is_sound_row(alloc, reader, row)?),
+        None => Ok(watermark <= LAST_DATE),
     }
 }
 
-/// Whether the row's date is behind that one, and no later than the mark and the last date there is.
-fn is_dated(row: &StoredRow, after: u64, mark: u64) -> bool
-    ensures { IsTrue result ↔ ((after < row.now.date) × (row.now.date ≤ mark) × (row.now.date ≤ last_date)) }
+/// Whether the row's date is behind that one, and no later than the watermark and the last date there is.
+fn is_dated(row: &StoredRow, after: u64, watermark: u64) -> bool
+    ensures { IsTrue result ↔ ((after < row.now.date) × (row.now.date ≤ watermark) × (row.now.date ≤ last_date)) }
 {
-    after < row.date && row.date <= mark && row.date <= LAST_DATE
+    after < row.date && row.date <= watermark && row.date <= LAST_DATE
 }

@@ -2,14 +2,14 @@ use flow_values::NoMemory;
 use taxii_rows::KeeperRefusal;
 use thiserror::Error;
 
-/// Why the rows of a keeper aren't loaded. The keeper's rows and its mark are as they were.
+/// Why the rows of a keeper aren't loaded. The keeper's rows and its watermark are as they were.
 #[derive(Clone, Copy, Debug, PartialEq, Eq, Error)]
 pub enum LoadRefusal {
     /// A call of the keeper failed, and it has counted it.
     #[error("the keeper of the rows failed")]
     KeeperFault,
-    /// The row behind this date isn't what its body gives, or its date is past the mark; or no row is behind
-    /// it, and the mark is past the last date there is.
+    /// The row behind this date isn't what its body gives, or its date is past the watermark; or no row is behind
+    /// it, and the watermark is past the last date there is.
     #[error("bad row after {after}")]
     BadRow {
         /// In microseconds since 1970; 0 where it is the first row.

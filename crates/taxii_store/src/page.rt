@@ -1,7 +1,7 @@
 ghost use Rattle.std.specs.Prelude.{◌≡◌, map, IfOk, option_map, Some};
 ghost use Rattle.taxii_store.specs.Page.{page_size as size_of, IsPage};
 
-use crate::asked::Asked;
+use crate::asked::RowFilter;
 use crate::candidates::{asks_for_version, candidates};
 use crate::cursor::cursor;
 use flow_values::NoMemory;
@@ -53,7 +53,7 @@ fn page_of_all<'a>(
     ensures { IfOk result (λ page. IsPage library.now.rows collection (option_map (λ id. id.now) only.entry) query.now (map (λ row. row.now) page.rows.items) page.more) }
 {
     let size = page_size(query);
-    let mut asked = Asked::of(alloc, collection, only, query)?;
+    let mut asked = RowFilter::of(alloc, collection, only, query)?;
     let later = candidates(library, query);
     let mut place = library.rows().len().saturating_sub(later.len());
     let mut rows = Vec::new(alloc);
@@ -85,10 +85,10 @@ fn page_of_object<'a>(
     }
     let size = page_size(query);
     let after = cursor(query);
-    let mut asked = Asked::of(alloc, collection, Some(id), query)?;
+    let mut asked = RowFilter::of(alloc, collection, Some(id), query)?;
     let own = library.rows_of(collection, id)?;
     for row in own.as_slice() {
-        if row.date > after && asked.meets(library, library.place_of(row.date), row) {
+        if row.date > after && asked.meets(library, library.position_of(row.date), row) {
             if rows.len() == size {
                 return Ok(Page { rows, more: true });
             }

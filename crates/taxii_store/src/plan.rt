@@ -1,12 +1,12 @@
 ghost use Rattle.std.specs.Prelude.{◌≡◌, All, IfOk, IfErr};
 ghost use Rattle.taxii_rows.specs.declared.stored_row.TheConstants.{LAST_DATE as last_date};
 ghost use Rattle.taxii_store.specs.declared.plan_refusal.PlanRefusal.TheVariants.{DatesUsedUp as UsedUp};
-ghost use Rattle.taxii_store.specs.Addition.{Adds, IsAddition, UsesUpDates, first_date as first_given, mark_after};
+ghost use Rattle.taxii_store.specs.Addition.{Adds, IsAddition, UsesUpDates, first_date as first_given, watermark_after};
 ghost use Rattle.taxii_store.specs.Planned.{IsSound};
 ghost use Rattle.taxii_store.specs.inner.Moving.{IsDraft};
 
 use crate::draft::Draft;
-use crate::moved::{move_outcomes, move_rows};
+use crate::shifted::{shift_outcomes, shift_rows};
 use crate::{Library, PlanRefusal, Planned};
 use taxii_rows::{Described, LAST_DATE};
 
@@ -22,11 +22,11 @@ impl Library {
         objects: Vec<Described>,
     ) -> Result<Planned, PlanRefusal>
         requires sound { All IsSound objects.items }
-        ensures mark { IfOk result (λ planned. planned.mark ≡ self.now.mark) }
+        ensures watermark { IfOk result (λ planned. planned.watermark ≡ self.now.watermark) }
         ensures ok { IfOk result (λ planned. IsAddition self.now collection moment objects.items planned.outcomes planned.rows) }
         ensures err { IfErr result (λ refusal. refusal ≡ UsedUp → UsesUpDates self.now collection objects.items) }
     {
         let draft = Draft::of(self, collection, objects)?;
-        Ok(draft.planned_at(self.mark, moment))
+        Ok(draft.planned_at(self.watermark, moment))
     }
 }

@@ -8,7 +8,7 @@ use taxii_rows::StoredRow;
 /// An addition that was planned: what becomes of each object, and the new rows.
 #[derive(Drop)]
 pub struct Planned {
-    pub(crate) mark: u64,
+    pub(crate) watermark: u64,
     pub(crate) last: u64,
     pub(crate) outcomes: Vec<AddOutcome>,
     pub(crate) rows: Vec<StoredRow>,
@@ -16,16 +16,16 @@ pub struct Planned {
 
 impl Model for Planned {
     ghost use Rattle.std.specs.Prelude.{◌≡◌};
-    ghost use Rattle.taxii_store.specs.Addition.{mark_after};
+    ghost use Rattle.taxii_store.specs.Addition.{watermark_after};
     ghost use Rattle.taxii_store.specs.Planned.{PlannedState, IsSoundPlan};
     ghost use Rattle.taxii_store.specs.inner.Moving.{planned_of};
 
     ghost Value = { PlannedState };
 
-    ghost view = { λ planned. planned_of planned.mark planned.outcomes.items planned.rows.items };
+    ghost view = { λ planned. planned_of planned.watermark planned.outcomes.items planned.rows.items };
 
-    ghost invariant = { λ planned. IsSoundPlan (planned_of planned.mark planned.outcomes.items planned.rows.items)
-        × (planned.last ≡ mark_after planned.mark planned.rows.items) };
+    ghost invariant = { λ planned. IsSoundPlan (planned_of planned.watermark planned.outcomes.items planned.rows.items)
+        × (planned.last ≡ watermark_after planned.watermark planned.rows.items) };
 }
 
 impl Planned {
@@ -36,7 +36,7 @@ impl Planned {
         self.outcomes.as_slice()
     }
 
-    /// The new rows, by date, which is past the mark.
+    /// The new rows, by date, which is past the watermark.
     pub fn rows(&self) -> &[StoredRow]
         ensures rows { result.now ≡ self.now.rows }
         ensures sound { IsSoundPlan self.now }

@@ -3,7 +3,7 @@
 ghost use Rattle.std.specs.Prelude.{◌≡◌, ℕ, List, Bool, Option, All};
 ghost use Rattle.std.specs.List.{Contains};
 ghost use Rattle.taxii_rows.specs.declared.stored_row.StoredRow.{StoredRow};
-ghost use Rattle.taxii_rows.specs.StoreState.{dates_of, RiseFrom};
+ghost use Rattle.taxii_rows.specs.StoreState.{dates_of, AscendFrom};
 ghost use Rattle.stix_ids.specs.declared.id.Id.{Id};
 ghost use Rattle.taxii_routes.specs.declared.query.Query.{Query};
 ghost use Rattle.taxii_store.specs.Page.{IsPage};
@@ -24,7 +24,7 @@ pub fn one_page()
 /// for and still stored at the last page (`whole`), whatever was added and deleted between the pages.
 pub fn walks_skip_no_row()
     ensures once { (wanted : Wanted) (first : Stop) (others : List Stop) → IsWalk wanted first others
-        → RiseFrom 1 (dates_of (rows_given first others)) }
+        → AscendFrom 1 (dates_of (rows_given first others)) }
     ensures asked { (wanted : Wanted) (first : Stop) (others : List Stop) → IsWalk wanted first others
         → All (IsWanted wanted) (rows_given first others) }
     ensures whole { (wanted : Wanted) (first : Stop) (others : List Stop) → IsWalk wanted first others

@@ -7,7 +7,7 @@ use Rattle.taxii_rows.specs.declared.stored_row.StoredRow.{StoredRow}
 use Rattle.taxii_rows.specs.declared.described.Described.{Described}
 use Rattle.taxii_rows.specs.Described.{row_of}
 use Rattle.taxii_rows.specs.StoreState.{StoreState}
-use Rattle.taxii_index.specs.Presence.{agrees, is_same, row_of_same}
+use Rattle.taxii_index.specs.Presence.{agrees, is_duplicate, duplicate_of}
 use Rattle.taxii_store.specs.declared.add_outcome.AddOutcome.{AddOutcome}
 use Rattle.taxii_store.specs.declared.add_outcome.AddOutcome.TheVariants.{Added, Present}
 use Rattle.taxii_store.specs.Addition.{Adds, IsAddition, UsesUpDates, first_date}
@@ -16,7 +16,7 @@ use Rattle.taxii_store.specs.Addition.{Adds, IsAddition, UsesUpDates, first_date
 
 -- both make the same objects present
 abbrev Alike : StoredRow → StoredRow → Type 0
-Alike a b = (collection : ℕ) (object : Described) → is_same collection object a ≡ is_same collection object b
+Alike a b = (collection : ℕ) (object : Described) → is_duplicate collection object a ≡ is_duplicate collection object b
 
 both_and : (a b c d : Bool) → a ≡ b → c ≡ d → (a && c) ≡ (b && d)
 both_and a b c d first second = ap (λ (x : Bool). x && c) first ∙ ap (λ (y : Bool). b && y) second
@@ -62,15 +62,15 @@ FoundAlike (Some a) None = ⊥
 FoundAlike (Some a) (Some b) = Unit {0}
 
 find_alike : (collection : ℕ) (object : Described) (rows others : List StoredRow) → AllZip Alike rows others
-    → FoundAlike (row_of_same collection object rows) (row_of_same collection object others)
+    → FoundAlike (duplicate_of collection object rows) (duplicate_of collection object others)
 find_alike collection object [] [] same = tt
 find_alike collection object [] (o ∷ os) same = absurd same
 find_alike collection object (r ∷ rs) [] same = absurd same
 find_alike collection object (r ∷ rs) (o ∷ os) same =
-    go (is_same collection object r) (is_same collection object o) (same.0 collection object) (find_alike collection object rs os same.1)
+    go (is_duplicate collection object r) (is_duplicate collection object o) (same.0 collection object) (find_alike collection object rs os same.1)
   where
-    go : (here there : Bool) → here ≡ there → FoundAlike (row_of_same collection object rs) (row_of_same collection object os)
-        → FoundAlike (cond here (Some r) (row_of_same collection object rs)) (cond there (Some o) (row_of_same collection object os))
+    go : (here there : Bool) → here ≡ there → FoundAlike (duplicate_of collection object rs) (duplicate_of collection object os)
+        → FoundAlike (cond here (Some r) (duplicate_of collection object rs)) (cond there (Some o) (duplicate_of collection object os))
     go true true is rest = tt
     go true false is rest = absurd (cc is)
     go false true is rest = absurd (cc is)
@@ -81,7 +81,7 @@ long_alike : (collection first second : ℕ) (rows others : List StoredRow) (obj
     → AllZip Alike rows others → Adds collection first rows objects outcomes new → Adds collection second others objects outcomes_too new_too → length new ≡ length new_too
 long_alike collection first second rows others [] outcomes outcomes_too new new_too same its also = ap length (its.1 ∙ sym also.1)
 long_alike collection first second rows others (object ∷ objects) outcomes outcomes_too new new_too same its also =
-    go (row_of_same collection object rows) (row_of_same collection object others) (find_alike collection object rows others same) its also
+    go (duplicate_of collection object rows) (duplicate_of collection object others) (find_alike collection object rows others same) its also
     (λ rest rest_too adds adds_too. long_alike collection first second rows others objects rest rest_too new new_too same adds adds_too)
     (λ rest rest_too more more_too adds adds_too.
     long_alike collection (first + 1) (second + 1) (rows ++ row_of object first collection ∷ []) (others ++ row_of object second collection ∷ []) objects rest rest_too more more_too
@@ -116,7 +116,7 @@ one_adds : (collection date : ℕ) (rows : List StoredRow) (objects : List Descr
     → Adds collection date rows objects outcomes new → Adds collection date rows objects outcomes_too new_too → SameAdds outcomes outcomes_too new new_too
 one_adds collection date rows [] outcomes outcomes_too new new_too its also = (its.0 ∙ sym also.0, its.1 ∙ sym also.1)
 one_adds collection date rows (object ∷ objects) outcomes outcomes_too new new_too its also =
-    go (row_of_same collection object rows) its also
+    go (duplicate_of collection object rows) its also
     (λ rest rest_too adds adds_too. one_adds collection date rows objects rest rest_too new new_too adds adds_too)
     (λ rest rest_too more more_too adds adds_too. one_adds collection (date + 1) (rows ++ row ∷ []) objects rest rest_too more more_too adds adds_too)
   where
@@ -145,8 +145,8 @@ pub one_addition : (state : StoreState) (collection moment : ℕ) (objects : Lis
     → IsAddition state collection moment objects outcomes new → IsAddition state collection moment objects outcomes_too new_too → SameAdds outcomes outcomes_too new new_too
 one_addition state collection moment objects outcomes outcomes_too new new_too its also =
     let long : length new ≡ length new_too = long_alike collection _ _ state.rows state.rows objects outcomes outcomes_too new new_too (rows_alike state.rows) its.adds also.adds in
-    one_adds collection (first_date state.mark moment (length new_too)) state.rows objects outcomes outcomes_too new new_too
-    (subst (λ (n : ℕ). Adds collection (first_date state.mark moment n) state.rows objects outcomes new) long its.adds) also.adds
+    one_adds collection (first_date state.watermark moment (length new_too)) state.rows objects outcomes outcomes_too new new_too
+    (subst (λ (n : ℕ). Adds collection (first_date state.watermark moment n) state.rows objects outcomes new) long its.adds) also.adds
 
 -- dates are left for it, or they aren't
 pub dates_left : (state : StoreState) (collection moment : ℕ) (objects : List Described) (outcomes : List AddOutcome) (new : List StoredRow)

@@ -10,7 +10,7 @@ use Rattle.stix_times.specs.Writing.{IsTextOfDigits}
 use Rattle.taxii_rows.specs.declared.stored_row.StoredRow.{StoredRow}
 use Rattle.taxii_bodies.specs.Manifest.{record_data, IsRecordOf, IsManifest}
 use Rattle.taxii_bodies.specs.Page.{page_data}
-use Rattle.taxii_bodies.specs.Times.{told_digits, version_instant, IsVersionText}
+use Rattle.taxii_bodies.specs.Times.{stated_digits, version_instant, IsVersionText}
 use Rattle.taxii_bodies.specs.Versions.{IsVersionOf, AreVersions}
 
 -- an instant has one text of so many digits
@@ -28,9 +28,9 @@ one_each R one (x ∷ xs) (y ∷ ys) (z ∷ zs) each other =
     ap (λ first. first ∷ ys) (one x y z each.0 other.0) ∙ ap (λ rest. z ∷ rest) (one_each R one xs ys zs each.1 other.1)
 
 one_of_two : OneText → (dated : Bool) (instant : ℤ) (first second : List ℕ)
-    → MatchBool dated (IsTextOfDigits (told_digits instant) first instant) (IsTextOfDigits 6 first instant)
-    → MatchBool dated (IsTextOfDigits (told_digits instant) second instant) (IsTextOfDigits 6 second instant) → first ≡ second
-one_of_two one true instant first second its also = one (told_digits instant) instant first second its also
+    → MatchBool dated (IsTextOfDigits (stated_digits instant) first instant) (IsTextOfDigits 6 first instant)
+    → MatchBool dated (IsTextOfDigits (stated_digits instant) second instant) (IsTextOfDigits 6 second instant) → first ≡ second
+one_of_two one true instant first second its also = one (stated_digits instant) instant first second its also
 one_of_two one false instant first second its also = one 6 instant first second its also
 
 pub one_version : OneText → (row : StoredRow) (first second : List ℕ) → IsVersionText row first → IsVersionText row second → first ≡ second

@@ -8,9 +8,9 @@ use Rattle.taxii_exchange.specs.declared.config.Config.{Config}
 use Rattle.taxii_service.specs.declared.state.State.{State}
 use Rattle.taxii_store.specs.History.{IsDated, Becomes, IsHistory}
 use Rattle.taxii_service.specs.Exchanges.{Exchange, IsExchange, Follow, HasServed}
-use Rattle.taxii_theorems.specs.Runs.{Run, GoOn, Round, rounds_of}
+use Rattle.taxii_theorems.specs.Runs.{Run, Continue, Round, rounds_of}
 use Rattle.taxii_theorems.specs.Following.{Among}
-use Rattle.taxii_theorems.proofs.MarkLemmas.{stays_within}
+use Rattle.taxii_theorems.proofs.WatermarkLemmas.{stays_within}
 
 -- the laws of histories
 pub record Histories : Type 0 where
@@ -35,7 +35,7 @@ history_both first second third (states, becomes) (more, goes) = (states ++ more
 -- a store in good order
 pub record IsOrdered (store : StoreState) : Type 0 where
   pub dated : IsDated store
-  pub within : store.mark ≤ LAST_DATE
+  pub within : store.watermark ≤ LAST_DATE
 
 -- a round that went as its course says, from a store in good order
 pub record IsReady (round : Round) : Type 0 where
@@ -102,16 +102,16 @@ run_chain laws config before after (e ∷ exchanges) rest each (begins, follow) 
 
 -- ---- all runs
 
-pub rounds_chain : Histories → (store after : StoreState) (runs : List Run) → IsOrdered store → GoOn store runs after → Chain store (rounds_of runs)
+pub rounds_chain : Histories → (store after : StoreState) (runs : List Run) → IsOrdered store → Continue store runs after → Chain store (rounds_of runs)
 rounds_chain laws store after [] ordered same = tt
-rounds_chain laws store after (run ∷ runs) ordered (its, go_on) =
+rounds_chain laws store after (run ∷ runs) ordered (its, proceed) =
     subst (λ (from : StoreState). Chain from (rounds_of (run ∷ runs))) its.begins
     (run_chain laws run.config run.before run.after run.exchanges (rounds_of runs) its.served.each its.served.follow
-    (subst IsOrdered (sym its.begins) ordered) (λ behind. rounds_chain laws run.after.library after runs behind go_on))
+    (subst IsOrdered (sym its.begins) ordered) (λ behind. rounds_chain laws run.after.library after runs behind proceed))
 
-pub runs_history : Histories → (store after : StoreState) (runs : List Run) → GoOn store runs after → IsHistory store after
+pub runs_history : Histories → (store after : StoreState) (runs : List Run) → Continue store runs after → IsHistory store after
 runs_history laws store after [] same = no_history store after same
-runs_history laws store after (run ∷ runs) (its, go_on) =
+runs_history laws store after (run ∷ runs) (its, proceed) =
     subst (λ (from : StoreState). IsHistory from after) its.begins
     (history_both run.before.library run.after.library after (laws.history run.config run.before run.after run.exchanges its.served)
-    (runs_history laws run.after.library after runs go_on))
+    (runs_history laws run.after.library after runs proceed))

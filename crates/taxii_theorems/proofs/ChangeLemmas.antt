@@ -14,7 +14,7 @@ use Rattle.taxii_routes.specs.declared.query.Query.{Query}
 use Rattle.taxii_routes.specs.declared.route.Route.{Route}
 use Rattle.taxii_routes.specs.declared.route.Route.TheVariants.{Discovery, Root, Status, Collections, Collection, Manifest, Objects, Object, Versions, None as NoRoute}
 use Rattle.taxii_rows.specs.declared.stored_row.StoredRow.{StoredRow}
-use Rattle.taxii_rows.specs.StoreState.{StoreState, dates_of, RiseFrom}
+use Rattle.taxii_rows.specs.StoreState.{StoreState, dates_of, AscendFrom}
 use Rattle.taxii_store.specs.Addition.{IsAddition}
 use Rattle.taxii_store.specs.Deleting.{AreDatesTaken}
 use Rattle.taxii_bodies.specs.declared.collections.CollectionInfo.{CollectionInfo}
@@ -46,9 +46,9 @@ one_info text infos first second names also = let same : Some first ≡ Some sec
 -- ---- an addition
 
 one_adding : Laws → (before : State) (collection moment : ℕ) (body : List ℕ) (new new_too : List StoredRow) (text other : List ℕ)
-    → RiseFrom 1 (dates_of (before.library.rows ++ new_too)) → IsAdding before collection moment body new text → IsAdding before collection moment body new_too other
+    → AscendFrom 1 (dates_of (before.library.rows ++ new_too)) → IsAdding before collection moment body new text → IsAdding before collection moment body new_too other
     → (new ≡ new_too) × (text ≡ other)
-one_adding laws before collection moment body new new_too text other rise its also =
+one_adding laws before collection moment body new new_too text other ascend its also =
     let posted : IsSamePosted its.posted also.posted = one_posted laws body moment its.posted also.posted its.posted_is also.posted_is in
     let addition = one_addition before.library collection moment also.posted.objects.items its.outcomes also.outcomes new new_too
     (subst (λ objects. IsAddition before.library collection moment objects its.outcomes new) posted.objects its.addition) also.addition in
@@ -57,12 +57,12 @@ one_adding laws before collection moment body new new_too text other rise its al
     (subst (λ (rows : List StoredRow). IsReport (next_number before.statuses) moment its.posted its.outcomes (before.library.rows ++ rows) its.report) addition.1 its.report_is) in (
       addition.1,
       one_text_of_report laws.text (next_number before.statuses) moment its.posted also.posted also.outcomes (before.library.rows ++ new_too) its.report also.report text other
-          rise posted here also.report_is its.text_is also.text_is,
+          ascend posted here also.report_is its.text_is also.text_is,
     )
 
-rises_after : (before after : State) (new : List StoredRow) (text : List ℕ) → IsDated after.library → after ≡ with_added new text before → RiseFrom 1 (dates_of (before.library.rows ++ new))
-rises_after before after new text dated same =
-    subst (λ (rows : List StoredRow). RiseFrom 1 (dates_of rows)) (ap (λ (state : State). state.library.rows) same) dated.rise
+ascends_after : (before after : State) (new : List StoredRow) (text : List ℕ) → IsDated after.library → after ≡ with_added new text before → AscendFrom 1 (dates_of (before.library.rows ++ new))
+ascends_after before after new text dated same =
+    subst (λ (rows : List StoredRow). AscendFrom 1 (dates_of rows)) (ap (λ (state : State). state.library.rows) same) dated.ascend
 
 pub one_post : Laws → (config : Config) (before first second : State) (moment : ℕ) (request : Request) (route : Route) (answer other : Answer) → IsDated second.library
     → Posts config before moment request route answer first → Posts config before moment request route other second → IsOne answer other first second
@@ -74,7 +74,7 @@ one_post laws config before first second moment request (Collection id) answer o
 one_post laws config before first second moment request (Manifest id) answer other dated its also = absurd its
 one_post laws config before first second moment request (Objects id) answer other dated (info, names, new, text, adding, answer_is, after_is) (info_too, names_too, new_too, text_too, adding_too, answer_too, after_too) =
     let same : info ≡ info_too = one_info id config.collections info info_too names names_too in
-    let one = one_adding laws before info_too.id moment request.body new new_too text text_too (rises_after before second new_too text_too dated after_too)
+    let one = one_adding laws before info_too.id moment request.body new new_too text text_too (ascends_after before second new_too text_too dated after_too)
     (subst (λ (i : CollectionInfo). IsAdding before i.id moment request.body new text) same adding) adding_too in (
       answer_is ∙ ap (body_answer Accepted) one.1 ∙ sym answer_too,
       after_is ∙ ap (λ (rows : List StoredRow). with_added rows text before) one.0 ∙ ap (λ (t : List ℕ). with_added new_too t before) one.1 ∙ sym after_too,
@@ -183,50 +183,50 @@ first_held first dates = Contains-append_left (first ∷ []) dates first (Contai
 rest_held : (first : ℕ) (dates : List ℕ) (date : ℕ) → Contains dates date → Contains (first ∷ dates) date
 rest_held first dates date held = Contains-append_right (first ∷ []) dates date held
 
-earliest : (from : ℕ) (dates : List ℕ) (date : ℕ) → RiseFrom from dates → Contains dates date → from ≤ date
-earliest from [] date rise held = absurd (omega (arith, held.1))
-earliest from (first ∷ dates) date rise held = elim (in_dates first dates date held) [
-  | inl same ↦ subst (λ (d : ℕ). from ≤ d) same rise.0
-  | inr rest ↦ let later = earliest (first + 1) dates date rise.1 rest in omega (arith, later, rise.0)
+earliest : (from : ℕ) (dates : List ℕ) (date : ℕ) → AscendFrom from dates → Contains dates date → from ≤ date
+earliest from [] date ascend held = absurd (omega (arith, held.1))
+earliest from (first ∷ dates) date ascend held = elim (in_dates first dates date held) [
+  | inl same ↦ subst (λ (d : ℕ). from ≤ d) same ascend.0
+  | inr rest ↦ let later = earliest (first + 1) dates date ascend.1 rest in omega (arith, later, ascend.0)
 ]
 
 abbrev Within : List ℕ → List ℕ → Type 0
 Within dates others = (date : ℕ) → Contains dates date → Contains others date
 
-behind : (first : ℕ) (dates others : List ℕ) → RiseFrom (first + 1) dates → Within (first ∷ dates) (first ∷ others) → Within dates others
-behind first dates others rise within date held = elim (in_dates first others date (within date (rest_held first dates date held))) [
-  | inl same ↦ let later = earliest (first + 1) dates date rise held in absurd (omega (arith, later, same))
+behind : (first : ℕ) (dates others : List ℕ) → AscendFrom (first + 1) dates → Within (first ∷ dates) (first ∷ others) → Within dates others
+behind first dates others ascend within date held = elim (in_dates first others date (within date (rest_held first dates date held))) [
+  | inl same ↦ let later = earliest (first + 1) dates date ascend held in absurd (omega (arith, later, same))
   | inr there ↦ there
 ]
 
-first_date : (first second : ℕ) (dates others : List ℕ) → RiseFrom (first + 1) dates → RiseFrom (second + 1) others → Within (first ∷ dates) (second ∷ others)
+first_date : (first second : ℕ) (dates others : List ℕ) → AscendFrom (first + 1) dates → AscendFrom (second + 1) others → Within (first ∷ dates) (second ∷ others)
     → Within (second ∷ others) (first ∷ dates) → first ≡ second
-first_date first second dates others rise rise_too to from =
+first_date first second dates others ascend ascend_too to from =
     go (in_dates second others first (to first (first_held first dates))) (in_dates first dates second (from second (first_held second others)))
   where
     go : (second ≡ first) ⊎ Contains others first → (first ≡ second) ⊎ Contains dates second → first ≡ second
     go (inl same) other = sym same
     go (inr later) (inl same) = same
     go (inr later) (inr too) =
-        let one = earliest (second + 1) others first rise_too later in
-        let two = earliest (first + 1) dates second rise too in absurd (omega (arith, one, two))
+        let one = earliest (second + 1) others first ascend_too later in
+        let two = earliest (first + 1) dates second ascend too in absurd (omega (arith, one, two))
 
-same_dates : (n m : ℕ) (dates others : List ℕ) → RiseFrom n dates → RiseFrom m others → Within dates others → Within others dates → dates ≡ others
-same_dates n m [] [] rise rise_too to from = refl
-same_dates n m [] (o ∷ os) rise rise_too to from = let none = from o (first_held o os) in absurd (omega (arith, none.1))
-same_dates n m (d ∷ ds) [] rise rise_too to from = let none = to d (first_held d ds) in absurd (omega (arith, none.1))
-same_dates n m (d ∷ ds) (o ∷ os) rise rise_too to from =
-    let same : d ≡ o = first_date d o ds os rise.1 rise_too.1 to from in
-    let rise_here : RiseFrom (o + 1) ds = subst (λ (x : ℕ). RiseFrom (x + 1) ds) same rise.1 in
+same_dates : (n m : ℕ) (dates others : List ℕ) → AscendFrom n dates → AscendFrom m others → Within dates others → Within others dates → dates ≡ others
+same_dates n m [] [] ascend ascend_too to from = refl
+same_dates n m [] (o ∷ os) ascend ascend_too to from = let none = from o (first_held o os) in absurd (omega (arith, none.1))
+same_dates n m (d ∷ ds) [] ascend ascend_too to from = let none = to d (first_held d ds) in absurd (omega (arith, none.1))
+same_dates n m (d ∷ ds) (o ∷ os) ascend ascend_too to from =
+    let same : d ≡ o = first_date d o ds os ascend.1 ascend_too.1 to from in
+    let ascend_here : AscendFrom (o + 1) ds = subst (λ (x : ℕ). AscendFrom (x + 1) ds) same ascend.1 in
     let to_here : Within (o ∷ ds) (o ∷ os) = subst (λ (x : ℕ). Within (x ∷ ds) (o ∷ os)) same to in
     let from_here : Within (o ∷ os) (o ∷ ds) = subst (λ (x : ℕ). Within (o ∷ os) (x ∷ ds)) same from in
     ap (λ (x : ℕ). x ∷ ds) same
-    ∙ ap (λ (xs : List ℕ). o ∷ xs) (same_dates (o + 1) (o + 1) ds os rise_here rise_too.1 (behind o ds os rise_here to_here) (behind o os ds rise_too.1 from_here))
+    ∙ ap (λ (xs : List ℕ). o ∷ xs) (same_dates (o + 1) (o + 1) ds os ascend_here ascend_too.1 (behind o ds os ascend_here to_here) (behind o os ds ascend_too.1 from_here))
 
 one_taken : (rows : List StoredRow) (collection : ℕ) (id : Id) (picks : List Pick) (first second : List ℕ) → AreDatesTaken rows collection id picks first
     → AreDatesTaken rows collection id picks second → first ≡ second
 one_taken rows collection id picks first second its also =
-    same_dates 1 1 first second its.rise also.rise (λ date held. (also.each date).1 ((its.each date).0 held)) (λ date held. (its.each date).1 ((also.each date).0 held))
+    same_dates 1 1 first second its.ascend also.ascend (λ date held. (also.each date).1 ((its.each date).0 held)) (λ date held. (its.each date).1 ((also.each date).0 held))
 
 -- lists that don't differ are the same
 not_apart : (first second : List ℕ) → ((first ≡ second → ⊥) → ⊥) → first ≡ second

@@ -27,7 +27,7 @@ use Rattle.taxii_rows.specs.Described.{IsDescribed}
 use Rattle.taxii_rows.specs.Version.{HasVersion, IsVersionTime}
 use Rattle.taxii_bodies.specs.declared.details.Detail.{Detail}
 use Rattle.taxii_bodies.specs.Details.{at_path, refusal_message, IsMomentText, IsIdOrUnknown, IsVersionOrMoment, IsFailureOf}
-use Rattle.taxii_bodies.specs.Times.{told_digits, IsToldText}
+use Rattle.taxii_bodies.specs.Times.{stated_digits, IsStatedText}
 use Rattle.taxii_service.specs.declared.posted.Posted.{Posted}
 use Rattle.taxii_service.specs.declared.posted.TheConstants.{MAX_DETAILS}
 use Rattle.taxii_service.specs.Posted.{BreaksFirst, IsKept, Fails, IsDetailOf, Splits, IsPosted}
@@ -85,7 +85,7 @@ body_same : (body name : List ℕ) (first second : List Entry) → AreEntriesOf 
 body_same body name first second its also =
     let whole : its.whole ≡ also.whole = one_value body its.whole also.whole its.value also.value in
     let list : its.list ≡ also.list = one_list (list_under name its.whole) (list_under name also.whole) None its.list also.list (ap (list_under name) whole) its.under also.under in
-    entries_same also.list first second (subst (λ (l : Items). AreEntriesFor l first) list its.judged) also.judged
+    entries_same also.list first second (subst (λ (l : Items). AreEntriesFor l first) list its.checked) also.checked
 
 -- a body with a list under a name isn't one without
 pub list_or_none : (body name : List ℕ) (entries : List Entry) → AreEntriesOf body name entries → HasNoList body name → ⊥
@@ -167,7 +167,7 @@ one_id_text laws d first second (inr its) (inr also) = its.1 ∙ sym also.1
 one_version_text : Laws → (d : Data) (moment : ℕ) (first second : List ℕ) → IsVersionOrMoment d moment first → IsVersionOrMoment d moment second → first ≡ second
 one_version_text laws d moment first second (inl (instant, is, text)) (inl (other, is_too, text_too)) =
     let same : instant ≡ other = one_version_time laws d instant other is is_too in
-    laws.text (told_digits other) other first second (subst (λ (i : ℤ). IsToldText i first) same text) text_too
+    laws.text (stated_digits other) other first second (subst (λ (i : ℤ). IsStatedText i first) same text) text_too
 one_version_text laws d moment first second (inl its) (inr also) = absurd (also.0 its.0 its.1)
 one_version_text laws d moment first second (inr its) (inl also) = absurd (its.0 also.0 also.1)
 one_version_text laws d moment first second (inr its) (inr also) = one_moment laws.text moment first second its.1 also.1

@@ -152,8 +152,8 @@ AreJson = (rows : List StoredRow) (more : Bool) (objects : List Data) → AllZip
 pub read_back : AreJson → (rows : List StoredRow) (more : Bool) (envelope : Envelope) → All IsSoundRow rows → IsEnvelopeOf (envelope_text rows more) envelope
     → IsReadAs rows more envelope
 read_back are_json rows more envelope sound is = record {
-  lines = told_lines own.objects envelope.entries own.fine judged ∙ row_lines rows own.objects own.make;
-  none_bad = none_bad own.objects envelope.entries own.fine judged;
+  lines = told_lines own.objects envelope.entries own.fine checked ∙ row_lines rows own.objects own.make;
+  none_bad = none_bad own.objects envelope.entries own.fine checked;
   more_is = more_is;
   next_is = some_is envelope.next (option_map next_text next)
       (sym is.next ∙ ap (λ (flag : Bool). next_in flag is.whole) more_is ∙ ap (next_in (is_some next)) whole_is ∙ page_next next own.objects);
@@ -174,8 +174,8 @@ read_back are_json rows more envelope sound is = record {
     list_is : is.list ≡ items_of own.objects
     list_is = some_is is.list (items_of own.objects) (sym is.objects ∙ ap (list_under (codes "objects")) whole_is ∙ page_list next own.objects)
 
-    judged : AreEntriesFor (items_of own.objects) envelope.entries
-    judged = subst (λ (list : Items). AreEntriesFor list envelope.entries) list_is is.judged
+    checked : AreEntriesFor (items_of own.objects) envelope.entries
+    checked = subst (λ (list : Items). AreEntriesFor list envelope.entries) list_is is.checked
 
     more_is : envelope.more ≡ is_some next
     more_is = some_is envelope.more (is_some next) (sym is.more ∙ ap more_in whole_is ∙ page_more next own.objects)

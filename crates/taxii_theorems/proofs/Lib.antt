@@ -7,7 +7,7 @@ mod ReportLemmas
 mod ChangeLemmas
 mod StepLemmas
 mod WholeLemmas
-mod MarkLemmas
+mod WatermarkLemmas
 mod ChainLemmas
 mod NextLemmas
 mod WalkLemmas
@@ -18,5 +18,5 @@ mod HeadLemmas
 mod ReplyLemmas
 mod QueryLemmas
 mod RequestLemmas
-mod HeardLemmas
+mod UnderstoodLemmas
 mod PullLemmas

@@ -91,8 +91,8 @@ last_within store collection only query page more date ordered its same =
     let last = last_row page date same in
     let met = in_take (page_size query) its.meeting last.0 (subst (λ (rows : List StoredRow). Contains rows last.0) its.page_is last.1) in
     let held : Contains store.rows last.0 = ((its.meeting_are.each last.0).0 met).0 in
-    let marked : last.0.date ≤ store.mark = All-contains (λ (row : StoredRow). row.date ≤ store.mark) store.rows last.0 ordered.dated.marked held in
-    let most : store.mark ≤ LAST_DATE = ordered.within in
+    let marked : last.0.date ≤ store.watermark = All-contains (λ (row : StoredRow). row.date ≤ store.watermark) store.rows last.0 ordered.dated.marked held in
+    let most : store.watermark ≤ LAST_DATE = ordered.within in
     subst (λ (d : ℕ). d ≤ LAST_DATE) last.2 (omega (arith, marked, most))
 
 some_size : (limit : Option ℕ) → IfSome limit (λ n. 0 < n) → 1 ≤ min (unwrap_or limit 100) 100

@@ -23,24 +23,24 @@ use Rattle.taxii_exchange.specs.AnswersToRequests.{page_answer}
 use Rattle.taxii_service.specs.Reading.{IsPageOf, IsEnvelope}
 use Rattle.taxii_service.specs.Exchanges.{Exchange, IsExchange}
 use Rattle.taxii_service.specs.Visits.{Asks as AsksOf, answer_at}
-use Rattle.taxii_theorems.specs.Runs.{Run, GoOn, Round, rounds_of}
-use Rattle.taxii_theorems.specs.Following.{Among, TellsNext, TellsNoMore, IsFetch, FetchFrom, HasFollowed, HearsEachRow}
-use Rattle.taxii_client.specs.Outside.{LinkView}
-use Rattle.taxii_client.specs.Pulls.{Asks, turn_of, turn_after, Page, IsPageAt, InTurn, IsPull}
+use Rattle.taxii_theorems.specs.Runs.{Run, Continue, Round, rounds_of}
+use Rattle.taxii_theorems.specs.Following.{Among, GivesNext, EndsPaging, IsFetch, FetchFrom, HasFollowed, ReceivesEachRow}
+use Rattle.taxii_client.specs.Environment.{LinkView}
+use Rattle.taxii_client.specs.Pulls.{Asks, cursor_of, cursor_after, Page, IsPageAt, InTurn, IsPull}
 use Rattle.taxii_client.specs.Telling.{told_of, told_of_pages, bad_in, bad_in_pages}
 use Rattle.taxii_client.specs.declared.target.Target.{Target}
-use Rattle.taxii_client.specs.declared.turn.Turn.{Turn}
-use Rattle.taxii_client.specs.declared.turn.Turn.TheVariants.{First, Behind, Over}
+use Rattle.taxii_client.specs.declared.cursor.Cursor.{Cursor}
+use Rattle.taxii_client.specs.declared.cursor.Cursor.TheVariants.{First, Resume, Over}
 use Rattle.taxii_theorems.specs.Reading.{lines_of, IsReadAs}
-use Rattle.taxii_theorems.specs.Asking.{IsServersOwn, IsTold, IsAnswered, IsHeard, IsInstantOf, wanted_after}
+use Rattle.taxii_theorems.specs.Asking.{IsServersOwn, IsVisibleToken, IsAnswered, IsUnderstood, IsInstantOf, wanted_after}
 use Rattle.taxii_theorems.specs.Pulling.{IsServed, ServeFrom, AreServed, WritesEachRow}
 use Rattle.stix_times.specs.Reading.{IsTextOf}
 use Rattle.taxii_theorems.proofs.BytesLemmas.{AreFrom, next_seen}
 
 -- the laws: what a client writes is a fetch, a server's answers are read by the client, and a GET is answered by a page of sound rows
 pub record Laws : Type 0 where
-  pub heard : (target : Target) (next : Option (List ℕ)) (round : Round) → IsServersOwn target → IsTold next → IsAnswered target next round
-      → IsExchange round.config round.exchange → IsHeard target next round
+  pub understood : (target : Target) (next : Option (List ℕ)) (round : Round) → IsServersOwn target → IsVisibleToken next → IsAnswered target next round
+      → IsExchange round.config round.exchange → IsUnderstood target next round
   pub replies : (answer : Answer) (close : Bool) (text later reply body own rest : List ℕ) → answer.status ≡ Okay → answer.body ≡ Some own
       → IsAnswerText answer close text → length text < 2 ^ 64 → IsReply reply body → text ++ later ≡ reply ++ rest → body ≡ own
   pub read_back : (rows : List StoredRow) (more : Bool) (envelope : Envelope) → All IsSoundRow rows → IsEnvelopeOf (envelope_text rows more) envelope
@@ -56,12 +56,12 @@ pub record Laws : Type 0 where
 abbrev pub Goes : Round → Type 0
 Goes round = IsExchange round.config round.exchange
 
-pub all_go : (store after : StoreState) (runs : List Run) → GoOn store runs after → All Goes (rounds_of runs)
-all_go store after [] go_on = All-nil Goes
-all_go store after (run ∷ runs) (its, go_on) =
+pub all_go : (store after : StoreState) (runs : List Run) → Continue store runs after → All Goes (rounds_of runs)
+all_go store after [] proceed = All-nil Goes
+all_go store after (run ∷ runs) (its, proceed) =
     All-append Goes (map (λ e. record { config = run.config; exchange = e }) run.exchanges) (rounds_of runs)
     (All-map Goes (λ e. record { config = run.config; exchange = e }) run.exchanges its.served.each)
-    (all_go run.after.library after runs go_on)
+    (all_go run.after.library after runs proceed)
 
 pub among_all : (P : Round → Type 0) (some rounds : List Round) → Among some rounds → All P rounds → All P some
 among_all P [] rounds among all = All-nil P
@@ -96,15 +96,15 @@ module _ (L : Type 0) (view : L → LinkView) (target : Target) (instant : Optio
   one_time (Some time) (Some first) None is other = absurd other
   one_time (Some time) (Some first) (Some second) is other = ap (λ (its : ℤ). Some its) (laws.instant time first second is other)
 
-  fetch_of : (next : Option (List ℕ)) (round : Round) → IsHeard target next round → IsFetch wanted next round
-  fetch_of next round heard =
-      subst (λ (its : Option ℤ). IsFetch (wanted_after target its) next round) (one_time target.since heard.instant instant heard.time timed) heard.fetch
+  fetch_of : (next : Option (List ℕ)) (round : Round) → IsUnderstood target next round → IsFetch wanted next round
+  fetch_of next round understood =
+      subst (λ (its : Option ℤ). IsFetch (wanted_after target its) next round) (one_time target.since understood.instant instant understood.time timed) understood.fetch
 
   -- the envelope of a page that is the answer of a round with these rows
-  page_read : (turn : Turn) (next : Option (List ℕ)) (page : Page L) (round : Round) (rows : List StoredRow) (more : Bool) → IsPageAt view target turn page
+  page_read : (cursor : Cursor) (next : Option (List ℕ)) (page : Page L) (round : Round) (rows : List StoredRow) (more : Bool) → IsPageAt view target cursor page
       → IsServed view target next page round → All IsSoundRow rows → round.exchange.answer ≡ page_answer rows (envelope_text rows more)
       → IsReadAs rows more page.envelope
-  page_read turn next page round rows more at served sound answer_is =
+  page_read cursor next page round rows more at served sound answer_is =
       let reads = at.fetched.reads in
       let rest = taken_from reads.taken (served.text ++ served.later) (view page.link.given).left (view page.link.finished).left served.bytes reads.takes in
       let body : reads.answers.body ≡ envelope_text rows more =
@@ -119,26 +119,26 @@ module _ (L : Type 0) (view : L → LinkView) (target : Target) (instant : Optio
     answer_is : round.exchange.answer ≡ page_answer rows (envelope_text rows more)
     read : IsReadAs rows more page.envelope
 
-  answered : (turn : Turn) (next : Option (List ℕ)) (page : Page L) (round : Round) → IsPageAt view target turn page → IsServed view target next page round
+  answered : (cursor : Cursor) (next : Option (List ℕ)) (page : Page L) (round : Round) → IsPageAt view target cursor page → IsServed view target next page round
       → IsFetch wanted next round → Goes round → IsSoundState round.exchange.before.library → Answered page round
-  answered turn next page round at served fetch goes sound =
+  answered cursor next page round at served fetch goes sound =
       let paged = laws.paged round.config round.exchange wanted.collection wanted.only fetch.query goes fetch.okay fetch.asks in
       let is : round.exchange.answer ≡ page_answer paged.page (envelope_text paged.page paged.more) = paged.answer_is ∙ ap (page_answer paged.page) paged.body_is in
       record {
         rows = paged.page;
         more = paged.more;
         answer_is = is;
-        read = page_read turn next page round paged.page paged.more at served
+        read = page_read cursor next page round paged.page paged.more at served
             (laws.sound round.exchange.before.library wanted.collection wanted.only fetch.query paged.page paged.more sound paged.page_is) is;
       }
 
   -- ---- what the server told is what the client asks for next
 
-  turn_is : (rows : List StoredRow) (more : Bool) (envelope : Envelope) (next : Option ℕ) → IsReadAs rows more envelope → next_of rows more ≡ next
-      → turn_after envelope ≡ turn_of (is_some next) (option_map next_text next)
-  turn_is rows more envelope next read is =
-      ap (λ (flag : Bool). turn_of flag envelope.next) (read.more_is ∙ ap is_some is)
-      ∙ ap (turn_of (is_some next)) (read.next_is ∙ ap (option_map next_text) is)
+  cursor_is : (rows : List StoredRow) (more : Bool) (envelope : Envelope) (next : Option ℕ) → IsReadAs rows more envelope → next_of rows more ≡ next
+      → cursor_after envelope ≡ cursor_of (is_some next) (option_map next_text next)
+  cursor_is rows more envelope next read is =
+      ap (λ (flag : Bool). cursor_of flag envelope.next) (read.more_is ∙ ap is_some is)
+      ∙ ap (cursor_of (is_some next)) (read.next_is ∙ ap (option_map next_text) is)
 
   abbrev tail_of : List StoredRow → List ℕ
   tail_of rows = objects_text (map (λ row. row.body) rows) ++ codes "}"
@@ -147,7 +147,7 @@ module _ (L : Type 0) (view : L → LinkView) (target : Target) (instant : Optio
   unfolding encode_with
   sixteen date = refl
 
-  told_on : (page : Page L) (round : Round) (its : Answered page round) (date : ℕ) → next_of its.rows its.more ≡ Some date → TellsNext round.exchange.answer (next_text date)
+  told_on : (page : Page L) (round : Round) (its : Answered page round) (date : ℕ) → next_of its.rows its.more ≡ Some date → GivesNext round.exchange.answer (next_text date)
   told_on page round its date is = (
     sixteen date,
     codes "\"" ++ tail_of its.rows,
@@ -156,50 +156,50 @@ module _ (L : Type 0) (view : L → LinkView) (target : Target) (instant : Optio
         ∙ ap (λ (text : List ℕ). Some (codes "{\"more\":true,\"next\":\"" ++ text)) (append_assoc (next_text date) (codes "\"") (tail_of its.rows)),
   )
 
-  told_last : (page : Page L) (round : Round) (its : Answered page round) → next_of its.rows its.more ≡ None → TellsNoMore round.exchange.answer
+  told_last : (page : Page L) (round : Round) (its : Answered page round) → next_of its.rows its.more ≡ None → EndsPaging round.exchange.answer
   told_last page round its is = (
     tail_of its.rows,
     ap (λ (a : Answer). a.body) its.answer_is ∙ ap (λ (next : Option ℕ). Some (head_text next ++ tail_of its.rows)) is,
   )
 
   -- nothing was asked for behind the last page, and so none was told
-  ends : (page : Page L) (round : Round) (its : Answered page round) → turn_after page.envelope ≡ Over → TellsNoMore round.exchange.answer
+  ends : (page : Page L) (round : Round) (its : Answered page round) → cursor_after page.envelope ≡ Over → EndsPaging round.exchange.answer
   ends page round its over = by_next (next_of its.rows its.more) refl
     where
-      by_next : (next : Option ℕ) → next_of its.rows its.more ≡ next → TellsNoMore round.exchange.answer
+      by_next : (next : Option ℕ) → next_of its.rows its.more ≡ next → EndsPaging round.exchange.answer
       by_next None is = told_last page round its is
-      by_next (Some date) is = let clash : Behind (next_text date) ≡ Over = sym (turn_is its.rows its.more page.envelope (Some date) its.read is) ∙ over in absurd (cc)
+      by_next (Some date) is = let clash : Resume (next_text date) ≡ Over = sym (cursor_is its.rows its.more page.envelope (Some date) its.read is) ∙ over in absurd (cc)
 
   -- what was asked for behind a page is what it told
-  goes_on : (page : Page L) (round : Round) (its : Answered page round) (asked : Option (List ℕ)) → Asks (turn_after page.envelope) asked
-      → (told : List ℕ) × TellsNext round.exchange.answer told × (asked ≡ Some told) × IsTold (Some told)
-  goes_on page round its asked asks = by_next (next_of its.rows its.more) refl
+  continues : (page : Page L) (round : Round) (its : Answered page round) (asked : Option (List ℕ)) → Asks (cursor_after page.envelope) asked
+      → (told : List ℕ) × GivesNext round.exchange.answer told × (asked ≡ Some told) × IsVisibleToken (Some told)
+  continues page round its asked asks = by_next (next_of its.rows its.more) refl
     where
-      by_next : (next : Option ℕ) → next_of its.rows its.more ≡ next → (told : List ℕ) × TellsNext round.exchange.answer told × (asked ≡ Some told) × IsTold (Some told)
-      by_next None is = absurd (subst (λ (turn : Turn). Asks turn asked) (turn_is its.rows its.more page.envelope None its.read is) asks)
+      by_next : (next : Option ℕ) → next_of its.rows its.more ≡ next → (told : List ℕ) × GivesNext round.exchange.answer told × (asked ≡ Some told) × IsVisibleToken (Some told)
+      by_next None is = absurd (subst (λ (cursor : Cursor). Asks cursor asked) (cursor_is its.rows its.more page.envelope None its.read is) asks)
       by_next (Some date) is = (
         next_text date,
         told_on page round its date is,
-        subst (λ (turn : Turn). Asks turn asked) (turn_is its.rows its.more page.envelope (Some date) its.read is) asks,
+        subst (λ (cursor : Cursor). Asks cursor asked) (cursor_is its.rows its.more page.envelope (Some date) its.read is) asks,
         all_seen (next_text date) (next_seen date),
       )
 
-  pub fetches : (turn : Turn) (page : Page L) (pages : List (Page L)) (round : Round) (rounds : List Round) → IsServersOwn target
-      → InTurn view target turn (page ∷ pages) Over → (serve : ServeFrom view target turn (page ∷ pages) (round ∷ rounds)) → IsTold serve.0
+  pub fetches : (cursor : Cursor) (page : Page L) (pages : List (Page L)) (round : Round) (rounds : List Round) → IsServersOwn target
+      → InTurn view target cursor (page ∷ pages) Over → (serve : ServeFrom view target cursor (page ∷ pages) (round ∷ rounds)) → IsVisibleToken serve.0
       → All Goes (round ∷ rounds) → All (λ r. IsSoundState r.exchange.before.library) (round ∷ rounds) → FetchFrom wanted serve.0 round rounds
-  fetches turn page [] round [] own (at, over) (next, asks, served, rest) told goes sound =
+  fetches cursor page [] round [] own (at, over) (next, asks, served, rest) told goes sound =
       let own_goes : Goes round = All-head Goes round [] goes in
-      let fetch = fetch_of next round (laws.heard target next round own told served.answered own_goes) in
-      let its = answered turn next page round at served fetch own_goes (All-head (λ r. IsSoundState r.exchange.before.library) round [] sound) in
+      let fetch = fetch_of next round (laws.understood target next round own told served.answered own_goes) in
+      let its = answered cursor next page round at served fetch own_goes (All-head (λ r. IsSoundState r.exchange.before.library) round [] sound) in
       (fetch, ends page round its (sym over))
-  fetches turn page [] round (other ∷ rounds) own turns (next, asks, served, rest) told goes sound = absurd rest
-  fetches turn page (second ∷ pages) round [] own turns (next, asks, served, rest) told goes sound = absurd rest
-  fetches turn page (second ∷ pages) round (other ∷ rounds) own (at, turns) (next, asks, served, rest) told goes sound =
+  fetches cursor page [] round (other ∷ rounds) own turns (next, asks, served, rest) told goes sound = absurd rest
+  fetches cursor page (second ∷ pages) round [] own turns (next, asks, served, rest) told goes sound = absurd rest
+  fetches cursor page (second ∷ pages) round (other ∷ rounds) own (at, turns) (next, asks, served, rest) told goes sound =
       let own_goes : Goes round = All-head Goes round (other ∷ rounds) goes in
-      let fetch = fetch_of next round (laws.heard target next round own told served.answered own_goes) in
-      let its = answered turn next page round at served fetch own_goes (All-head (λ r. IsSoundState r.exchange.before.library) round (other ∷ rounds) sound) in
-      let on = goes_on page round its rest.0 rest.1 in
-      let later : FetchFrom wanted rest.0 other rounds = fetches (turn_after page.envelope) second pages other rounds own turns rest (subst IsTold (sym on.2) on.3)
+      let fetch = fetch_of next round (laws.understood target next round own told served.answered own_goes) in
+      let its = answered cursor next page round at served fetch own_goes (All-head (λ r. IsSoundState r.exchange.before.library) round (other ∷ rounds) sound) in
+      let on = continues page round its rest.0 rest.1 in
+      let later : FetchFrom wanted rest.0 other rounds = fetches (cursor_after page.envelope) second pages other rounds own turns rest (subst IsVisibleToken (sym on.2) on.3)
       (All-tail Goes round (other ∷ rounds) goes) (All-tail (λ r. IsSoundState r.exchange.before.library) round (other ∷ rounds) sound) in
       (fetch, on.0, on.1, subst (λ (asked : Option (List ℕ)). FetchFrom wanted asked other rounds) on.2 later)
 
@@ -216,32 +216,32 @@ module _ (L : Type 0) (view : L → LinkView) (target : Target) (instant : Optio
   tails : {A : Type 0} (x y : A) (xs ys : List A) → x ∷ xs ≡ y ∷ ys → xs ≡ ys
   tails x y xs ys same = cc
 
-  pub all_read : (date : Option ℕ) (turn : Turn) (pages : List (Page L)) (rounds : List Round) (stop : Stop) (stops : List Stop) → GoesFrom wanted date stop stops
+  pub all_read : (date : Option ℕ) (cursor : Cursor) (pages : List (Page L)) (rounds : List Round) (stop : Stop) (stops : List Stop) → GoesFrom wanted date stop stops
       → map (λ r. r.exchange.answer) rounds ≡ map answer_at (stop ∷ stops) → map (λ r. r.exchange.before.library) rounds ≡ map (λ s. s.state) (stop ∷ stops)
-      → All (λ r. IsSoundState r.exchange.before.library) rounds → InTurn view target turn pages Over → ServeFrom view target turn pages rounds → AllRead pages stop stops
-  all_read date turn [] [] stop stops walk answers states sound turns serve = absurd (cc)
-  all_read date turn [] (round ∷ rounds) stop stops walk answers states sound turns serve = absurd serve
-  all_read date turn (page ∷ pages) [] stop stops walk answers states sound turns serve = absurd serve
-  all_read date turn (page ∷ pages) (round ∷ rounds) stop [] (walk, last) answers states sound (at, turns) (next, asks, served, rest) =
+      → All (λ r. IsSoundState r.exchange.before.library) rounds → InTurn view target cursor pages Over → ServeFrom view target cursor pages rounds → AllRead pages stop stops
+  all_read date cursor [] [] stop stops walk answers states sound turns serve = absurd (cc)
+  all_read date cursor [] (round ∷ rounds) stop stops walk answers states sound turns serve = absurd serve
+  all_read date cursor (page ∷ pages) [] stop stops walk answers states sound turns serve = absurd serve
+  all_read date cursor (page ∷ pages) (round ∷ rounds) stop [] (walk, last) answers states sound (at, turns) (next, asks, served, rest) =
       let answer = heads round.exchange.answer (answer_at stop) (map (λ r. r.exchange.answer) rounds) [] answers in
       let state = heads round.exchange.before.library stop.state (map (λ r. r.exchange.before.library) rounds) [] states in
       let fine : IsSoundState stop.state = subst IsSoundState state (All-head (λ r. IsSoundState r.exchange.before.library) round rounds sound) in (
-        page_read turn next page round stop.page stop.more at served
+        page_read cursor next page round stop.page stop.more at served
             (laws.sound stop.state wanted.collection wanted.only stop.query stop.page stop.more fine walk.page) answer,
         none_left pages rounds (tails round.exchange.answer (answer_at stop) (map (λ r. r.exchange.answer) rounds) [] answers) rest,
       )
     where
-      none_left : (pages : List (Page L)) (rounds : List Round) → map (λ (r : Round). r.exchange.answer) rounds ≡ [] → ServeFrom view target (turn_after page.envelope) pages rounds → pages ≡ []
+      none_left : (pages : List (Page L)) (rounds : List Round) → map (λ (r : Round). r.exchange.answer) rounds ≡ [] → ServeFrom view target (cursor_after page.envelope) pages rounds → pages ≡ []
       none_left [] rounds none serve = refl
       none_left (p ∷ pages) [] none serve = absurd serve
       none_left (p ∷ pages) (r ∷ rounds) none serve = absurd (cc)
-  all_read date turn (page ∷ pages) (round ∷ rounds) stop (other ∷ stops) (walk, more, history, goes) answers states sound (at, turns) (next, asks, served, rest) =
+  all_read date cursor (page ∷ pages) (round ∷ rounds) stop (other ∷ stops) (walk, more, history, goes) answers states sound (at, turns) (next, asks, served, rest) =
       let answer = heads round.exchange.answer (answer_at stop) (map (λ r. r.exchange.answer) rounds) (map answer_at (other ∷ stops)) answers in
       let state = heads round.exchange.before.library stop.state (map (λ r. r.exchange.before.library) rounds) (map (λ s. s.state) (other ∷ stops)) states in
       let fine : IsSoundState stop.state = subst IsSoundState state (All-head (λ r. IsSoundState r.exchange.before.library) round rounds sound) in (
-        page_read turn next page round stop.page stop.more at served
+        page_read cursor next page round stop.page stop.more at served
             (laws.sound stop.state wanted.collection wanted.only stop.query stop.page stop.more fine walk.page) answer,
-        all_read (last_date stop.page) (turn_after page.envelope) pages rounds other stops goes
+        all_read (last_date stop.page) (cursor_after page.envelope) pages rounds other stops goes
             (tails round.exchange.answer (answer_at stop) (map (λ r. r.exchange.answer) rounds) (map answer_at (other ∷ stops)) answers)
             (tails round.exchange.before.library stop.state (map (λ r. r.exchange.before.library) rounds) (map (λ s. s.state) (other ∷ stops)) states)
             (All-tail (λ r. IsSoundState r.exchange.before.library) round rounds sound) turns rest,
@@ -268,14 +268,14 @@ module _ (L : Type 0) (view : L → LinkView) (target : Target) (instant : Optio
 
   -- ---- the whole
 
-  pub whole_pull : (pages : List (Page L)) (all rounds : List Round) → ((first : Round) (others : List Round) → HasFollowed wanted all first others → HearsEachRow wanted (first ∷ others))
+  pub whole_pull : (pages : List (Page L)) (all rounds : List Round) → ((first : Round) (others : List Round) → HasFollowed wanted all first others → ReceivesEachRow wanted (first ∷ others))
       → All Goes all → IsPull view target pages Over → AreServed view target pages all rounds → WritesEachRow wanted pages rounds
   whole_pull [] all rounds hear go pull served = absurd (cc)
   whole_pull (page ∷ pages) all [] hear go pull served = absurd served.serve
   whole_pull (page ∷ pages) all (first ∷ others) hear go pull served =
       let goes = among_all Goes (first ∷ others) all served.among go in
       let fetched : FetchFrom wanted None first others = subst (λ (next : Option (List ℕ)). FetchFrom wanted next first others) served.serve.1
-      (fetches First page pages first others served.own pull served.serve (subst IsTold (sym served.serve.1) tt) goes served.sound) in
+      (fetches First page pages first others served.own pull served.serve (subst IsVisibleToken (sym served.serve.1) tt) goes served.sound) in
       let hears = hear first others (record { among = served.among; start = refl; fetches = fetched }) in
       let read = all_read None First (page ∷ pages) (first ∷ others) hears.first hears.others hears.walk.goes hears.answers hears.states served.sound pull served.serve in
       record {

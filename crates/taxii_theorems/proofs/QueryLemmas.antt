@@ -27,7 +27,7 @@ use Rattle.taxii_routes.specs.Value.{IsLimit, IsPickText, members}
 use Rattle.taxii_store.specs.Walk.{AsksAlike}
 use Rattle.taxii_client.specs.Requests.{behind, since_pair, next_pair}
 use Rattle.taxii_theorems.specs.Following.{sent}
-use Rattle.taxii_theorems.specs.Asking.{IsTold, IsInstantOf, query_after}
+use Rattle.taxii_theorems.specs.Asking.{IsVisibleToken, IsInstantOf, query_after}
 use Rattle.taxii_theorems.proofs.BytesLemmas.{AreFrom, seen, from_all, from_both, all_low, are_text, are_digits}
 
 -- ---- the pairs
@@ -46,7 +46,7 @@ pairs_behind since next = since_pairs since ++ next_pairs next
 abbrev pub pairs_for : ℕ → Option (List ℕ) → Option (List ℕ) → List Pair
 pairs_for limit since next = (codes "limit", decimal limit) ∷ (codes "match[version]", codes "all") ∷ pairs_behind since next
 
--- the query without its question mark
+-- the query without its question watermark
 abbrev pub query_for : ℕ → Option (List ℕ) → Option (List ℕ) → List ℕ
 query_for limit since next = codes "limit=" ++ decimal limit ++ codes "&match%5Bversion%5D=all" ++ behind since next
 
@@ -160,13 +160,13 @@ AreSeen (pair ∷ pairs) = IsSeen pair × AreSeen pairs
 abbrev pub IsSeenTime : Option (List ℕ) → Type 0
 IsSeenTime since = IfSome since (λ time. All (λ byte. (33 ≤ byte) × (byte < 127)) time)
 
-behind_are : (since next : Option (List ℕ)) → IsSeenTime since → IsTold next → AreSeen (pairs_behind since next)
+behind_are : (since next : Option (List ℕ)) → IsSeenTime since → IsVisibleToken next → AreSeen (pairs_behind since next)
 behind_are None None visible told = tt
 behind_are (Some time) None visible told = ((since_name, from_all time visible), tt)
 behind_are None (Some next) visible told = ((next_name, from_all next told), tt)
 behind_are (Some time) (Some next) visible told = ((since_name, from_all time visible), ((next_name, from_all next told), tt))
 
-pairs_seen : (limit : ℕ) (since next : Option (List ℕ)) → limit < 2 ^ 64 → IsSeenTime since → IsTold next → AreSeen (pairs_for limit since next)
+pairs_seen : (limit : ℕ) (since next : Option (List ℕ)) → limit < 2 ^ 64 → IsSeenTime since → IsVisibleToken next → AreSeen (pairs_for limit since next)
 pairs_seen limit since next few visible told =
     ((limit_name, are_digits (decimal limit) (decimal_is_IsNumeral limit few).0.1), ((version_name, all_value), behind_are since next visible told))
 
@@ -200,7 +200,7 @@ texts_of : (raw : List Pair) → map text_pair raw ≡ map lossy_pair (map decod
 texts_of [] = refl
 texts_of (pair ∷ raw) = ap (λ (rest : List Pair). text_pair pair ∷ rest) (texts_of raw)
 
-pub pairs_are : (limit : ℕ) (since next : Option (List ℕ)) → limit < 2 ^ 64 → IsSeenTime since → IsTold next → pairs_of (query_for limit since next) ≡ pairs_for limit since next
+pub pairs_are : (limit : ℕ) (since next : Option (List ℕ)) → limit < 2 ^ 64 → IsSeenTime since → IsVisibleToken next → pairs_of (query_for limit since next) ≡ pairs_for limit since next
 pairs_are limit since next few visible told =
     let are = pairs_seen limit since next few visible told in
     texts_of (raw_pairs (query_for limit since next))

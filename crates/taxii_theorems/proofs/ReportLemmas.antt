@@ -5,7 +5,7 @@ use Rattle.std.specs.List.{Contains}
 use Rattle.std.proofs.lemmas.List.Elements.{Contains-append_cases, Contains-push_cases}
 use Rattle.serde_json.specs.Written.{compact_text}
 use Rattle.taxii_rows.specs.declared.stored_row.StoredRow.{StoredRow}
-use Rattle.taxii_rows.specs.StoreState.{dates_of, RiseFrom}
+use Rattle.taxii_rows.specs.StoreState.{dates_of, AscendFrom}
 use Rattle.taxii_store.specs.declared.add_outcome.AddOutcome.{AddOutcome}
 use Rattle.taxii_bodies.specs.declared.details.Detail.{Detail}
 use Rattle.taxii_bodies.specs.declared.status.StatusReport.{StatusReport}
@@ -31,34 +31,34 @@ in_cases first rows row held = elim (Contains-append_cases (first ∷ []) rows r
     none_held : (row : StoredRow) → Contains [] row → ⊥
     none_held row none = omega (arith, none.1)
 
-least : (from : ℕ) (rows : List StoredRow) (row : StoredRow) → RiseFrom from (dates_of rows) → Contains rows row → from ≤ row.date
-least from [] row rise held = absurd (omega (arith, held.1))
-least from (first ∷ rows) row rise held = elim (in_cases first rows row held) [
-  | inl same ↦ subst (λ (r : StoredRow). from ≤ r.date) same rise.0
-  | inr rest ↦ let later = least (first.date + 1) rows row rise.1 rest in omega (arith, later, rise.0)
+least : (from : ℕ) (rows : List StoredRow) (row : StoredRow) → AscendFrom from (dates_of rows) → Contains rows row → from ≤ row.date
+least from [] row ascend held = absurd (omega (arith, held.1))
+least from (first ∷ rows) row ascend held = elim (in_cases first rows row held) [
+  | inl same ↦ subst (λ (r : StoredRow). from ≤ r.date) same ascend.0
+  | inr rest ↦ let later = least (first.date + 1) rows row ascend.1 rest in omega (arith, later, ascend.0)
 ]
 
 -- one row has a date
-one_row : (from : ℕ) (rows : List StoredRow) (row other : StoredRow) → RiseFrom from (dates_of rows) → Contains rows row → Contains rows other → row.date ≡ other.date → row ≡ other
-one_row from [] row other rise held also same = absurd (omega (arith, held.1))
-one_row from (first ∷ rows) row other rise held also same = go (in_cases first rows row held) (in_cases first rows other also) (λ its too. one_row (first.date + 1) rows row other rise.1 its too same)
+one_row : (from : ℕ) (rows : List StoredRow) (row other : StoredRow) → AscendFrom from (dates_of rows) → Contains rows row → Contains rows other → row.date ≡ other.date → row ≡ other
+one_row from [] row other ascend held also same = absurd (omega (arith, held.1))
+one_row from (first ∷ rows) row other ascend held also same = go (in_cases first rows row held) (in_cases first rows other also) (λ its too. one_row (first.date + 1) rows row other ascend.1 its too same)
   where
     go : (first ≡ row) ⊎ Contains rows row → (first ≡ other) ⊎ Contains rows other → (Contains rows row → Contains rows other → row ≡ other) → row ≡ other
     go (inl is) (inl too) behind = sym is ∙ too
     go (inl is) (inr too) behind =
-        let later = least (first.date + 1) rows other rise.1 too in
+        let later = least (first.date + 1) rows other ascend.1 too in
         let date = ap (λ (r : StoredRow). r.date) is in absurd (omega (arith, later, date, same))
     go (inr is) (inl too) behind =
-        let later = least (first.date + 1) rows row rise.1 is in
+        let later = least (first.date + 1) rows row ascend.1 is in
         let date = ap (λ (r : StoredRow). r.date) too in absurd (omega (arith, later, date, same))
     go (inr is) (inr too) behind = behind is too
 
 -- ---- the report
 
-one_success : OneText → (rows : List StoredRow) → RiseFrom 1 (dates_of rows) → (outcome : AddOutcome) (first second : Detail) → IsSuccess rows outcome first → IsSuccess rows outcome second
+one_success : OneText → (rows : List StoredRow) → AscendFrom 1 (dates_of rows) → (outcome : AddOutcome) (first second : Detail) → IsSuccess rows outcome first → IsSuccess rows outcome second
     → first ≡ second
-one_success one rows rise outcome first second (row, held, date, its) (row_too, held_too, date_too, also) =
-    let same : row ≡ row_too = one_row 1 rows row row_too rise held held_too (date ∙ sym date_too) in
+one_success one rows ascend outcome first second (row, held, date, its) (row_too, held_too, date_too, also) =
+    let same : row ≡ row_too = one_row 1 rows row row_too ascend held held_too (date ∙ sym date_too) in
     let here : IsSuccessOf row_too first = subst (λ (r : StoredRow). IsSuccessOf r first) same its in
     same_detail first second (here.id ∙ sym also.id) (here.message ∙ sym also.message) (one_version one row_too first.version second.version here.version also.version)
 
@@ -69,12 +69,12 @@ same_report a b number moment successes failures success_count failure_count =
     ≡ record { number = b.number; moment = b.moment; successes = b.successes; failures = b.failures; success_count = b.success_count; failure_count = b.failure_count } =
     cc (number, moment, successes, failures, success_count, failure_count) in one
 
-one_report : OneText → (number moment : ℕ) (posted posted_too : Posted) (outcomes : List AddOutcome) (rows : List StoredRow) (first second : StatusReport) → RiseFrom 1 (dates_of rows)
+one_report : OneText → (number moment : ℕ) (posted posted_too : Posted) (outcomes : List AddOutcome) (rows : List StoredRow) (first second : StatusReport) → AscendFrom 1 (dates_of rows)
     → IsSamePosted posted posted_too → IsReport number moment posted outcomes rows first → IsReport number moment posted_too outcomes rows second → first ≡ second
-one_report one number moment posted posted_too outcomes rows first second rise same its also = same_report first second
+one_report one number moment posted posted_too outcomes rows first second ascend same its also = same_report first second
     (its.number_is ∙ sym also.number_is)
     (its.moment_is ∙ sym also.moment_is)
-    (one_each (IsSuccess rows) (one_success one rows rise) (take MAX_DETAILS outcomes) first.successes second.successes its.successes also.successes)
+    (one_each (IsSuccess rows) (one_success one rows ascend) (take MAX_DETAILS outcomes) first.successes second.successes its.successes also.successes)
     (its.failures ∙ same.failures ∙ sym also.failures)
     (its.success_count ∙ sym also.success_count)
     (its.failure_count ∙ same.count ∙ sym also.failure_count)
@@ -84,8 +84,8 @@ one_status one report first second its also =
     its.text_is ∙ ap (λ (m : List ℕ). compact_text (status_data report m)) (one_moment one report.moment its.moment also.moment its.moment_is also.moment_is) ∙ sym also.text_is
 
 pub one_text_of_report : OneText → (number moment : ℕ) (posted posted_too : Posted) (outcomes : List AddOutcome) (rows : List StoredRow) (first second : StatusReport) (text other : List ℕ)
-    → RiseFrom 1 (dates_of rows) → IsSamePosted posted posted_too → IsReport number moment posted outcomes rows first → IsReport number moment posted_too outcomes rows second
+    → AscendFrom 1 (dates_of rows) → IsSamePosted posted posted_too → IsReport number moment posted outcomes rows first → IsReport number moment posted_too outcomes rows second
     → IsStatus first text → IsStatus second other → text ≡ other
-one_text_of_report one number moment posted posted_too outcomes rows first second text other rise same its also told told_too =
-    let report : first ≡ second = one_report one number moment posted posted_too outcomes rows first second rise same its also in
+one_text_of_report one number moment posted posted_too outcomes rows first second text other ascend same its also told told_too =
+    let report : first ≡ second = one_report one number moment posted posted_too outcomes rows first second ascend same its also in
     one_status one second text other (subst (λ (r : StatusReport). IsStatus r text) report told) told_too

@@ -34,7 +34,7 @@ pub record IsUuidByte (b : ℕ) : Type 0 where
   pub low : 33 ≤ b
   pub high : b < 127
   pub no_slash : b ≢ 47
-  pub no_mark : b ≢ 63
+  pub no_watermark : b ≢ 63
 
 all_index : (n : ℕ) (f : ℕ → ℕ) → ((k : ℕ) → IsUuidByte (f k)) → All IsUuidByte (by_index n f)
 unfolding by_index
@@ -46,9 +46,9 @@ hex_byte d few = by_test (nat_lt d 10) refl
   where
     by_test : (t : Bool) → nat_lt d 10 ≡ t → IsUuidByte (if t then 48 + d else lower + d - 10)
     by_test true is = let small : d < 10 = ltb-true d 10 is in
-        record { low = omega arith; high = omega (arith, small); no_slash = λ same. omega (arith, same); no_mark = λ same. omega (arith, same, small) }
+        record { low = omega arith; high = omega (arith, small); no_slash = λ same. omega (arith, same); no_watermark = λ same. omega (arith, same, small) }
     by_test false is = let big : 10 ≤ d = ltb-false d 10 is in
-        record { low = omega (arith, big); high = omega (arith, few); no_slash = λ same. omega (arith, same, big); no_mark = λ same. omega (arith, same, big) }
+        record { low = omega (arith, big); high = omega (arith, few); no_slash = λ same. omega (arith, same, big); no_watermark = λ same. omega (arith, same, big) }
 
 nibble_low : (xs : List ℕ) (k : ℕ) → nibble xs k < 16
 nibble_low xs k = by_test (k % 2 == 0)
@@ -61,7 +61,7 @@ uuid_byte : (xs : List ℕ) (k : ℕ) → IsUuidByte (if is_hyphen_place k then 
 uuid_byte xs k = by_test (is_hyphen_place k)
   where
     by_test : (t : Bool) → IsUuidByte (if t then 45 else hex_digit lower (nibble xs (digit_place k)))
-    by_test true = record { low = omega arith; high = omega arith; no_slash = λ same. omega (arith, same); no_mark = λ same. omega (arith, same) }
+    by_test true = record { low = omega arith; high = omega arith; no_slash = λ same. omega (arith, same); no_watermark = λ same. omega (arith, same) }
     by_test false = hex_byte (nibble xs (digit_place k)) (nibble_low xs (digit_place k))
 
 pub uuid_bytes : (number : ℕ) → All IsUuidByte (uuid_text number)
@@ -260,7 +260,7 @@ path_unmarked target own =
     subst (All (λ byte. byte ≢ 63)) (sym (path_is target own))
     (All-append (λ byte. byte ≢ 63) (codes "/api/collections/" ++ uuid_text target.collection) (codes "/objects/")
     (All-append (λ byte. byte ≢ 63) (codes "/api/collections/") (uuid_text target.collection) (unmarked (codes "/api/collections/") refl)
-    (All-weaker IsUuidByte (λ byte. byte ≢ 63) (λ b is. is.no_mark) (uuid_text target.collection) (uuid_bytes target.collection)))
+    (All-weaker IsUuidByte (λ byte. byte ≢ 63) (λ b is. is.no_watermark) (uuid_text target.collection) (uuid_bytes target.collection)))
     (unmarked (codes "/objects/") refl))
 
 pub own_target : (target : Target) (next : Option (List ℕ)) → IsServersOwn target → IsTargetOf (target_text target next) (path_of target) (Some (query_for target.limit target.since next))

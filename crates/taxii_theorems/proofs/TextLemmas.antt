@@ -14,10 +14,10 @@ use Rattle.serde_json.specs.Data.{Num, unsigned, negative, float, Data, null, bo
 use Rattle.serde_json.specs.Read.{of_json, read, max_depth}
 use Rattle.serde_json.specs.Written.{outline, items_outline, members_outline, number_text, compact_text}
 use Rattle.serde_json.proofs.Texts.{print-outline}
-use Rattle.stix_json.specs.Walk.{place_part}
-use Rattle.stix_json.specs.inner.Flaws.{flaw_under, number_flaw, flaw_here, first_flaw, items_flaw, members_flaw}
-use Rattle.stix_json.specs.declared.limits.TheConstants.{MAX_WHOLE}
-use Rattle.stix_json.proofs.FlawsLemmas.{option_or_none, option_map_none}
+use Rattle.stix_json.specs.Walk.{index_part}
+use Rattle.stix_json.specs.inner.ValueErrors.{value_error_under, number_value_error, value_error_here, first_value_error, items_value_error, members_value_error}
+use Rattle.stix_json.specs.declared.limits.TheConstants.{MAX_SAFE_INTEGER}
+use Rattle.stix_json.proofs.ValueErrorsLemmas.{option_or_none, option_map_none}
 use Rattle.stix_json.proofs.DataOfLemmas.{IsSigned, HasSigns, ItemsHaveSigns, MembersHaveSigns}
 
 -- ---- the numbers of a value that fits have texts
@@ -26,17 +26,17 @@ in_range : {A B : Type 0} (f : A → B) (b : Bool) (reason : A) → option_map f
 in_range f true reason good = refl
 in_range f false reason good = absurd (cc)
 
-small : (n : ℕ) → nat_le n MAX_WHOLE ≡ true → n ≤ 9007199254740991
+small : (n : ℕ) → nat_le n MAX_SAFE_INTEGER ≡ true → n ≤ 9007199254740991
 small n low = grind (arith, nat_tests)
 
-number_has : (n : Num) → IsSigned n → flaw_here (number_flaw n) ≡ None → IsNumber (number_text n)
-number_has (unsigned n) signed good = let low = small n (in_range _ (nat_le n MAX_WHOLE) _ good) in IsNumber-decimal n (omega (arith, low))
+number_has : (n : Num) → IsSigned n → value_error_here (number_value_error n) ≡ None → IsNumber (number_text n)
+number_has (unsigned n) signed good = let low = small n (in_range _ (nat_le n MAX_SAFE_INTEGER) _ good) in IsNumber-decimal n (omega (arith, low))
 number_has (negative (pos n)) signed good = absurd signed
-number_has (negative (negsuc n)) signed good = let low = small (suc n) (in_range _ (nat_le (suc n) MAX_WHOLE) _ good) in IsNumber-signed_decimal (negsuc n) (omega (arith, low))
+number_has (negative (negsuc n)) signed good = let low = small (suc n) (in_range _ (nat_le (suc n) MAX_SAFE_INTEGER) _ good) in IsNumber-signed_decimal (negsuc n) (omega (arith, low))
 number_has (float x) signed good = absurd signed
 
 mutual
-  pub has_numbers : (d : Data) → HasSigns d → first_flaw d ≡ None → HasNumbers (outline d)
+  pub has_numbers : (d : Data) → HasSigns d → first_value_error d ≡ None → HasNumbers (outline d)
   has_numbers null signs good = tt
   has_numbers (boolean b) signs good = tt
   has_numbers (number n) signs good = number_has n signs good
@@ -44,17 +44,17 @@ mutual
   has_numbers (array ds) signs good = items_have 0 ds signs good
   has_numbers (object ms) signs good = members_have ms signs good
 
-  items_have : (at : ℕ) (ds : Items) → ItemsHaveSigns ds → items_flaw at ds ≡ None → ItemsHaveNumbers (items_outline ds)
+  items_have : (at : ℕ) (ds : Items) → ItemsHaveSigns ds → items_value_error at ds ≡ None → ItemsHaveNumbers (items_outline ds)
   items_have at no_items signs good = tt
   items_have at (item d ds) signs good =
-      let parts = option_or_none (option_map (flaw_under (place_part at)) (first_flaw d)) (items_flaw (at + 1) ds) good in
-      (has_numbers d signs.0 (option_map_none (flaw_under (place_part at)) (first_flaw d) parts.0), items_have (at + 1) ds signs.1 parts.1)
+      let parts = option_or_none (option_map (value_error_under (index_part at)) (first_value_error d)) (items_value_error (at + 1) ds) good in
+      (has_numbers d signs.0 (option_map_none (value_error_under (index_part at)) (first_value_error d) parts.0), items_have (at + 1) ds signs.1 parts.1)
 
-  members_have : (ms : Members) → MembersHaveSigns ms → members_flaw ms ≡ None → MembersHaveNumbers (members_outline ms)
+  members_have : (ms : Members) → MembersHaveSigns ms → members_value_error ms ≡ None → MembersHaveNumbers (members_outline ms)
   members_have no_members signs good = tt
   members_have (member k d ms) signs good =
-      let parts = option_or_none (option_map (flaw_under k) (first_flaw d)) (members_flaw ms) good in
-      (has_numbers d signs.0 (option_map_none (flaw_under k) (first_flaw d) parts.0), members_have ms signs.1 parts.1)
+      let parts = option_or_none (option_map (value_error_under k) (first_value_error d)) (members_value_error ms) good in
+      (has_numbers d signs.0 (option_map_none (value_error_under k) (first_value_error d) parts.0), members_have ms signs.1 parts.1)
 
 -- ---- the text of a value has the tokens of its outline
 

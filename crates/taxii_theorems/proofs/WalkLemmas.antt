@@ -21,7 +21,7 @@ use Rattle.taxii_store.specs.Walk.{Stop, Wanted, IsStop, GoesFrom, last_date}
 use Rattle.taxii_service.specs.Exchanges.{Exchange, IsExchange}
 use Rattle.taxii_service.specs.Visits.{AsksForAll, AsksForOne, Asks, answer_at}
 use Rattle.taxii_theorems.specs.Runs.{Round}
-use Rattle.taxii_theorems.specs.Following.{TellsNext, TellsNoMore, sent, IsFetch, FetchFrom}
+use Rattle.taxii_theorems.specs.Following.{GivesNext, EndsPaging, sent, IsFetch, FetchFrom}
 use Rattle.taxii_theorems.proofs.ChainLemmas.{IsOrdered, IsReady, Chain, found}
 use Rattle.taxii_theorems.proofs.NextLemmas.{told_next, told_no_more, next_is_last, last_within, no_more}
 
@@ -65,9 +65,9 @@ query_next wanted next round fetch = either fetch.asks.asks
     either (inl (id, info, route_is, names, collection_is, only_is, query_is)) = ap (λ (q : Query). q.next) query_is
     either (inr (name, text, info, id, route_is, names, text_of, collection_is, only_is, query_is)) = ap (λ (q : Query). q.next) query_is
 
-goes_on : (wanted : Wanted) (next : Option (List ℕ)) (date : Option ℕ) (round : Round) (fetch : IsFetch wanted next round) → Means next date
+continues : (wanted : Wanted) (next : Option (List ℕ)) (date : Option ℕ) (round : Round) (fetch : IsFetch wanted next round) → Means next date
     → fetch.query.next ≡ date
-goes_on wanted next date round fetch means =
+continues wanted next date round fetch means =
     query_next wanted next round fetch
     ∙ one_meaning next fetch.asks.parsed.next date
     (asked_next next (values_of (name_of Next) (pairs_of (unwrap_or fetch.asks.text []))) fetch.asks.parsed.next fetch.next_sent (fetch.asks.query_is Next)) means
@@ -85,7 +85,7 @@ stop_with : (wanted : Wanted) (date : Option ℕ) (round : Round) (next : Option
 stop_with wanted date round next fetch ready goes page = (
   record { state = found round; query = fetch.query; page = page.page; more = page.more },
   record {
-    its = record { dated = ready.ordered.dated; alike = fetch.alike; goes_on = goes; page = page.page_is };
+    its = record { dated = ready.ordered.dated; alike = fetch.alike; continues = goes; page = page.page_is };
     state = refl;
     answer = page.answer_is ∙ ap (page_answer page.page) page.body_is;
   },
@@ -94,7 +94,7 @@ stop_with wanted date round next fetch ready goes page = (
 stop_of : ArePaged → (wanted : Wanted) (next : Option (List ℕ)) (date : Option ℕ) (round : Round) (fetch : IsFetch wanted next round) → IsReady round → Means next date
     → (stop : Stop) × IsStopOf wanted date round stop
 stop_of paged wanted next date round fetch ready means =
-    stop_with wanted date round next fetch ready (goes_on wanted next date round fetch means)
+    stop_with wanted date round next fetch ready (continues wanted next date round fetch means)
     (paged round.config round.exchange wanted.collection wanted.only fetch.query ready.goes fetch.okay fetch.asks)
 
 -- ---- what it was told
@@ -110,7 +110,7 @@ abbrev tail_of : Stop → List ℕ
 tail_of stop = objects_text (map (λ (row : StoredRow). row.body) stop.page) ++ codes "}"
 
 -- the date that was told is that of the page's last row, and there is more
-pub record IsTold (stop : Stop) (told : List ℕ) (date : Option ℕ) : Type 0 where
+pub record IsVisibleToken (stop : Stop) (told : List ℕ) (date : Option ℕ) : Type 0 where
   pub more : stop.more ≡ true
   pub last : last_date stop.page ≡ date
   pub means : Means (Some told) date
@@ -122,9 +122,9 @@ ordered_within wanted next round stop date its ready last =
     (subst IsOrdered its.state ready.ordered) its.its.page last
 
 -- the text that was told is that of the date
-is_told : ReadBack → (wanted : Wanted) (next : Option ℕ) (round : Round) (stop : Stop) (told : List ℕ) → IsStopOf wanted next round stop → IsReady round
-    → TellsNext round.exchange.answer told → (date : ℕ) × IsTold stop told (Some date)
-is_told read_back wanted next round stop told its ready (long, rest, body) =
+is_visible_token : ReadBack → (wanted : Wanted) (next : Option ℕ) (round : Round) (stop : Stop) (told : List ℕ) → IsStopOf wanted next round stop → IsReady round
+    → GivesNext round.exchange.answer told → (date : ℕ) × IsVisibleToken stop told (Some date)
+is_visible_token read_back wanted next round stop told its ready (long, rest, body) =
     let within = λ (date : ℕ) (is : next_of stop.page stop.more ≡ Some date).
     ordered_within wanted next round stop date its ready (next_is_last stop.page stop.more date is).1 in
     let back = λ (date : ℕ) (is : next_of stop.page stop.more ≡ Some date). read_back date (omega (arith, within date is)) in
@@ -140,7 +140,7 @@ is_told read_back wanted next round stop told its ready (long, rest, body) =
     )
 
 -- no more was told, and there is none
-is_last : (wanted : Wanted) (next : Option ℕ) (round : Round) (stop : Stop) → IsStopOf wanted next round stop → TellsNoMore round.exchange.answer → stop.more ≡ false
+is_last : (wanted : Wanted) (next : Option ℕ) (round : Round) (stop : Stop) → IsStopOf wanted next round stop → EndsPaging round.exchange.answer → stop.more ≡ false
 is_last wanted next round stop its (rest, body) =
     no_more stop.state wanted.collection wanted.only stop.query stop.page stop.more its.its.alike.limit its.its.page
     (told_no_more (next_of stop.page stop.more) (tail_of stop) rest (body_is wanted next round stop (codes "{\"more\":false" ++ rest) its body))
@@ -192,7 +192,7 @@ walked paged read_back wanted next date store round [] means (history, ready, ch
     walked_last wanted date round stop.0 stop.1 (is_last wanted date round stop.0 stop.1 end)
 walked paged read_back wanted next date store round (other ∷ rounds) means (history, ready, chain) (fetch, told, tells, fetches) =
     let stop = stop_of paged wanted next date round fetch ready means in
-    let its = is_told read_back wanted date round stop.0 told stop.1 ready tells in
+    let its = is_visible_token read_back wanted date round stop.0 told stop.1 ready tells in
     walked_on wanted date round other rounds stop.0 stop.1 its.1.more chain.0
     (subst (λ (d : Option ℕ). Walked wanted d other rounds) (sym its.1.last)
     (walked paged read_back wanted (Some told) (Some its.0) (found round) other rounds its.1.means chain fetches))

@@ -56,12 +56,12 @@ does_or_cannot entries config before after moment request route query Other answ
 -- ---- what is refused
 
 -- with the rights that are found
-abbrev Stands : Config → State → ℕ → Request → Route → List ℕ → Rights → Refusal → Type 0
-Stands config before moment request route text rights refusal = IsRefusedFor (allowed_of route) rights request text refusal
+abbrev IsStored : Config → State → ℕ → Request → Route → List ℕ → Rights → Refusal → Type 0
+IsStored config before moment request route text rights refusal = IsRefusedFor (allowed_of route) rights request text refusal
     ⊎ ((query : Query) × IsFit (allowed_of route) rights request × IsQueryOf (pairs_of text) query × CannotDo config before moment request route request.method refusal)
 
 one_stands : Laws → (config : Config) (before : State) (moment : ℕ) (request : Request) (route : Route) (text : List ℕ) (rights : Rights) (first second : Refusal)
-    → Stands config before moment request route text rights first → Stands config before moment request route text rights second → first ≡ second
+    → IsStored config before moment request route text rights first → IsStored config before moment request route text rights second → first ≡ second
 one_stands laws config before moment request route text rights first second (inl its) (inl also) =
     one_refusal laws.refusals (allowed_of route) rights request text first second its also
 one_stands laws config before moment request route text rights first second (inl its) (inr (query, fit, asks, cannot)) =
@@ -79,11 +79,11 @@ one_refused laws config before moment request route text first second (inr (righ
 one_refused laws config before moment request route text first second (inr (rights, found, stands)) (inr (rights_too, found_too, stands_too)) =
     let same : rights ≡ rights_too = one_set_of_rights config.collections before route rights rights_too found found_too in
     one_stands laws config before moment request route text rights_too first second
-    (subst (λ (r : Rights). Stands config before moment request route text r first) same stands) stands_too
+    (subst (λ (r : Rights). IsStored config before moment request route text r first) same stands) stands_too
 
 stands_or_done : Laws → Entries → (config : Config) (before after : State) (moment : ℕ) (request : Request) (route : Route) (text : List ℕ) (rights : Rights) (query : Query) (answer : Answer)
     (refusal : Refusal) → IsFit (allowed_of route) rights request → IsQueryOf (pairs_of text) query → Does config before moment request route query request.method answer after
-    → Stands config before moment request route text rights refusal → ⊥
+    → IsStored config before moment request route text rights refusal → ⊥
 stands_or_done laws entries config before after moment request route text rights query answer refusal fit asks does (inl its) =
     not_refused laws.refusals (allowed_of route) rights request text query refusal fit asks its
 stands_or_done laws entries config before after moment request route text rights query answer refusal fit asks does (inr (other, fit_too, asks_too, cannot)) =
@@ -95,7 +95,7 @@ refused_or_done laws entries config before after moment request route text answe
 refused_or_done laws entries config before after moment request route text answer refusal done (inr (rights, found, stands)) =
     let same : rights ≡ done.rights = one_set_of_rights config.collections before route rights done.rights found done.found in
     stands_or_done laws entries config before after moment request route text done.rights done.query answer refusal done.fit done.query_is done.does
-    (subst (λ (r : Rights). Stands config before moment request route text r refusal) same stands)
+    (subst (λ (r : Rights). IsStored config before moment request route text r refusal) same stands)
 
 -- ---- a step
 

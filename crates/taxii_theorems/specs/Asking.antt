@@ -20,9 +20,9 @@ pub record IsServersOwn (target : Target) : Type 0 where
   pub since : IfSome target.since (λ time. All (λ byte. (33 ≤ byte) × (byte < 127)) time)
 
 -- a `next` that a client was told, of visible bytes
-abbrev pub IsTold : Option (List ℕ) → Type 0
-IsTold None = ⊤
-IsTold (Some next) = All (λ byte. (33 ≤ byte) × (byte < 127)) next
+abbrev pub IsVisibleToken : Option (List ℕ) → Type 0
+IsVisibleToken None = ⊤
+IsVisibleToken (Some next) = All (λ byte. (33 ≤ byte) × (byte < 127)) next
 
 -- a query that asks for nothing in particular, or for what was added after an instant
 abbrev pub query_after : Option ℤ → Query
@@ -35,8 +35,8 @@ wanted_after target instant = record { collection = target.collection; only = No
 -- the request of the round is the one that a server reads in the bytes that the client writes, and it was answered with 200; the server's
 -- collections have numbers of 128 bits
 pub record IsAnswered (target : Target) (next : Option (List ℕ)) (round : Round) : Type 0 where
-  pub greatest_body : ℕ
-  pub heard : GivesRequest greatest_body (request_of target next) round.exchange.request []
+  pub max_body : ℕ
+  pub understood : GivesRequest max_body (request_of target next) round.exchange.request []
   pub okay : round.exchange.answer.status ≡ Okay
   pub numbers : All (λ info. info.id < 2 ^ 128) round.config.collections
 
@@ -46,7 +46,7 @@ IsInstantOf None instant = instant ≡ None
 IsInstantOf (Some time) instant = IsSomeAnd instant (λ its. IsTextOf time its)
 
 -- the round is a fetch of all versions of what the client wants since its time, with the `next` that it sends
-pub record IsHeard (target : Target) (next : Option (List ℕ)) (round : Round) : Type 0 where
+pub record IsUnderstood (target : Target) (next : Option (List ℕ)) (round : Round) : Type 0 where
   pub instant : Option ℤ
   pub time : IsInstantOf target.since instant
   pub fetch : IsFetch (wanted_after target instant) next round

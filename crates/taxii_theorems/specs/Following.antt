@@ -9,18 +9,18 @@ use Rattle.taxii_routes.specs.declared.query.Query.{Query}
 use Rattle.taxii_routes.specs.Param.{name_of}
 use Rattle.taxii_routes.specs.Query.{pairs_of, values_of}
 use Rattle.taxii_rows.specs.declared.stored_row.StoredRow.{StoredRow}
-use Rattle.taxii_rows.specs.StoreState.{dates_of, RiseFrom}
+use Rattle.taxii_rows.specs.StoreState.{dates_of, AscendFrom}
 use Rattle.taxii_store.specs.Walk.{Stop, Wanted, AsksAlike, IsWalk, IsWanted, rows_given, last_state}
 use Rattle.taxii_service.specs.Visits.{Asks, answer_at}
 use Rattle.taxii_theorems.specs.Runs.{Round}
 
 -- the body says that there is more, and this is its `next`, of sixteen letters
-abbrev pub TellsNext : Answer → List ℕ → Type 0
-TellsNext answer next = (length next ≡ 16) × (rest : List ℕ) × (answer.body ≡ Some (codes "{\"more\":true,\"next\":\"" ++ (next ++ rest)))
+abbrev pub GivesNext : Answer → List ℕ → Type 0
+GivesNext answer next = (length next ≡ 16) × (rest : List ℕ) × (answer.body ≡ Some (codes "{\"more\":true,\"next\":\"" ++ (next ++ rest)))
 
 -- the body says that there is no more
-abbrev pub TellsNoMore : Answer → Type 0
-TellsNoMore answer = (rest : List ℕ) × (answer.body ≡ Some (codes "{\"more\":false" ++ rest))
+abbrev pub EndsPaging : Answer → Type 0
+EndsPaging answer = (rest : List ℕ) × (answer.body ≡ Some (codes "{\"more\":false" ++ rest))
 
 -- the values of `next` that a client sends: what it was told, and none at first
 abbrev pub sent : Option (List ℕ) → List (List ℕ)
@@ -37,9 +37,9 @@ pub record IsFetch (wanted : Wanted) (next : Option (List ℕ)) (round : Round) 
 
 -- the rounds are fetches, the first with that `next`, each other one with what the answer before it told; the last is told of no more
 abbrev pub FetchFrom : Wanted → Option (List ℕ) → Round → List Round → Type 0
-FetchFrom wanted next round [] = IsFetch wanted next round × TellsNoMore round.exchange.answer
+FetchFrom wanted next round [] = IsFetch wanted next round × EndsPaging round.exchange.answer
 FetchFrom wanted next round (other ∷ rounds) =
-    IsFetch wanted next round × (told : List ℕ) × TellsNext round.exchange.answer told × FetchFrom wanted (Some told) other rounds
+    IsFetch wanted next round × (told : List ℕ) × GivesNext round.exchange.answer told × FetchFrom wanted (Some told) other rounds
 
 -- the first are some of the second, in their order
 abbrev pub Among : List Round → List Round → Type 0
@@ -53,14 +53,14 @@ pub record HasFollowed (wanted : Wanted) (rounds : List Round) (first : Round) (
   pub start : wanted.query.next ≡ None
   pub fetches : FetchFrom wanted None first others
 
--- what it heard: its answers have the pages of a walk, each of the store as it was there. These give each row once, in the order of
+-- what it understood: its answers have the pages of a walk, each of the store as it was there. These give each row once, in the order of
 -- dates, give only what was wanted, and give every row that was wanted and was still stored at the last page
-pub record HearsEachRow (wanted : Wanted) (fetches : List Round) : Type 0 where
+pub record ReceivesEachRow (wanted : Wanted) (fetches : List Round) : Type 0 where
   pub first : Stop
   pub others : List Stop
   pub walk : IsWalk wanted first others
   pub answers : map (λ round. round.exchange.answer) fetches ≡ map answer_at (first ∷ others)
   pub states : map (λ round. round.exchange.before.library) fetches ≡ map (λ stop. stop.state) (first ∷ others)
-  pub once : RiseFrom 1 (dates_of (rows_given first others))
+  pub once : AscendFrom 1 (dates_of (rows_given first others))
   pub asked : All (IsWanted wanted) (rows_given first others)
   pub whole : (row : StoredRow) → Contains (last_state first others).rows row → IsWanted wanted row → Contains (rows_given first others) row

@@ -4,17 +4,17 @@ use Rattle.std.specs.Prelude.{◌≡◌, ⊤, ℕ, ◌<◌, ◌^◌, Bool, List,
 use Rattle.std.specs.List.{Contains}
 use Rattle.taxii_exchange.specs.Answers.{IsAnswerText}
 use Rattle.taxii_rows.specs.declared.stored_row.StoredRow.{StoredRow}
-use Rattle.taxii_rows.specs.StoreState.{dates_of, RiseFrom}
+use Rattle.taxii_rows.specs.StoreState.{dates_of, AscendFrom}
 use Rattle.taxii_rows.specs.SoundRow.{IsSoundState}
 use Rattle.taxii_store.specs.Walk.{Stop, Wanted, IsWanted, rows_given, last_state}
 use Rattle.taxii_theorems.specs.Runs.{Round}
 use Rattle.taxii_theorems.specs.Following.{Among}
-use Rattle.taxii_client.specs.Outside.{LinkView}
-use Rattle.taxii_client.specs.Pulls.{Asks, Page, turn_after}
+use Rattle.taxii_client.specs.Environment.{LinkView}
+use Rattle.taxii_client.specs.Pulls.{Asks, Page, cursor_after}
 use Rattle.taxii_client.specs.Telling.{told_of_pages, bad_in_pages}
 use Rattle.taxii_client.specs.declared.target.Target.{Target}
-use Rattle.taxii_client.specs.declared.turn.Turn.{Turn}
-use Rattle.taxii_client.specs.declared.turn.Turn.TheVariants.{First}
+use Rattle.taxii_client.specs.declared.cursor.Cursor.{Cursor}
+use Rattle.taxii_client.specs.declared.cursor.Cursor.TheVariants.{First}
 use Rattle.taxii_theorems.specs.Asking.{IsServersOwn, IsAnswered}
 use Rattle.taxii_theorems.specs.Reading.{lines_of}
 
@@ -29,12 +29,12 @@ pub record IsServed {L : Type 0} (view : L → LinkView) (target : Target) (next
   pub bytes : (view page.link.given).left ≡ Some (text ++ later)
 
 -- page by page, each asked for with the `next` that the page before it told the client
-abbrev pub ServeFrom : {L : Type 0} → (L → LinkView) → Target → Turn → List (Page L) → List Round → Type 0
-ServeFrom view target turn [] [] = ⊤
-ServeFrom view target turn [] (round ∷ rounds) = ⊥
-ServeFrom view target turn (page ∷ pages) [] = ⊥
-ServeFrom view target turn (page ∷ pages) (round ∷ rounds) = (next : Option (List ℕ)) × Asks turn next × IsServed view target next page round
-    × ServeFrom view target (turn_after page.envelope) pages rounds
+abbrev pub ServeFrom : {L : Type 0} → (L → LinkView) → Target → Cursor → List (Page L) → List Round → Type 0
+ServeFrom view target cursor [] [] = ⊤
+ServeFrom view target cursor [] (round ∷ rounds) = ⊥
+ServeFrom view target cursor (page ∷ pages) [] = ⊥
+ServeFrom view target cursor (page ∷ pages) (round ∷ rounds) = (next : Option (List ℕ)) × Asks cursor next × IsServed view target next page round
+    × ServeFrom view target (cursor_after page.envelope) pages rounds
 
 -- the pages are these rounds of a server, each of which found a sound store, as every library is; the first asked for the first page
 pub record AreServed {L : Type 0} (view : L → LinkView) (target : Target) (pages : List (Page L)) (all : List Round) (rounds : List Round) : Type 0 where
@@ -52,6 +52,6 @@ pub record WritesEachRow {L : Type 0} (wanted : Wanted) (pages : List (Page L)) 
   pub states : map (λ round. round.exchange.before.library) rounds ≡ map (λ stop. stop.state) (first ∷ others)
   pub lines : told_of_pages pages ≡ lines_of (rows_given first others)
   pub none_bad : bad_in_pages pages ≡ 0
-  pub once : RiseFrom 1 (dates_of (rows_given first others))
+  pub once : AscendFrom 1 (dates_of (rows_given first others))
   pub asked : All (IsWanted wanted) (rows_given first others)
   pub whole : (row : StoredRow) → Contains (last_state first others).rows row → IsWanted wanted row → Contains (rows_given first others) row

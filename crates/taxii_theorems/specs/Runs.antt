@@ -18,9 +18,9 @@ pub record IsRunFrom (store : StoreState) (run : Run) : Type 0 where
   pub served : HasServed run.config run.before run.exchanges run.after
 
 -- each run begins with the store that the one before it left
-abbrev pub GoOn : StoreState → List Run → StoreState → Type 0
-GoOn store [] after = after ≡ store
-GoOn store (run ∷ runs) after = IsRunFrom store run × GoOn run.after.library runs after
+abbrev pub Continue : StoreState → List Run → StoreState → Type 0
+Continue store [] after = after ≡ store
+Continue store (run ∷ runs) after = IsRunFrom store run × Continue run.after.library runs after
 
 -- an exchange, with the configuration of its run
 pub record Round : Type 0 where

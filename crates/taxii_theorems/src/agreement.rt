@@ -14,13 +14,13 @@ ghost use Rattle.taxii_rows.specs.StoreState.{StoreState};
 ghost use Rattle.taxii_bodies.specs.Envelope.{envelope_text};
 ghost use Rattle.taxii_store.specs.History.{IsDated};
 ghost use Rattle.taxii_service.specs.Exchanges.{IsExchange};
-ghost use Rattle.taxii_theorems.specs.Runs.{Run, Round, GoOn, rounds_of};
-ghost use Rattle.taxii_client.specs.Outside.{LinkView};
+ghost use Rattle.taxii_theorems.specs.Runs.{Run, Round, Continue, rounds_of};
+ghost use Rattle.taxii_client.specs.Environment.{LinkView};
 ghost use Rattle.taxii_client.specs.Pulls.{Page, IsPull};
 ghost use Rattle.taxii_client.specs.declared.target.Target.{Target};
-ghost use Rattle.taxii_client.specs.declared.turn.Turn.TheVariants.{Over};
+ghost use Rattle.taxii_client.specs.declared.cursor.Cursor.TheVariants.{Over};
 ghost use Rattle.taxii_theorems.specs.Reading.{IsReadAs};
-ghost use Rattle.taxii_theorems.specs.Asking.{IsServersOwn, IsTold, IsAnswered, IsHeard, IsInstantOf, wanted_after};
+ghost use Rattle.taxii_theorems.specs.Asking.{IsServersOwn, IsVisibleToken, IsAnswered, IsUnderstood, IsInstantOf, wanted_after};
 ghost use Rattle.taxii_theorems.specs.Pulling.{AreServed, WritesEachRow};
 
 use flow_links::Dial;
@@ -48,9 +48,9 @@ pub fn pages_are_read_back()
 
 /// A round that answers with 200 the request which a server reads in what a client writes is a fetch of the objects of the
 /// collection, in all versions, with the `next` that the client sends: of what was added after the target's time, where it has one.
-pub fn requests_are_heard()
-    ensures { (target : Target) (next : Option (List ℕ)) (round : Round) → IsServersOwn target → IsTold next → IsAnswered target next round
-        → IsExchange round.config round.exchange → IsHeard target next round }
+pub fn requests_are_understood()
+    ensures { (target : Target) (next : Option (List ℕ)) (round : Round) → IsServersOwn target → IsVisibleToken next → IsAnswered target next round
+        → IsExchange round.config round.exchange → IsUnderstood target next round }
 {
     one_target();
     one_route();
@@ -63,12 +63,12 @@ pub fn requests_are_heard()
 /// the order of dates, whatever others add and delete between two pages, and over restarts.
 pub fn pulls_skip_no_row<D: Dial>()
     ensures { (view : D.Link → LinkView) (target : Target) (instant : Option ℤ) (pages : List (Page D.Link)) (store after : StoreState) (runs : List Run) (rounds : List Round)
-        → IsDated store → store.mark ≤ LAST_DATE → GoOn store runs after → IsPull view target pages Over
+        → IsDated store → store.watermark ≤ LAST_DATE → Continue store runs after → IsPull view target pages Over
         → AreServed view target pages (rounds_of runs) rounds → IsInstantOf target.since instant
         → WritesEachRow (wanted_after target instant) pages rounds }
 {
     one_instant();
-    requests_are_heard();
+    requests_are_understood();
     answers_are_replies();
     pages_are_read_back();
     rows_of_pages();

@@ -5,8 +5,8 @@ ghost use Rattle.taxii_rows.specs.declared.stored_row.TheConstants.{LAST_DATE};
 ghost use Rattle.taxii_rows.specs.StoreState.{StoreState};
 ghost use Rattle.taxii_store.specs.History.{IsDated, IsHistory};
 ghost use Rattle.taxii_store.specs.Walk.{Wanted};
-ghost use Rattle.taxii_theorems.specs.Runs.{Run, Round, GoOn, rounds_of};
-ghost use Rattle.taxii_theorems.specs.Following.{HasFollowed, HearsEachRow};
+ghost use Rattle.taxii_theorems.specs.Runs.{Run, Round, Continue, rounds_of};
+ghost use Rattle.taxii_theorems.specs.Following.{HasFollowed, ReceivesEachRow};
 
 use taxii_bodies::laws::nexts_read_back;
 use taxii_service::history_laws::{gets_are_paged, requests_make_history};
@@ -14,7 +14,7 @@ use taxii_store::walk_laws::walks_skip_no_row;
 
 /// Over all runs of a server the store goes through additions and deletions alone.
 pub fn runs_make_history()
-    ensures { (store after : StoreState) (runs : List Run) → GoOn store runs after → IsHistory store after }
+    ensures { (store after : StoreState) (runs : List Run) → Continue store runs after → IsHistory store after }
 {
     requests_make_history();
 }
@@ -24,8 +24,8 @@ pub fn runs_make_history()
 /// restarts, with other configurations too.
 pub fn clients_skip_no_row()
     ensures { (store after : StoreState) (runs : List Run) (wanted : Wanted) (first : Round) (others : List Round)
-        → IsDated store → store.mark ≤ LAST_DATE → GoOn store runs after → HasFollowed wanted (rounds_of runs) first others
-        → HearsEachRow wanted (first ∷ others) }
+        → IsDated store → store.watermark ≤ LAST_DATE → Continue store runs after → HasFollowed wanted (rounds_of runs) first others
+        → ReceivesEachRow wanted (first ∷ others) }
 {
     gets_are_paged();
     nexts_read_back();

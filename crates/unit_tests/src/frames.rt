@@ -4,8 +4,8 @@ use http_messages::{Frame, Method, Request, Session};
 use std::alloc::Global;
 use std::process::Abort;
 
-fn session(rt: &impl Abort, alloc: Global, greatest_body: u64) -> Session {
-    Session::new(alloc, greatest_body).expect(rt, "room")
+fn session(rt: &impl Abort, alloc: Global, max_body: u64) -> Session {
+    Session::new(alloc, max_body).expect(rt, "room")
 }
 
 const TWO_REQUESTS: &[u8] =

@@ -1,7 +1,7 @@
 //! Streams of the system whose time passes, by a clock that is set by hand.
 
 use flow_edges::{Sink, Source};
-use flow_links::{Deadline, LimitedStream, PacedStream, TcpLink};
+use flow_links::{Deadline, DeadlineStream, TimedStream, TcpLink};
 use flow_values::Fault;
 use std::cell::Cell;
 use std::io;
@@ -67,7 +67,7 @@ fn a_stream_waits_until_its_deadline(rt: HostRuntime) -> Result<(), Fail> {
     };
     let wait = Cell::new(None);
     let deadline = Deadline::after(&clock, Duration::from_secs(40))?;
-    let mut link = TcpLink::new(LimitedStream::new(Steady { wait: &wait }, deadline));
+    let mut link = TcpLink::new(DeadlineStream::new(Steady { wait: &wait }, deadline));
     let mut buffer = [0u8; 4];
     assert_eq!(rt; link.read(&mut buffer), Ok(4));
     assert_eq!(rt; wait.get(), Some(Duration::from_secs(30)));
@@ -88,7 +88,7 @@ fn a_caller_keeps_its_pace(rt: HostRuntime) -> Result<(), Fail> {
         seconds: Cell::new(100),
     };
     let wait = Cell::new(None);
-    let mut link = TcpLink::new(PacedStream::new(Steady { wait: &wait }, &clock));
+    let mut link = TcpLink::new(TimedStream::new(Steady { wait: &wait }, &clock));
     let mut buffer = [0u8; 10_000];
     // Until a request begins a read waits 5 seconds, and then 30 from its first byte on.
     assert_eq!(rt; link.read(&mut buffer), Ok(10_000));

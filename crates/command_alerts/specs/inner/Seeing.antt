@@ -1,4 +1,4 @@
--- For private clauses: what who tells the alerts says of some observations.
+-- For private clauses: what who reports the alerts says of some observations.
 use Rattle.std.specs.Prelude.{◌≡◌, ℕ, ◌+◌, Bool, List, [], ◌∷◌, ◌++◌, length, Option}
 use Rattle.serde_json.specs.Data.{Data}
 use Rattle.flow_edges.specs.Flow.{WritesPrefix}
@@ -11,19 +11,19 @@ use Rattle.match_bindings.specs.Log.{IsInOrder}
 use Rattle.match_input.specs.Reading.{BundleOf}
 use Rattle.match_run.specs.Entries.{AreEntriesOf}
 use Rattle.alert_window.specs.Alert.{IsAlert}
-use Rattle.alert_window.specs.WatchState.{WatchState, StandsFor}
-use Rattle.match_run.specs.OnItsWay.{IsOnItsWay}
-use Rattle.command_alerts.specs.Alerts.{TellsRows}
+use Rattle.alert_window.specs.WatchState.{WatchState, Represents}
+use Rattle.match_run.specs.Buffered.{IsBuffered}
+use Rattle.command_alerts.specs.Alerts.{ReportsRows}
 use Rattle.command_alerts.specs.Tasks.{IsOneLeaf}
 
--- who tells the alerts, without where it lies in memory
+-- who reports the alerts, without where it lies in memory
 pub record AlerterState : Type 0 where
   pub pattern : Pattern
   pub watch : WatchState
 
 -- a watch stands for a log, whose rows are in order
 pub record IsBehind (watch : WatchState) (log : List LogEntry) : Type 0 where
-  pub stands : StandsFor watch log
+  pub represents : Represents watch log
   pub order : IsInOrder log
 
 -- the pattern is one pair of brackets, and the watch stands for some log
@@ -36,19 +36,19 @@ pub record IsReady (alerter : AlerterState) : Type 0 where
 abbrev pub row_of : Observation → Bool → LogEntry
 row_of o holds = record { first = o.first; last = o.last; truths = holds ∷ [] }
 
--- behind a log some rows came, of which this text is told
-pub record TellsBehind (n x : ℕ) (log rows : List LogEntry) (watch : WatchState) (text : List ℕ) : Type 0 where
+-- behind a log some rows came, of which this text is reported
+pub record ReportsBehind (n x : ℕ) (log rows : List LogEntry) (watch : WatchState) (text : List ℕ) : Type 0 where
   pub behind : IsBehind watch (log ++ rows)
-  pub tells : TellsRows (IsAlert n x (log ++ rows)) (length log + 1) rows text
+  pub reports : ReportsRows (IsAlert n x (log ++ rows)) (length log + 1) rows text
 
 -- behind whatever log
 pub record TakesRows (rows : List LogEntry) (before after : AlerterState) (text : List ℕ) : Type 0 where
   pub pattern_is : after.pattern ≡ before.pattern
   pub n_is : after.watch.n ≡ before.watch.n
   pub x_is : after.watch.x ≡ before.watch.x
-  pub tells : (log : List LogEntry) → IsBehind before.watch log → TellsBehind before.watch.n before.watch.x log rows after.watch text
+  pub reports : (log : List LogEntry) → IsBehind before.watch log → ReportsBehind before.watch.n before.watch.x log rows after.watch text
 
--- the observations were seen, and this text is told of them
+-- the observations were seen, and this text is reported of them
 pub record Sees (objects : List Data) (observations : List Observation) (before after : AlerterState) (text : List ℕ) : Type 0 where
   pub rows : List LogEntry
   pub entries : AreEntriesOf (plain_pattern before.pattern) objects observations rows
@@ -58,7 +58,7 @@ pub record Sees (objects : List Data) (observations : List Observation) (before 
 abbrev pub SeesBundle : AlerterState → BundleOf → AlerterState → List ℕ → Type 0
 SeesBundle before bundle after text = Sees bundle.objects bundle.observations before after text
 
--- this text is told of the first of some observations
+-- this text is reported of the first of some observations
 pub record SeesFirst (objects : List Data) (observations : List Observation) (before : AlerterState) (text : List ℕ) : Type 0 where
   pub seen : List Observation
   pub later : List Observation
@@ -70,14 +70,14 @@ pub record SeesFirst (objects : List Data) (observations : List Observation) (be
 abbrev pub BeginsBundle : AlerterState → BundleOf → List ℕ → Type 0
 BeginsBundle before bundle text = SeesFirst bundle.objects bundle.observations before text
 
--- of what is told of them so much is written, and the rest is pending
+-- of what is reported of them so much is written, and the rest is pending
 pub record SeesSoFar (objects : List Data) (observations : List Observation) (before after : AlerterState) (pending : List ℕ)
     (written written_now : Option (List ℕ)) : Type 0 where
   pub text : List ℕ
   pub sees : Sees objects observations before after text
-  pub way : IsOnItsWay text pending written written_now
+  pub way : IsBuffered text pending written written_now
 
--- of what is told of the first of them a prefix is written
+-- of what is reported of the first of them a prefix is written
 pub record SeesPart (objects : List Data) (observations : List Observation) (before : AlerterState) (written written_now : Option (List ℕ)) : Type 0 where
   pub text : List ℕ
   pub sees : SeesFirst objects observations before text

@@ -1,5 +1,5 @@
 ghost use Rattle.std.specs.Prelude.{◌≡◌, None};
-ghost use Rattle.flow_links.specs.Moments.{IsNext, GoesOn};
+ghost use Rattle.flow_links.specs.Moments.{IsNext, Continues};
 
 use crate::Clock;
 use std::marker::Model;
@@ -41,7 +41,7 @@ impl<'r, R: Timer> Clock for SystemClock<'r, R> {
 
     fn now(&mut self) -> u64
         ensures next { IsNext (λ _. None) result }
-        ensures goes_on { GoesOn (λ _. None) (λ _. None) }
+        ensures continues { Continues (λ _. None) (λ _. None) }
 
         ensures last { self.new ≡ result }
     {

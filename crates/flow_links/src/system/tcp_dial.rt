@@ -1,11 +1,11 @@
 ghost use Rattle.std.specs.Prelude.{◌≡◌, ◌≤◌, None, length, IfOk, OnErr, IsErr};
 ghost use Rattle.flow_edges.specs.Faults.{Counted};
 ghost use Rattle.flow_links.specs.declared.dial.TheConstants.{MAX_HOST};
-ghost use Rattle.flow_links.specs.Dials.{Stays, GivesDialled, Finishes};
+ghost use Rattle.flow_links.specs.Dials.{Stays, Connects, Finishes};
 ghost use Rattle.flow_links.specs.System.{StreamState};
 
 use super::Deadline;
-use crate::{Dial, LimitedStream, TcpLink};
+use crate::{Dial, DeadlineStream, TcpLink};
 use flow_edges::counted_fault;
 use flow_values::Fault;
 use std::io;
@@ -50,17 +50,17 @@ impl<'r, R: Net + Timer> TcpDial<'r, R> {
     }
 
     /// A stream to this host and port, with its limits set.
-    fn connect(&self, host: &str, port: u16) -> io::Result<LimitedStream<'r, R::Stream, R>> {
-        let dialled_by = Deadline::after(self.rt, Duration::from_secs(DIAL_TIME))?;
+    fn connect(&self, host: &str, port: u16) -> io::Result<DeadlineStream<'r, R::Stream, R>> {
+        let connect_deadline = Deadline::after(self.rt, Duration::from_secs(DIAL_TIME))?;
         let deadline = Deadline::after(self.rt, Duration::from_secs(LINK_TIME))?;
         let addresses = (host, port).to_socket_addrs(self.rt)?;
-        let stream = self.first_answer(addresses, &dialled_by)?;
+        let stream = self.first_to_connect(addresses, &connect_deadline)?;
         stream.set_nodelay(true)?;
-        Ok(LimitedStream::new(stream, deadline))
+        Ok(DeadlineStream::new(stream, deadline))
     }
 
     /// A stream to the first of these addresses that answers in its share of the time.
-    fn first_answer(
+    fn first_to_connect(
         &self,
         addresses: HostAddrs,
         deadline: &Deadline<'r, R>,
@@ -78,9 +78,9 @@ impl<'r, R: Net + Timer> TcpDial<'r, R> {
 }
 
 impl<'r, R: Net + Timer> Dial for TcpDial<'r, R> {
-    type Link = TcpLink<LimitedStream<'r, R::Stream, R>>;
+    type Link = TcpLink<DeadlineStream<'r, R::Stream, R>>;
 
-    ghost told = { λ _. None };
+    ghost observable = { λ _. None };
 
     ghost faults = { λ dial. dial };
 
@@ -88,9 +88,9 @@ impl<'r, R: Net + Timer> Dial for TcpDial<'r, R> {
         &mut self,
         host: &str,
         port: u16,
-    ) -> Result<TcpLink<LimitedStream<'r, R::Stream, R>>, Fault>
+    ) -> Result<TcpLink<DeadlineStream<'r, R::Stream, R>>, Fault>
         requires short { length host.now ≤ MAX_HOST }
-        ensures ok { IfOk result (λ link. GivesDialled {L = StreamState} link host.now port None None) }
+        ensures ok { IfOk result (λ link. Connects {L = StreamState} link host.now port None None) }
         ensures err { OnErr result (Stays {L = StreamState} None None) }
         ensures causes { Counted (IsErr result) self.old self.new }
 
@@ -103,7 +103,7 @@ impl<'r, R: Net + Timer> Dial for TcpDial<'r, R> {
     }
 
     /// Closes the link.
-    fn finish(&mut self, link: TcpLink<LimitedStream<'r, R::Stream, R>>)
+    fn finish(&mut self, link: TcpLink<DeadlineStream<'r, R::Stream, R>>)
         ensures back { Finishes {L = StreamState} link.entry None None }
         ensures quiet { self.new ≡ self.old }
     {

@@ -4,7 +4,7 @@ ghost use Rattle.flow_links.specs.Doors.{Stays, Listens, GivesNext, Finishes};
 ghost use Rattle.flow_links.specs.declared.system.tcp_door.TheConstants.{MAX_LOST};
 ghost use Rattle.flow_links.specs.System.{StreamState, LosesCallers, loopback, address_of};
 
-use super::PacedStream;
+use super::TimedStream;
 use crate::{Door, TcpLink};
 use flow_edges::counted_fault;
 use flow_values::Fault;
@@ -29,7 +29,7 @@ struct Port<L: OpenListener> {
 
 /// A port of the system as a door, for callers of this machine. It tells no links, and counts each
 /// error of its calls; contracts see the count. What is written to a link is sent at once, and a caller
-/// keeps a `Pace`.
+/// keeps a `Phase`.
 ///
 /// A caller that can't be taken, since it has gone or since descriptors or memory are wanting, is lost and
 /// counted, and a tenth of a second later the next one is taken. Where a hundred are lost in a row, that
@@ -85,17 +85,17 @@ impl<'r, R: Net + Timer> TcpDoor<'r, R> {
 fn accept<'r, R: Net + Timer>(
     rt: &'r R,
     listener: &R::Listener,
-) -> io::Result<PacedStream<'r, R::Stream, R>> {
+) -> io::Result<TimedStream<'r, R::Stream, R>> {
     let (stream, _) = listener.accept()?;
     stream.set_nodelay(true)?;
-    Ok(PacedStream::new(stream, rt))
+    Ok(TimedStream::new(stream, rt))
 }
 
 /// The next caller that can be taken, behind so many that are lost; a fault where those are too many.
-fn take_caller<'r, R: Net + Timer>(
+fn accept_client<'r, R: Net + Timer>(
     rt: &'r R,
     listener: &R::Listener,
-) -> Result<(u64, PacedStream<'r, R::Stream, R>), Fault>
+) -> Result<(u64, TimedStream<'r, R::Stream, R>), Fault>
     ensures { IfOk result (λ taken. taken.0 < MAX_LOST) }
 {
     for lost in 0..MAX_LOST {
@@ -108,9 +108,9 @@ fn take_caller<'r, R: Net + Timer>(
 }
 
 impl<'r, R: Net + Timer> Door for TcpDoor<'r, R> {
-    type Link = TcpLink<PacedStream<'r, R::Stream, R>>;
+    type Link = TcpLink<TimedStream<'r, R::Stream, R>>;
 
-    ghost told = { λ _. None };
+    ghost observable = { λ _. None };
 
     ghost faults = { λ door. door.faults };
 
@@ -134,7 +134,7 @@ impl<'r, R: Net + Timer> Door for TcpDoor<'r, R> {
     }
 
     /// `None` only where `listen` wasn't called: a port never runs out of callers.
-    fn next(&mut self) -> Result<Option<TcpLink<PacedStream<'r, R::Stream, R>>>, Fault>
+    fn next(&mut self) -> Result<Option<TcpLink<TimedStream<'r, R::Stream, R>>>, Fault>
         ensures ok { IfOk result (λ link. GivesNext {L = StreamState} link None None) }
         ensures err { OnErr result (Stays {L = StreamState} None None) }
         ensures causes { Counted (IsErr result) self.old.faults self.new.faults }
@@ -146,7 +146,7 @@ impl<'r, R: Net + Timer> Door for TcpDoor<'r, R> {
         let Some(port) = &self.port else {
             return Ok(None);
         };
-        match take_caller(self.rt, &port.listener) {
+        match accept_client(self.rt, &port.listener) {
             Ok((lost, stream)) => {
                 self.lost = self.lost.saturating_add(lost);
                 Ok(Some(TcpLink::new(stream)))
@@ -160,11 +160,11 @@ impl<'r, R: Net + Timer> Door for TcpDoor<'r, R> {
 
     /// Closes the link. Where no call of it failed, the caller is told first that no more comes, and what it
     /// still sends is dropped for 2 seconds and 16,777,216 bytes at most, so that what was written reaches it.
-    fn finish(&mut self, link: TcpLink<PacedStream<'r, R::Stream, R>>)
+    fn finish(&mut self, link: TcpLink<TimedStream<'r, R::Stream, R>>)
         ensures back { Finishes {L = StreamState} link.entry None None }
         ensures quiet { self.new ≡ self.old }
     {
-        if let Some(stream) = link.into_whole() {
+        if let Some(stream) = link.into_faultless() {
             let _ = stream.close();
         }
     }

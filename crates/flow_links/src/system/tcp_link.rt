@@ -44,7 +44,7 @@ impl<S: Read + Write> TcpLink<S> {
     }
 
     /// The stream as it stands, where no call failed.
-    pub fn into_whole(self) -> Option<S>
+    pub fn into_faultless(self) -> Option<S>
     where
         S: Drop,
         ensures some { IsSome result ↔ ((self.read_faults ≡ 0) × (self.write_faults ≡ 0)) }

@@ -6,7 +6,7 @@ use Rattle.http_messages.specs.declared.reply_refusal.HeadRefusal.{HeadRefusal}
 use Rattle.http_messages.specs.declared.reply_refusal.HeadRefusal.TheVariants.{BadHead}
 use Rattle.http_messages.specs.declared.reply_end.ReplyEnd.{ReplyEnd}
 use Rattle.http_messages.specs.declared.reply_end.ReplyEnd.TheVariants.{Fault, Cut, Refused, NoMemory}
-use Rattle.http_messages.specs.declared.reply_judging.Judged.{Judged}
+use Rattle.http_messages.specs.declared.reply_checking.Checked.{Checked}
 use Rattle.http_messages.specs.ReplyHeads.{IsHead, HeadParts, body_length, refusal_of}
 use Rattle.http_messages.specs.Replies.{Announces, IsRefusedHead, IsLong, LacksHead, Takes}
 
@@ -39,14 +39,14 @@ pub record ReadsBody (count : ℕ) (left now : Option (List ℕ)) (answer : Resu
   pub answers : IsBodyTaken count taken now answer
 
 -- what a head is found to be by its parts
-abbrev pub judged_by : Option HeadRefusal → ℕ → Judged
-judged_by (Some refusal) count = Judged.Refused refusal
-judged_by None count = Judged.Announces count
+abbrev pub checked_by : Option HeadRefusal → ℕ → Checked
+checked_by (Some refusal) count = Checked.Refused refusal
+checked_by None count = Checked.Announces count
 
-abbrev pub refusal_or_length : HeadParts → Judged
-refusal_or_length h = judged_by (refusal_of h) (body_length h)
+abbrev pub refusal_or_length : HeadParts → Checked
+refusal_or_length h = checked_by (refusal_of h) (body_length h)
 
--- what was judged of a head
-abbrev pub JudgesHead : List ℕ → Judged → Type 0
-JudgesHead head (Judged.Announces count) = Announces head count
-JudgesHead head (Judged.Refused refusal) = IsRefusedHead head refusal
+-- what was checked of a head
+abbrev pub ChecksHead : List ℕ → Checked → Type 0
+ChecksHead head (Checked.Announces count) = Announces head count
+ChecksHead head (Checked.Refused refusal) = IsRefusedHead head refusal

@@ -1,4 +1,4 @@
--- Where httparse says that the parts of a head stand, and what was judged of it. No public contract cites these.
+-- Where httparse says that the parts of a head stand, and what was checked of it. No public contract cites these.
 use Rattle.std.specs.Prelude.{ℕ, List, []}
 use Rattle.httparse.specs.declared.spans.HeaderSpan.{HeaderSpan}
 use Rattle.httparse.specs.declared.spans.ResponseSpans.{ResponseSpans}

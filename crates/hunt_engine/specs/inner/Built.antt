@@ -4,17 +4,17 @@ use Rattle.pattern_types.specs.PlainLeaf.{plain_leaf}
 use Rattle.pattern_types.specs.PlainPattern.{plain_pattern}
 use Rattle.pattern_types.specs.Soundness.{IsSoundLeaf}
 use Rattle.hunt_engine.specs.declared.engine.Engine.TheInside.{Inside}
-use Rattle.hunt_engine.specs.Known.{brackets_of}
+use Rattle.hunt_engine.specs.Memo.{brackets_of}
 use Rattle.hunt_engine.specs.inner.Table.{IsTable}
-use Rattle.hunt_engine.specs.inner.Judging.{AreClear}
+use Rattle.hunt_engine.specs.inner.Evaluation.{AreClear}
 
 -- its tables are those of its patterns, and no bracket is marked between two rows
 pub record IsBuilt (engine : Inside) : Type 0 where
   pub table : IsTable (map plain_pattern (map (λ h. h.pattern) engine.hunted.now)) (map plain_leaf (map (λ leaf. leaf.now) engine.brackets.leaves.items))
-      engine.brackets.owners.items engine.brackets.stretches.items
+      engine.brackets.owners.items engine.brackets.bracket_ranges.items
   pub sound : All IsSoundLeaf (map plain_leaf (map (λ leaf. leaf.now) engine.brackets.leaves.items))
   pub brackets_are : map plain_leaf (map (λ leaf. leaf.now) engine.brackets.leaves.items) ≡ brackets_of (map (λ h. h.pattern) engine.hunted.now)
   pub index_is : engine.index ≡ map (λ leaf. leaf.now) engine.brackets.leaves.items
-  pub followers_are : length engine.followers.items ≡ length engine.hunted.now
+  pub lazy_matchers_are : length engine.lazy_matchers.items ≡ length engine.hunted.now
   pub marks_are : length engine.marks.items ≡ length engine.brackets.leaves.items
   pub clear : engine.ended ≡ false → AreClear engine.marks.items

@@ -1,61 +1,61 @@
--- For private clauses: what all followers do at one row.
+-- For private clauses: what all lazy matchers do at one row.
 use Rattle.std.specs.Prelude.{◌≡◌, ℕ, ℤ, Option, ◌+◌, ◌<◌, Bool, List, [], Some, map, length, slice_get}
 use Rattle.pattern_types.specs.declared.pattern.Pattern.{Pattern}
 use Rattle.match_bindings.specs.declared.log_entry.LogEntry.{LogEntry}
 use Rattle.match_bindings.specs.declared.bind.Bind.{Bind}
 use Rattle.match_bindings.specs.BindTree.{BindTree}
 use Rattle.match_bindings.specs.NumberedPattern.{numbered_pattern}
-use Rattle.match_stream.specs.Answer.{IsCrowded}
-use Rattle.hunt_engine.specs.declared.found.Found.{Found}
+use Rattle.match_stream.specs.Answer.{IsOverLimit}
+use Rattle.hunt_engine.specs.declared.found.Hit.{Hit}
 use Rattle.hunt_engine.specs.declared.next_row.NextRow.{NextRow}
-use Rattle.hunt_engine.specs.declared.brackets.Stretch.{Stretch}
-use Rattle.hunt_engine.specs.FollowerState.{FollowerState, Follows}
+use Rattle.hunt_engine.specs.declared.brackets.BracketRange.{BracketRange}
+use Rattle.hunt_engine.specs.LazyMatcherState.{LazyMatcherState, Follows}
 use Rattle.hunt_engine.specs.EngineAnswer.{binds_at, NeverFalls}
 use Rattle.hunt_engine.specs.inner.Following.{EndsAt, TakesRow, FollowsSome, log_with}
 use Rattle.hunt_engine.specs.inner.Table.{part_of}
 
--- whatever log a follower followed to the row before, it follows with the row, and these binds end there
-abbrev pub Takes : NextRow → ℕ → List Bool → FollowerState → FollowerState → List BindTree → Type 0
-Takes row cap truths old new binds = (p : Pattern) (log : List LogEntry) → Follows p cap log old → EndsAt log row.rows row.before
-    → TakesRow p cap (log_with row truths log) new binds
+-- whatever log a lazy matcher followed to the row before, it follows with the row, and these binds end there
+abbrev pub Takes : NextRow → ℕ → List Bool → LazyMatcherState → LazyMatcherState → List BindTree → Type 0
+Takes row retained_limit truths old new binds = (p : Pattern) (log : List LogEntry) → Follows p retained_limit log old → EndsAt log row.rows row.before
+    → TakesRow p retained_limit (log_with row truths log) new binds
 
--- whatever log it followed is crowded with the row
-abbrev pub Crowds : NextRow → ℕ → List Bool → FollowerState → Type 0
-Crowds row cap truths old = (p : Pattern) (log : List LogEntry) → Follows p cap log old → EndsAt log row.rows row.before
-    → IsCrowded (numbered_pattern p) (log_with row truths log) cap
+-- whatever log it followed is over limit with the row
+abbrev pub Crowds : NextRow → ℕ → List Bool → LazyMatcherState → Type 0
+Crowds row retained_limit truths old = (p : Pattern) (log : List LogEntry) → Follows p retained_limit log old → EndsAt log row.rows row.before
+    → IsOverLimit (numbered_pattern p) (log_with row truths log) retained_limit
 
--- all followers, each of some log
-abbrev pub AllFollow : ℕ → NextRow → List FollowerState → Type 0
-AllFollow cap row followers = (place : ℕ) (follower : FollowerState) → slice_get followers place ≡ Some follower → FollowsSome cap row.rows row.before follower
+-- all lazy matchers, each of some log
+abbrev pub AllFollow : ℕ → NextRow → List LazyMatcherState → Type 0
+AllFollow retained_limit row lazy_matchers = (position : ℕ) (lazy_matcher : LazyMatcherState) → slice_get lazy_matchers position ≡ Some lazy_matcher → FollowsSome retained_limit row.rows row.before lazy_matcher
 
--- the followers at the first so many of these places took the row, and the others are what they were
-pub record TookSome (row : NextRow) (cap : ℕ) (stretches : List Stretch) (marks : List Bool) (touched : List ℕ) (i : ℕ) (old new : List FollowerState) (found : List Found) : Type 0 where
+-- the lazy matchers at the first so many of these positions took the row, and the others are what they were
+pub record TookSome (row : NextRow) (retained_limit : ℕ) (bracket_ranges : List BracketRange) (marks : List Bool) (affected : List ℕ) (i : ℕ) (old new : List LazyMatcherState) (found : List Hit) : Type 0 where
   pub count : length new ≡ length old
-  pub took : (k place : ℕ) (stretch : Stretch) (before after : FollowerState) → k < i → slice_get touched k ≡ Some place → slice_get stretches place ≡ Some stretch
-      → slice_get old place ≡ Some before → slice_get new place ≡ Some after → Takes row cap (part_of stretch marks) before after (binds_at place found)
-  pub others : (place : ℕ) → ((k : ℕ) → k < i → slice_get touched k ≡ Some place → ⊥)
-      → (slice_get new place ≡ slice_get old place) × (binds_at place found ≡ [])
-  pub rise : NeverFalls (map (λ f. f.hunted) found)
-  pub early : (k place : ℕ) → slice_get (map (λ f. f.hunted) found) k ≡ Some place → (j : ℕ) × (j < i) × (slice_get touched j ≡ Some place)
+  pub took : (k position : ℕ) (bracket_range : BracketRange) (before after : LazyMatcherState) → k < i → slice_get affected k ≡ Some position → slice_get bracket_ranges position ≡ Some bracket_range
+      → slice_get old position ≡ Some before → slice_get new position ≡ Some after → Takes row retained_limit (part_of bracket_range marks) before after (binds_at position found)
+  pub others : (position : ℕ) → ((k : ℕ) → k < i → slice_get affected k ≡ Some position → ⊥)
+      → (slice_get new position ≡ slice_get old position) × (binds_at position found ≡ [])
+  pub ascend : NeverFalls (map (λ f. f.hunted) found)
+  pub early : (k position : ℕ) → slice_get (map (λ f. f.hunted) found) k ≡ Some position → (j : ℕ) × (j < i) × (slice_get affected j ≡ Some position)
 
--- the follower at one of these places is crowded, and those at the places before it aren't
-pub record CrowdsAt (row : NextRow) (cap : ℕ) (stretches : List Stretch) (marks : List Bool) (touched : List ℕ) (old : List FollowerState) (place number named : ℕ) : Type 0 where
+-- the lazy matcher at one of these positions is over limit, and those at the positions before it aren't
+pub record CrowdsAt (row : NextRow) (retained_limit : ℕ) (bracket_ranges : List BracketRange) (marks : List Bool) (affected : List ℕ) (old : List LazyMatcherState) (position number named : ℕ) : Type 0 where
   pub at : ℕ
-  pub at_is : slice_get touched at ≡ Some place
+  pub at_is : slice_get affected at ≡ Some position
   pub number_is : number ≡ row.rows + 1
-  pub cap_is : named ≡ cap
-  pub crowds : (stretch : Stretch) (before : FollowerState) → slice_get stretches place ≡ Some stretch → slice_get old place ≡ Some before
-      → Crowds row cap (part_of stretch marks) before
-  pub now : List FollowerState
-  pub found : List Found
-  pub took : TookSome row cap stretches marks touched at old now found
+  pub retained_limit_is : named ≡ retained_limit
+  pub crowds : (bracket_range : BracketRange) (before : LazyMatcherState) → slice_get bracket_ranges position ≡ Some bracket_range → slice_get old position ≡ Some before
+      → Crowds row retained_limit (part_of bracket_range marks) before
+  pub now : List LazyMatcherState
+  pub found : List Hit
+  pub took : TookSome row retained_limit bracket_ranges marks affected at old now found
 
--- each follower follows what it followed, its matcher standing for more of it or not
-pub record StillFollow (cap rows : ℕ) (last : Option ℤ) (old new : List FollowerState) : Type 0 where
+-- each lazy matcher follows what it followed, its matcher standing for more of it or not
+pub record StillFollow (retained_limit rows : ℕ) (last : Option ℤ) (old new : List LazyMatcherState) : Type 0 where
   pub count : length new ≡ length old
-  pub follow : (place : ℕ) (before after : FollowerState) (p : Pattern) (log : List LogEntry) → slice_get old place ≡ Some before → slice_get new place ≡ Some after
-      → Follows p cap log before → EndsAt log rows last → Follows p cap log after
+  pub follow : (position : ℕ) (before after : LazyMatcherState) (p : Pattern) (log : List LogEntry) → slice_get old position ≡ Some before → slice_get new position ≡ Some after
+      → Follows p retained_limit log before → EndsAt log rows last → Follows p retained_limit log after
 
--- a binding of the pattern at a place
-abbrev pub found_of : ℕ → Bind → Found
-found_of place bind = record { hunted = place; bind = bind }
+-- a binding of the pattern at a position
+abbrev pub found_of : ℕ → Bind → Hit
+found_of position bind = record { hunted = position; bind = bind }

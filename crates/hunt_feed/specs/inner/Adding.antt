@@ -14,7 +14,7 @@ abbrev pub IsIndicator : Data → Type 0
 IsIndicator d = text_at (codes "type") d ≡ Some (codes "indicator")
 
 -- what an indicator that breaks no rule tells
-pub record IsTold (d : Data) : Type 0 where
+pub record HasFields (d : Data) : Type 0 where
   pub number : ℕ
   pub has : HasId d (indicator_id number)
   pub created : ℤ

@@ -1,7 +1,7 @@
 -- For private clauses: the end for a refusal of the lines, and what the next object says of the lines that come yet.
 use Rattle.std.specs.Prelude.{◌≡◌, ⊤, ℕ, ◌<◌, ◌≤◌, List, ◌++◌, Result, Ok, Err, Option, Some, None, option_map, IfSome}
 use Rattle.serde_json.specs.Data.{Data}
-use Rattle.flow_lines.specs.Lines.{Lined, ended, line_then, LinesState}
+use Rattle.flow_lines.specs.Lines.{LineStream, ended, line_then, LinesState}
 use Rattle.flow_lines.specs.declared.refusal.TheConstants.{MAX_INPUT}
 use Rattle.flow_lines.specs.declared.refusal.LineRefusal.{LineRefusal}
 use Rattle.flow_lines.specs.declared.refusal.LineRefusal.TheVariants as refusal
@@ -22,14 +22,14 @@ end_of_line (refusal.InputTooLong number) = Refused number rule.InputTooLong
 end_of_line refusal.NoMemory = NoMemory
 
 -- the first of the lines that came yet is the object, and the others come yet
-pub record GivesObject (before after : Option Lined) (object : Data) : Type 0 where
+pub record GivesObject (before after : Option LineStream) (object : Data) : Type 0 where
   pub number : ℕ
   pub bytes : List ℕ
   pub line : before ≡ option_map (λ later. line_then number bytes later) after
   pub is : IsObjectOf bytes object
 
 -- what an answer says of the lines that came yet
-abbrev pub AnswersObject : Option Lined → Option Lined → Result (Option Json) FeedEnd → Type 0
+abbrev pub AnswersObject : Option LineStream → Option LineStream → Result (Option Json) FeedEnd → Type 0
 AnswersObject before after (Ok (Some object)) = GivesObject before after (data_of object)
 AnswersObject before after (Ok None) = IfSome before (λ lines. lines ≡ ended)
 AnswersObject before after (Err (Refused line why)) = IfSome before (λ lines. IsRefusedAt lines line why)
@@ -43,13 +43,13 @@ pub record MovesOn (before after : LinesState) : Type 0 where
   pub within : after.given ≤ MAX_INPUT
 
 -- whatever the lines that come yet are read as, these objects stand before it in what all lines are read as
-abbrev pub ReadsBehind : Option Lined → Option Lined → List Data → Type 0
-ReadsBehind all ahead objects = (more : List Data) (close : FeedClose) → IfSome ahead (λ lines. Reads lines more close)
+abbrev pub ReadsRemaining : Option LineStream → Option LineStream → List Data → Type 0
+ReadsRemaining all ahead objects = (more : List Data) (close : FeedClose) → IfSome ahead (λ lines. Reads lines more close)
     → IfSome all (λ lines. Reads lines (objects ++ more) close)
 
 -- these objects were read of all lines, and this is kept of them
-pub record GathersSo (all ahead : Option Lined) (gathered : Gathered) : Type 0 where
+pub record GathersSoFar (all ahead : Option LineStream) (gathered : Gathered) : Type 0 where
   pub objects : List Data
   pub unbroken : AreUnbroken objects
   pub gathers : GathersFor gathered objects
-  pub behind : ReadsBehind all ahead objects
+  pub behind : ReadsRemaining all ahead objects

@@ -8,7 +8,7 @@ use Rattle.hunt_feed.specs.declared.hunted.Skipped.{Skipped}
 use Rattle.hunt_feed.specs.declared.hunted.Hunt.{Hunt}
 use Rattle.hunt_feed.specs.declared.kept.Kept.{Kept}
 use Rattle.hunt_feed.specs.declared.version.Version.{Version}
-use Rattle.hunt_feed.specs.Indicators.{IsCandidate, IsHunted, IsSkipped, IsRising, hunted_places, skipped_places}
+use Rattle.hunt_feed.specs.Indicators.{IsCandidate, IsHunted, IsSkipped, IsAscending, hunted_places, skipped_places}
 use Rattle.hunt_feed.specs.Gathering.{indicator_id, known_in, kept_places}
 
 -- it is the latest version, and none is revoked
@@ -33,8 +33,8 @@ pub record IsRefusedOf (kept : Kept) (skipped : Skipped) : Type 0 where
   pub refused : IsRefusedAs kept.pattern skipped.refusal
 
 -- it is hunted or skipped now, besides those before
-abbrev pub IsJudged : Kept → Hunt → Hunt → Type 0
-IsJudged kept before after =
+abbrev pub IsClassified : Kept → Hunt → Hunt → Type 0
+IsClassified kept before after =
     ((hunted : Hunted) × IsReadOf kept hunted × (after.hunted ≡ before.hunted ++ hunted ∷ []) × (after.skipped ≡ before.skipped))
     ⊎ ((skipped : Skipped) × IsRefusedOf kept skipped × (after.hunted ≡ before.hunted) × (after.skipped ≡ before.skipped ++ skipped ∷ []))
 
@@ -44,7 +44,7 @@ pub record IsHuntAmong (objects : List Data) (moment : ℤ) (seen : List Kept) (
   pub skipped : All (IsSkipped objects moment) hunt.skipped
   pub all : (at : ℕ) (id : Id) (object : Data) → IsCandidate objects moment at id object → Contains (kept_places seen) at
       → Contains (hunted_places hunt) at ⊎ Contains (skipped_places hunt) at
-  pub hunted_rise : IsRising (hunted_places hunt)
-  pub skipped_rise : IsRising (skipped_places hunt)
+  pub hunted_ascend : IsAscending (hunted_places hunt)
+  pub skipped_ascend : IsAscending (skipped_places hunt)
   pub hunted_seen : All (Contains (kept_places seen)) (hunted_places hunt)
   pub skipped_seen : All (Contains (kept_places seen)) (skipped_places hunt)

@@ -5,5 +5,5 @@ use Rattle.hunt_report.specs.inner.Noting.{AreInOrder}
 
 -- it keeps something of each indicator, in order of time
 pub record IsBuilt (hunter : Inside) : Type 0 where
-  pub count : length hunter.sights.items ≡ length hunter.hunted.now
-  pub order : AreInOrder hunter.sights.items
+  pub count : length hunter.hit_summaries.items ≡ length hunter.hunted.now
+  pub order : AreInOrder hunter.hit_summaries.items

@@ -1,39 +1,39 @@
--- For private clauses: what a report tells of each indicator, by what is kept of it.
+-- For private clauses: what a report reports of each indicator, by what is kept of it.
 use Rattle.std.specs.Prelude.{◌≡◌, ◌⊎◌, ⊤, ℕ, ℤ, ◌≤ℤ◌, Bool, true, false, List, [], ◌∷◌, ◌++◌, codes, Option, Some, None}
 use Rattle.flow_edges.specs.Flow.{WritesPrefix}
-use Rattle.match_run.specs.OnItsWay.{IsOnItsWay}
+use Rattle.match_run.specs.Buffered.{IsBuffered}
 use Rattle.hunt_feed.specs.declared.hunted.Hunted.{Hunted}
-use Rattle.hunt_report.specs.declared.seen.Seen.{Seen}
+use Rattle.hunt_report.specs.declared.seen.SightingInput.{SightingInput}
 use Rattle.hunt_report.specs.Sightings.{IsSightingText}
-use Rattle.hunt_report.specs.declared.sight.Sight.{Sight}
-use Rattle.hunt_report.specs.Sights.{begun_by}
+use Rattle.hunt_report.specs.declared.hit_summary.HitSummary.{HitSummary}
+use Rattle.hunt_report.specs.HitSummaries.{begun_by}
 
 -- the text of the sighting of an indicator of which this is kept
-pub record IsTextOf (moment : ℤ) (indicator : Hunted) (sight : Sight) (text : List ℕ) : Type 0 where
-  pub seen : Seen
+pub record IsTextOf (moment : ℤ) (indicator : Hunted) (hit_summary : HitSummary) (text : List ℕ) : Type 0 where
+  pub seen : SightingInput
   pub indicator_is : seen.indicator.now ≡ indicator.id
   pub created_is : seen.created ≡ indicator.created
-  pub count_is : seen.count ≡ sight.count
-  pub first_is : seen.first ≡ sight.first
-  pub last_is : seen.last ≡ sight.last
+  pub count_is : seen.count ≡ hit_summary.count
+  pub first_is : seen.first ≡ hit_summary.first
+  pub last_is : seen.last ≡ hit_summary.last
   pub text_is : IsSightingText moment seen text
 
 -- it wasn't last seen before it was first seen
-abbrev pub IsSightInOrder : Option Sight → Type 0
-IsSightInOrder None = ⊤
-IsSightInOrder (Some sight) = sight.first ≤ℤ sight.last
+abbrev pub IsHitSummaryInOrder : Option HitSummary → Type 0
+IsHitSummaryInOrder None = ⊤
+IsHitSummaryInOrder (Some hit_summary) = hit_summary.first ≤ℤ hit_summary.last
 
 -- one text of an indicator that was seen, and none of another
-abbrev pub TellsSight : ℤ → Hunted → Option Sight → List (List ℕ) → Type 0
-TellsSight moment indicator None texts = texts ≡ []
-TellsSight moment indicator (Some sight) texts = (text : List ℕ) × IsTextOf moment indicator sight text × (texts ≡ text ∷ [])
+abbrev pub ReportsHitSummary : ℤ → Hunted → Option HitSummary → List (List ℕ) → Type 0
+ReportsHitSummary moment indicator None texts = texts ≡ []
+ReportsHitSummary moment indicator (Some hit_summary) texts = (text : List ℕ) × IsTextOf moment indicator hit_summary text × (texts ≡ text ∷ [])
 
 -- those of some indicators, in order
-abbrev pub TellsSights : ℤ → List Hunted → List (Option Sight) → List (List ℕ) → Type 0
-TellsSights moment [] [] texts = texts ≡ []
-TellsSights moment (indicator ∷ hunted) (sight ∷ sights) texts = (own : List (List ℕ)) × (later : List (List ℕ))
-    × TellsSight moment indicator sight own × TellsSights moment hunted sights later × (texts ≡ own ++ later)
-TellsSights moment _ _ texts = ⊥
+abbrev pub ReportsHitSummaries : ℤ → List Hunted → List (Option HitSummary) → List (List ℕ) → Type 0
+ReportsHitSummaries moment [] [] texts = texts ≡ []
+ReportsHitSummaries moment (indicator ∷ hunted) (hit_summary ∷ hit_summaries) texts = (own : List (List ℕ)) × (later : List (List ℕ))
+    × ReportsHitSummary moment indicator hit_summary own × ReportsHitSummaries moment hunted hit_summaries later × (texts ≡ own ++ later)
+ReportsHitSummaries moment _ _ texts = ⊥
 
 -- whether there is a text
 abbrev pub is_begun : List (List ℕ) → Bool
@@ -51,39 +51,39 @@ end_of false = []
 end_of true = codes "]}\n"
 
 -- what is told of these indicators is on its way
-pub record TellsSoFar (moment : ℤ) (hunted : List Hunted) (sights : List (Option Sight)) (begun : Bool) (pending : List ℕ)
+pub record ReportsSoFar (moment : ℤ) (hunted : List Hunted) (hit_summaries : List (Option HitSummary)) (begun : Bool) (pending : List ℕ)
     (first now : Option (List ℕ)) : Type 0 where
   pub texts : List (List ℕ)
-  pub tells : TellsSights moment hunted sights texts
+  pub reports : ReportsHitSummaries moment hunted hit_summaries texts
   pub begun_is : begun ≡ is_begun texts
-  pub way : IsOnItsWay (begun_by texts) pending first now
+  pub way : IsBuffered (begun_by texts) pending first now
 
 -- of what is told of the first of them a prefix is written
-pub record TellsPart (moment : ℤ) (hunted : List Hunted) (sights : List (Option Sight)) (first now : Option (List ℕ)) : Type 0 where
+pub record ReportsPart (moment : ℤ) (hunted : List Hunted) (hit_summaries : List (Option HitSummary)) (first now : Option (List ℕ)) : Type 0 where
   pub front : List Hunted
   pub later : List Hunted
   pub hunted_are : hunted ≡ front ++ later
-  pub seen : List (Option Sight)
-  pub unseen : List (Option Sight)
-  pub sights_are : sights ≡ seen ++ unseen
+  pub seen : List (Option HitSummary)
+  pub unseen : List (Option HitSummary)
+  pub hit_summaries_are : hit_summaries ≡ seen ++ unseen
   pub texts : List (List ℕ)
-  pub tells : TellsSights moment front seen texts
+  pub reports : ReportsHitSummaries moment front seen texts
   pub prefix : WritesPrefix (begun_by texts) first now
 
 -- a text more is on its way, of an indicator that was seen; none is of another
-pub record AddsSight (moment : ℤ) (indicator : Hunted) (sight : Option Sight) (texts : List (List ℕ)) (begun : Bool) (pending : List ℕ)
+pub record AddsHitSummary (moment : ℤ) (indicator : Hunted) (hit_summary : Option HitSummary) (texts : List (List ℕ)) (begun : Bool) (pending : List ℕ)
     (first now : Option (List ℕ)) : Type 0 where
   pub more : List (List ℕ)
-  pub tells : TellsSight moment indicator sight more
+  pub reports : ReportsHitSummary moment indicator hit_summary more
   pub begun_is : begun ≡ is_begun (texts ++ more)
-  pub way : IsOnItsWay (begun_by (texts ++ more)) pending first now
+  pub way : IsBuffered (begun_by (texts ++ more)) pending first now
 
 -- of the texts a prefix is written, with the one more
-pub record CutsSight (moment : ℤ) (indicator : Hunted) (sight : Option Sight) (texts : List (List ℕ)) (first now : Option (List ℕ)) : Type 0 where
+pub record CutsHitSummary (moment : ℤ) (indicator : Hunted) (hit_summary : Option HitSummary) (texts : List (List ℕ)) (first now : Option (List ℕ)) : Type 0 where
   pub more : List (List ℕ)
-  pub tells : TellsSight moment indicator sight more
+  pub reports : ReportsHitSummary moment indicator hit_summary more
   pub prefix : WritesPrefix (begun_by (texts ++ more)) first now
 
 -- with it, or without
-abbrev pub BreaksAtSight : ℤ → Hunted → Option Sight → List (List ℕ) → Option (List ℕ) → Option (List ℕ) → Type 0
-BreaksAtSight moment indicator sight texts first now = WritesPrefix (begun_by texts) first now ⊎ CutsSight moment indicator sight texts first now
+abbrev pub BreaksAtHitSummary : ℤ → Hunted → Option HitSummary → List (List ℕ) → Option (List ℕ) → Option (List ℕ) → Type 0
+BreaksAtHitSummary moment indicator hit_summary texts first now = WritesPrefix (begun_by texts) first now ⊎ CutsHitSummary moment indicator hit_summary texts first now

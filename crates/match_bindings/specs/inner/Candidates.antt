@@ -122,5 +122,5 @@ candidates o n w (Between p x y) = candidates o n (between w x y) p
 candidates o n w (Repeats p j) = repeats_of w (candidates o n w p) j
 
 -- the span of a binding; none of what is no binding
-abbrev pub judged : Observed → NumberedPattern → BindTree → Option Span
-judged o p x = span_if (is_binding o p x) (span_of o x)
+abbrev pub verified : Observed → NumberedPattern → BindTree → Option Span
+verified o p x = span_if (is_binding o p x) (span_of o x)

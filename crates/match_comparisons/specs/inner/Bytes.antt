@@ -5,6 +5,6 @@ use Rattle.serde_json.specs.Find.{as_str}
 use Rattle.match_comparisons.specs.Tests.{IsBytesOf}
 
 -- the value is a text that stands for these bytes, by the name of its property, or for none
-abbrev pub StandsFor : Option (List ℕ) → Data → Option (List ℕ) → Type 0
-StandsFor last value own =
+abbrev pub Represents : Option (List ℕ) → Data → Option (List ℕ) → Type 0
+Represents last value own =
     (bytes : List ℕ) → ((text : List ℕ) × (as_str value ≡ Some text) × IsBytesOf last text bytes) ↔ (own ≡ Some bytes)

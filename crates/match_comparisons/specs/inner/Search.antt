@@ -7,22 +7,22 @@ use Rattle.pattern_types.specs.declared.path.Step.{Step}
 use Rattle.pattern_types.specs.Soundness.{IsSoundCheck}
 use Rattle.match_comparisons.specs.Selection.{Reaches}
 use Rattle.pattern_types.specs.declared.leaf.Test.{Test}
-use Rattle.match_comparisons.specs.Tests.{Turned, Meets, IsAbsence, last_of}
+use Rattle.match_comparisons.specs.Tests.{NegatedIf, Meets, IsAbsence, last_of}
 use Rattle.match_comparisons.specs.declared.search.Search.{Search}
-use Rattle.match_comparisons.specs.declared.findings.Findings.{Findings}
-use Rattle.match_comparisons.specs.inner.Places.{Has}
+use Rattle.match_comparisons.specs.declared.memo.SearchMemo.{SearchMemo}
+use Rattle.match_comparisons.specs.inner.VisitSet.{Has}
 
 -- the name that a lent text is
 abbrev pub name_of : Option (Bor (List ℕ)) → Option (List ℕ)
 name_of last = option_map (λ (name : Bor (List ℕ)). name.now) last
 
 -- the value is one that is searched for
-abbrev pub IsWanted : Search → Data → Type 0
-IsWanted search value = Turned search.negated (Meets (name_of search.last) value search.check.now)
+abbrev pub IsTarget : Search → Data → Type 0
+IsTarget search value = NegatedIf search.negated (Meets (name_of search.last) value search.check.now)
 
 -- the steps reach such a value
 abbrev pub Finds : Search → Option (List ℕ) → List Step → Data → Type 0
-Finds search last steps value = (found : Data) × Reaches (data_in search.bundle.now) last steps value found × IsWanted search found
+Finds search last steps value = (found : Data) × Reaches (data_in search.bundle.now) last steps value found × IsTarget search found
 
 -- from one of the values
 abbrev pub SomeFinds : Search → Option (List ℕ) → List Step → List Data → Type 0
@@ -38,17 +38,17 @@ AreLast search steps = (front : List Step) × (search.steps.now ≡ front ++ ste
 
 -- from the object of each dead end, a step and those that are left behind it reach no value that is searched for, and from
 -- that of each live one they do
-pub record AreRight (search : Search) (findings : Findings) : Type 0 where
-  pub dead : (step : Step) (rest : List Step) (at : ℕ) → AreLast search (step ∷ rest)
-      → Has findings.dead (length rest) at → ¬ FindsAt search (step ∷ rest) at
-  pub live : (step : Step) (rest : List Step) (at : ℕ) → AreLast search (step ∷ rest)
-      → Has findings.live (length rest) at → FindsAt search (step ∷ rest) at
+pub record IsSoundMemo (search : Search) (memo : SearchMemo) : Type 0 where
+  pub negative : (step : Step) (rest : List Step) (at : ℕ) → AreLast search (step ∷ rest)
+      → Has memo.negative (length rest) at → ¬ FindsAt search (step ∷ rest) at
+  pub positive : (step : Step) (rest : List Step) (at : ℕ) → AreLast search (step ∷ rest)
+      → Has memo.positive (length rest) at → FindsAt search (step ∷ rest) at
 
 -- the search stands before these last steps of its path, and its findings are right
-pub record StandsBefore (search : Search) (steps : List Step) (findings : Findings) : Type 0 where
+pub record IsSearchState (search : Search) (steps : List Step) (memo : SearchMemo) : Type 0 where
   pub sound : IsSoundCheck search.check.now
   pub last : AreLast search steps
-  pub right : AreRight search findings
+  pub right : IsSoundMemo search memo
 
 -- it is the search that a test asks for: NOT EXISTS searches for any value, and another test with NOT for one that doesn't meet
 -- its check

@@ -6,7 +6,7 @@ use Rattle.match_stream.specs.declared.ending.MatchRefusal.TheVariants as refusa
 use Rattle.match_input.specs.declared.read_end.ReadEnd.{ReadEnd}
 use Rattle.match_input.specs.declared.read_end.ReadEnd.TheVariants as read
 use Rattle.match_run.specs.declared.match_end.MatchEnd.{MatchEnd}
-use Rattle.match_run.specs.declared.match_end.MatchEnd.TheVariants.{Input, ReadFault, WriteFault, Crowded, NoMemory}
+use Rattle.match_run.specs.declared.match_end.MatchEnd.TheVariants.{Input, ReadFault, WriteFault, OverLimit, NoMemory}
 
 abbrev pub end_of_read : ReadEnd → MatchEnd
 end_of_read (read.Input line why) = Input line why
@@ -16,13 +16,13 @@ end_of_read read.NoMemory = NoMemory
 
 -- what a matcher may answer that hasn't ended, where times don't fall
 abbrev pub MayEnd : MatchRefusal → Type 0
-MayEnd (refusal.Stopped (ending.Crowded number cap)) = ⊤
+MayEnd (refusal.Stopped (ending.OverLimit number retained_limit)) = ⊤
 MayEnd (refusal.Stopped (ending.OutOfOrder last now)) = ⊥
 MayEnd (refusal.Stopped ending.NoMemory) = ⊤
 MayEnd (refusal.Ended before) = ⊥
 
 abbrev pub end_of_match : MatchRefusal → MatchEnd
-end_of_match (refusal.Stopped (ending.Crowded number cap)) = Crowded number cap
+end_of_match (refusal.Stopped (ending.OverLimit number retained_limit)) = OverLimit number retained_limit
 end_of_match (refusal.Stopped (ending.OutOfOrder last now)) = NoMemory
 end_of_match (refusal.Stopped ending.NoMemory) = NoMemory
 end_of_match (refusal.Ended before) = NoMemory

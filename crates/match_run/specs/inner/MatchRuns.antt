@@ -21,7 +21,7 @@ use Rattle.flow_edges.specs.Streams.{Streams}
 use Rattle.match_run.specs.Entries.{AreEntries}
 use Rattle.match_run.specs.Listing.{listing_text}
 use Rattle.match_run.specs.Matching.{ReadsInput, BeganInTime}
-use Rattle.match_run.specs.inner.Rows.{IsBehind}
+use Rattle.match_run.specs.inner.Rows.{IsAfter}
 use Rattle.match_run.specs.declared.tally.Tally.{Tally}
 
 -- where the reader stands, by how the input is cut: an input that is read whole is one bundle
@@ -62,13 +62,13 @@ pub record HasRead (mode : Mode) (first : Option (List ℕ)) (reader : ReaderSta
   pub stage : IsStageOf mode reader.stage bundles first left
 
 -- the bundles so far, their log, its answers, and what was written
-pub record RunsSo (mode : Mode) (p : Pattern) (cap : ℕ) (before now : Streams) (reader : ReaderState) (state : MatcherState) (tally : Tally) : Type 0 where
+pub record RunsSo (mode : Mode) (p : Pattern) (retained_limit : ℕ) (before now : Streams) (reader : ReaderState) (state : MatcherState) (tally : Tally) : Type 0 where
   pub bundles : List BundleOf
   pub read : HasRead mode before.left reader now.left bundles
   pub log : List LogEntry
   pub answers : List (List BindTree)
   pub entries : AreEntries (plain_pattern p) bundles log
-  pub behind : IsBehind p cap state tally log answers
+  pub behind : IsAfter p retained_limit state tally log answers
   pub text : now.written ≡ written_with (listing_text (joined_answers answers)) before.written
   pub number : reader.observations ≡ state.rows
   pub time : reader.last ≡ state.last

@@ -12,16 +12,16 @@ use Rattle.match_bindings.specs.NumberedPattern.{numbered_pattern}
 use Rattle.match_bindings.specs.BindTree.{BindTree}
 use Rattle.match_bindings.specs.Log.{IsInOrder}
 use Rattle.match_stream.specs.declared.ending.Ending.TheVariants as ending
-use Rattle.match_stream.specs.MatcherState.{MatcherState, StandsFor, Falls}
-use Rattle.match_stream.specs.Answer.{AreAnswers, IsCrowded, joined_answers}
+use Rattle.match_stream.specs.MatcherState.{MatcherState, Represents, Falls}
+use Rattle.match_stream.specs.Answer.{AreAnswers, IsOverLimit, joined_answers}
 use Rattle.match_input.specs.declared.batch.Batch.{Batch}
 use Rattle.match_input.specs.Reading.{BundleOf}
 use Rattle.match_run.specs.Entries.{AreEntriesOf}
 use Rattle.match_run.specs.Listing.{listing_text, last_number}
-use Rattle.match_run.specs.Matching.{IsNeverCrowded}
+use Rattle.match_run.specs.Matching.{IsNeverOverLimit}
 use Rattle.match_run.specs.declared.tally.Tally.{Tally}
 use Rattle.match_run.specs.declared.match_end.MatchEnd.{MatchEnd}
-use Rattle.match_run.specs.declared.match_end.MatchEnd.TheVariants.{Done, Input, ReadFault, WriteFault, Crowded, NoMemory}
+use Rattle.match_run.specs.declared.match_end.MatchEnd.TheVariants.{Done, Input, ReadFault, WriteFault, OverLimit, NoMemory}
 
 -- ---- what is counted
 
@@ -43,15 +43,15 @@ counted tally number bindings = record {
 -- ---- what is kept of a log
 
 -- the rows are in order, too much is live at none of them, and these are their answers
-pub record HasAnswers (p : Pattern) (cap : ℕ) (log : List LogEntry) (answers : List (List BindTree)) : Type 0 where
+pub record HasAnswers (p : Pattern) (retained_limit : ℕ) (log : List LogEntry) (answers : List (List BindTree)) : Type 0 where
   pub order : IsInOrder log
-  pub roomy : IsNeverCrowded p cap log
+  pub within_limit : IsNeverOverLimit p retained_limit log
   pub answers_are : AreAnswers (numbered_pattern p) log answers
 
 -- a matcher and a tally behind a log with these answers
-pub record IsBehind (p : Pattern) (cap : ℕ) (state : MatcherState) (tally : Tally) (log : List LogEntry) (answers : List (List BindTree)) : Type 0 where
-  pub rows : HasAnswers p cap log answers
-  pub stands : StandsFor state log
+pub record IsAfter (p : Pattern) (retained_limit : ℕ) (state : MatcherState) (tally : Tally) (log : List LogEntry) (answers : List (List BindTree)) : Type 0 where
+  pub rows : HasAnswers p retained_limit log answers
+  pub represents : Represents state log
   pub observations_are : tally.observations ≡ length log
   pub bindings_are : tally.bindings ≡ length (joined_answers answers)
   pub few : tally.bindings ≤ length log * 2 ^ 64
@@ -65,9 +65,9 @@ pub record Progress : Type 0 where
 abbrev pub so_far : MatcherState → Tally → Progress
 so_far matcher tally = record { matcher = matcher; tally = tally }
 
--- behind this log, under the pattern and the cap of the matcher
+-- behind this log, under the pattern and the retained limit of the matcher
 abbrev pub IsAt : Progress → List LogEntry → List (List BindTree) → Type 0
-IsAt run log answers = IsBehind run.matcher.pattern run.matcher.cap run.matcher run.tally log answers
+IsAt run log answers = IsAfter run.matcher.pattern run.matcher.retained_limit run.matcher run.tally log answers
 
 -- behind some log
 abbrev pub IsAtSome : Progress → Type 0
@@ -85,51 +85,51 @@ abbrev pub row_of : Observation → List Bool → LogEntry
 row_of o truths = record { first = o.first; last = o.last; truths = truths }
 
 -- an observation adds its row, which is answered so
-pub record AddsRow (p : Pattern) (cap : ℕ) (objects : List Data) (o : Observation) (log : List LogEntry) (answers : List (List BindTree))
+pub record AddsRow (p : Pattern) (retained_limit : ℕ) (objects : List Data) (o : Observation) (log : List LogEntry) (answers : List (List BindTree))
     (state : MatcherState) (tally : Tally) (answer : List BindTree) : Type 0 where
   pub truths : List Bool
   pub are : AreTruths objects o.roots (plain_pattern p) truths
-  pub behind : IsBehind p cap state tally (log ++ row_of o truths ∷ []) (answers ++ answer ∷ [])
+  pub behind : IsAfter p retained_limit state tally (log ++ row_of o truths ∷ []) (answers ++ answer ∷ [])
 
 -- too much is live at its row
-pub record IsCrowdedAt (p : Pattern) (cap : ℕ) (objects : List Data) (o : Observation) (log : List LogEntry) (state : MatcherState)
+pub record IsOverLimitAt (p : Pattern) (retained_limit : ℕ) (objects : List Data) (o : Observation) (log : List LogEntry) (state : MatcherState)
     (number named : ℕ) : Type 0 where
   pub truths : List Bool
   pub are : AreTruths objects o.roots (plain_pattern p) truths
   pub numbered : number ≡ length log + 1
-  pub cap_is : named ≡ cap
-  pub crowded : IsCrowded (numbered_pattern p) (log ++ row_of o truths ∷ []) cap
-  pub ended : state.ended ≡ Some (ending.Crowded number cap)
+  pub retained_limit_is : named ≡ retained_limit
+  pub over_limit : IsOverLimit (numbered_pattern p) (log ++ row_of o truths ∷ []) retained_limit
+  pub ended : state.ended ≡ Some (ending.OverLimit number retained_limit)
 
 -- what an end at an observation says
 abbrev pub EndsAtRow : Pattern → ℕ → List Data → Observation → List LogEntry → MatcherState → MatchEnd → Type 0
-EndsAtRow p cap objects o log state (Done observations bindings last) = ⊥
-EndsAtRow p cap objects o log state (Input line why) = ⊥
-EndsAtRow p cap objects o log state ReadFault = ⊥
-EndsAtRow p cap objects o log state WriteFault = ⊥
-EndsAtRow p cap objects o log state (Crowded number named) = IsCrowdedAt p cap objects o log state number named
-EndsAtRow p cap objects o log state NoMemory = ⊤
+EndsAtRow p retained_limit objects o log state (Done observations bindings last) = ⊥
+EndsAtRow p retained_limit objects o log state (Input line why) = ⊥
+EndsAtRow p retained_limit objects o log state ReadFault = ⊥
+EndsAtRow p retained_limit objects o log state WriteFault = ⊥
+EndsAtRow p retained_limit objects o log state (OverLimit number named) = IsOverLimitAt p retained_limit objects o log state number named
+EndsAtRow p retained_limit objects o log state NoMemory = ⊤
 
 -- ---- the observations of a bundle
 
 -- some observations add their rows, and the lines of what ends there
-pub record AddsRows (p : Pattern) (cap : ℕ) (objects : List Data) (observations : List Observation) (log : List LogEntry)
+pub record AddsRows (p : Pattern) (retained_limit : ℕ) (objects : List Data) (observations : List Observation) (log : List LogEntry)
     (answers : List (List BindTree)) (state : MatcherState) (tally : Tally) (text : List ℕ) : Type 0 where
   pub own : List LogEntry
   pub own_answers : List (List BindTree)
   pub entries : AreEntriesOf (plain_pattern p) objects observations own
-  pub behind : IsBehind p cap state tally (log ++ own) (answers ++ own_answers)
+  pub behind : IsAfter p retained_limit state tally (log ++ own) (answers ++ own_answers)
   pub text_is : text ≡ listing_text (joined_answers own_answers)
 
 -- of a text so much is written, and the rest is pending
-pub record IsOnItsWay (text pending : List ℕ) (first written : Option (List ℕ)) : Type 0 where
+pub record IsBuffered (text pending : List ℕ) (first written : Option (List ℕ)) : Type 0 where
   pub count : ℕ
   pub within : count ≤ length text
   pub written_is : written ≡ written_with (take count text) first
   pub pending_is : pending ≡ drop count text
 
 -- the first of some observations add their rows, and the lines of what ends there
-pub record ListsFirst (p : Pattern) (cap : ℕ) (objects : List Data) (observations : List Observation) (log : List LogEntry)
+pub record ListsFirst (p : Pattern) (retained_limit : ℕ) (objects : List Data) (observations : List Observation) (log : List LogEntry)
     (answers : List (List BindTree)) (text : List ℕ) : Type 0 where
   pub seen : List Observation
   pub later : List Observation
@@ -137,52 +137,52 @@ pub record ListsFirst (p : Pattern) (cap : ℕ) (objects : List Data) (observati
   pub own : List LogEntry
   pub own_answers : List (List BindTree)
   pub entries : AreEntriesOf (plain_pattern p) objects seen own
-  pub rows : HasAnswers p cap (log ++ own) (answers ++ own_answers)
+  pub rows : HasAnswers p retained_limit (log ++ own) (answers ++ own_answers)
   pub text_is : text ≡ listing_text (joined_answers own_answers)
 
 -- of the lines of the first of them a prefix was written
 abbrev pub BreaksOff : Pattern → ℕ → List Data → List Observation → List LogEntry → List (List BindTree) → Option (List ℕ) → Option (List ℕ) → Type 0
-BreaksOff p cap objects observations log answers first written =
-    (text : List ℕ) × ListsFirst p cap objects observations log answers text × WritesPrefix text first written
+BreaksOff p retained_limit objects observations log answers first written =
+    (text : List ℕ) × ListsFirst p retained_limit objects observations log answers text × WritesPrefix text first written
 
 -- too much is live at one of them
-pub record StopsAmong (p : Pattern) (cap : ℕ) (objects : List Data) (observations : List Observation) (log : List LogEntry)
+pub record StopsAmong (p : Pattern) (retained_limit : ℕ) (objects : List Data) (observations : List Observation) (log : List LogEntry)
     (answers : List (List BindTree)) (state : MatcherState) (text : List ℕ) (number named : ℕ) : Type 0 where
-  pub first : ListsFirst p cap objects observations log answers text
+  pub first : ListsFirst p retained_limit objects observations log answers text
   pub o : Observation
   pub rest : List Observation
   pub later_are : first.later ≡ o ∷ rest
-  pub crowded : IsCrowdedAt p cap objects o (log ++ first.own) state number named
+  pub over_limit : IsOverLimitAt p retained_limit objects o (log ++ first.own) state number named
 
 -- what an end among the observations says: of their lines some may be on their way, where no call failed
 abbrev pub EndsAmong : Pattern → ℕ → List Data → List Observation → List LogEntry → List (List BindTree) → MatcherState
     → List ℕ → Option (List ℕ) → Option (List ℕ) → MatchEnd → Type 0
-EndsAmong p cap objects observations log answers state pending first written (Done seen bindings last) = ⊥
-EndsAmong p cap objects observations log answers state pending first written (Input line why) = ⊥
-EndsAmong p cap objects observations log answers state pending first written ReadFault = ⊥
-EndsAmong p cap objects observations log answers state pending first written WriteFault = BreaksOff p cap objects observations log answers first written
-EndsAmong p cap objects observations log answers state pending first written (Crowded number named) =
-    (text : List ℕ) × StopsAmong p cap objects observations log answers state text number named × IsOnItsWay text pending first written
-EndsAmong p cap objects observations log answers state pending first written NoMemory = BreaksOff p cap objects observations log answers first written
+EndsAmong p retained_limit objects observations log answers state pending first written (Done seen bindings last) = ⊥
+EndsAmong p retained_limit objects observations log answers state pending first written (Input line why) = ⊥
+EndsAmong p retained_limit objects observations log answers state pending first written ReadFault = ⊥
+EndsAmong p retained_limit objects observations log answers state pending first written WriteFault = BreaksOff p retained_limit objects observations log answers first written
+EndsAmong p retained_limit objects observations log answers state pending first written (OverLimit number named) =
+    (text : List ℕ) × StopsAmong p retained_limit objects observations log answers state text number named × IsBuffered text pending first written
+EndsAmong p retained_limit objects observations log answers state pending first written NoMemory = BreaksOff p retained_limit objects observations log answers first written
 
 -- ---- a bundle, and what is written of it
 
 -- its lines are written
 abbrev pub WritesRows : Pattern → ℕ → List Data → List Observation → List LogEntry → List (List BindTree) → MatcherState → Tally
     → Option (List ℕ) → Option (List ℕ) → Type 0
-WritesRows p cap objects observations log answers state tally written written_after =
-    (text : List ℕ) × AddsRows p cap objects observations log answers state tally text × (written_after ≡ written_with text written)
+WritesRows p retained_limit objects observations log answers state tally written written_after =
+    (text : List ℕ) × AddsRows p retained_limit objects observations log answers state tally text × (written_after ≡ written_with text written)
 
 -- what an end in a bundle says
 abbrev pub EndsInBundle : Pattern → ℕ → List Data → List Observation → List LogEntry → List (List BindTree) → MatcherState
     → Option (List ℕ) → Option (List ℕ) → MatchEnd → Type 0
-EndsInBundle p cap objects observations log answers state written written_after (Done seen bindings last) = ⊥
-EndsInBundle p cap objects observations log answers state written written_after (Input line why) = ⊥
-EndsInBundle p cap objects observations log answers state written written_after ReadFault = ⊥
-EndsInBundle p cap objects observations log answers state written written_after WriteFault = BreaksOff p cap objects observations log answers written written_after
-EndsInBundle p cap objects observations log answers state written written_after (Crowded number named) =
-    (text : List ℕ) × StopsAmong p cap objects observations log answers state text number named × (written_after ≡ written_with text written)
-EndsInBundle p cap objects observations log answers state written written_after NoMemory = BreaksOff p cap objects observations log answers written written_after
+EndsInBundle p retained_limit objects observations log answers state written written_after (Done seen bindings last) = ⊥
+EndsInBundle p retained_limit objects observations log answers state written written_after (Input line why) = ⊥
+EndsInBundle p retained_limit objects observations log answers state written written_after ReadFault = ⊥
+EndsInBundle p retained_limit objects observations log answers state written written_after WriteFault = BreaksOff p retained_limit objects observations log answers written written_after
+EndsInBundle p retained_limit objects observations log answers state written written_after (OverLimit number named) =
+    (text : List ℕ) × StopsAmong p retained_limit objects observations log answers state text number named × (written_after ≡ written_with text written)
+EndsInBundle p retained_limit objects observations log answers state written written_after NoMemory = BreaksOff p retained_limit objects observations log answers written written_after
 
 -- the bundle that a batch is
 abbrev pub bundle_of : Batch → BundleOf
@@ -193,34 +193,34 @@ bundle_of batch = record { line = batch.line; objects = data_in batch.bundle; ob
 -- an observation adds its row
 abbrev pub TakesRow : List Data → Observation → Progress → Progress → List BindTree → Type 0
 TakesRow objects o run after answer = (log : List LogEntry) (answers : List (List BindTree)) → IsAt run log answers
-    → AddsRow run.matcher.pattern run.matcher.cap objects o log answers after.matcher after.tally answer
+    → AddsRow run.matcher.pattern run.matcher.retained_limit objects o log answers after.matcher after.tally answer
 
 -- or ends the run so
 abbrev pub StopsAtRow : List Data → Observation → Progress → MatcherState → MatchEnd → Type 0
 StopsAtRow objects o run after end = (log : List LogEntry) (answers : List (List BindTree)) → IsAt run log answers
-    → EndsAtRow run.matcher.pattern run.matcher.cap objects o log after end
+    → EndsAtRow run.matcher.pattern run.matcher.retained_limit objects o log after end
 
 -- some observations of a bundle add their rows and their lines
 abbrev pub TakesRows : List Data → List Observation → Progress → Progress → List ℕ → Type 0
 TakesRows objects observations run after text = (log : List LogEntry) (answers : List (List BindTree)) → IsAt run log answers
-    → AddsRows run.matcher.pattern run.matcher.cap objects observations log answers after.matcher after.tally text
+    → AddsRows run.matcher.pattern run.matcher.retained_limit objects observations log answers after.matcher after.tally text
 
 -- and these lines are on their way
 abbrev pub GoesThrough : List Data → List Observation → Progress → Progress → List ℕ → Option (List ℕ) → Option (List ℕ) → Type 0
 GoesThrough objects observations run after pending first written =
-    (text : List ℕ) × TakesRows objects observations run after text × IsOnItsWay text pending first written
+    (text : List ℕ) × TakesRows objects observations run after text × IsBuffered text pending first written
 
 -- or one of them ends the run so
 abbrev pub StopsAtOne : List Data → List Observation → Progress → MatcherState → List ℕ → Option (List ℕ) → Option (List ℕ) → MatchEnd → Type 0
 StopsAtOne objects observations run after pending first written end = (log : List LogEntry) (answers : List (List BindTree)) → IsAt run log answers
-    → EndsAmong run.matcher.pattern run.matcher.cap objects observations log answers after pending first written end
+    → EndsAmong run.matcher.pattern run.matcher.retained_limit objects observations log answers after pending first written end
 
 -- the lines of a bundle are written
 abbrev pub WritesBundle : BundleOf → Progress → Progress → Option (List ℕ) → Option (List ℕ) → Type 0
 WritesBundle bundle run after written written_after = (log : List LogEntry) (answers : List (List BindTree)) → IsAt run log answers
-    → WritesRows run.matcher.pattern run.matcher.cap bundle.objects bundle.observations log answers after.matcher after.tally written written_after
+    → WritesRows run.matcher.pattern run.matcher.retained_limit bundle.objects bundle.observations log answers after.matcher after.tally written written_after
 
 -- or the run ends in it so
 abbrev pub StopsInBundle : BundleOf → Progress → MatcherState → Option (List ℕ) → Option (List ℕ) → MatchEnd → Type 0
 StopsInBundle bundle run after written written_after end = (log : List LogEntry) (answers : List (List BindTree)) → IsAt run log answers
-    → EndsInBundle run.matcher.pattern run.matcher.cap bundle.objects bundle.observations log answers after written written_after end
+    → EndsInBundle run.matcher.pattern run.matcher.retained_limit bundle.objects bundle.observations log answers after written written_after end

@@ -1,20 +1,20 @@
--- For private clauses: new things that are added where they are wanted, as far as there is room.
+-- For private clauses: new things that are added where they are needed, as far as there is budget.
 use Rattle.std.specs.Prelude.{◌≡◌, ◌+◌, ◌<◌, List, ◌++◌, length}
-use Rattle.match_stream.specs.declared.demand.Demand.{Demand}
-use Rattle.match_stream.specs.declared.piece.Piece.{Piece}
-use Rattle.match_stream.specs.PieceTree.{PieceTree}
-use Rattle.match_stream.specs.inner.Leads.{leads_of}
-use Rattle.match_stream.specs.inner.Pieces.{piece_trees}
-use Rattle.match_stream.specs.inner.Wanted.{wanted}
+use Rattle.match_stream.specs.declared.join_filter.JoinFilter.{JoinFilter}
+use Rattle.match_stream.specs.declared.partial_match.PartialMatch.{PartialMatch}
+use Rattle.match_stream.specs.PartialMatchTree.{PartialMatchTree}
+use Rattle.match_stream.specs.inner.PendingLefts.{pending_lefts_of}
+use Rattle.match_stream.specs.inner.PartialMatches.{partial_match_trees}
+use Rattle.match_stream.specs.inner.Needed.{needed}
 
--- those of new things that are wanted
-abbrev pub demanded : Demand → List PieceTree → List PieceTree
-demanded demand new = wanted demand.time (leads_of demand.leads.now) new
+-- those of new things that are needed
+abbrev pub join_filtered : JoinFilter → List PartialMatchTree → List PartialMatchTree
+join_filtered join_filter new = needed join_filter.time (pending_lefts_of join_filter.pending_lefts.now) new
 
--- they stand behind those that were there
-abbrev pub AreAdded : Demand → List PieceTree → List Piece → List Piece → Type 0
-AreAdded demand new before after = piece_trees after ≡ piece_trees before ++ demanded demand new
+-- they stand after left those that were there
+abbrev pub AreAdded : JoinFilter → List PartialMatchTree → List PartialMatch → List PartialMatch → Type 0
+AreAdded join_filter new before after = partial_match_trees after ≡ partial_match_trees before ++ join_filtered join_filter new
 
--- with those that were there they are more than there is room for
-abbrev pub AreTooMany : Demand → List PieceTree → List Piece → Type 0
-AreTooMany demand new before = demand.room < length before + length (demanded demand new)
+-- with those that were there they are more than there is budget for
+abbrev pub AreTooMany : JoinFilter → List PartialMatchTree → List PartialMatch → Type 0
+AreTooMany join_filter new before = join_filter.budget < length before + length (join_filtered join_filter new)

@@ -1,6 +1,6 @@
 -- For private clauses: a heap by earliest times, in which the thing at place p is the parent of those at 4 p + 1 to 4 p + 4.
 use Rattle.std.specs.Prelude.{ℕ, ◌+◌, ◌*◌, ◌≤◌, ◌<◌, ℤ, ◌≤ℤ◌, List, slice_index_or}
-use Rattle.match_stream.specs.declared.piece.Piece.{Piece}
+use Rattle.match_stream.specs.declared.partial_match.PartialMatch.{PartialMatch}
 
 abbrev pub IsChild : ℕ → ℕ → Type 0
 IsChild p i = (4 * p + 1 ≤ i) × (i ≤ 4 * p + 4)
@@ -14,18 +14,18 @@ abbrev pub AreHeapedBelow : (ℕ → ℤ) → ℕ → Type 0
 AreHeapedBelow time n = (p i : ℕ) → IsChild p i → i < n → 0 < p → time p ≤ℤ time i
 
 -- the earliest time of the thing at a place
-abbrev pub time_at : List Piece → Piece → ℕ → ℤ
+abbrev pub time_at : List PartialMatch → PartialMatch → ℕ → ℤ
 time_at held d i = (slice_index_or held i d).earliest
 
 -- the first n things are a heap
-abbrev pub IsHeap : List Piece → ℕ → Type 0
-IsHeap held n = (d : Piece) → AreHeaped (time_at held d) n
+abbrev pub IsHeap : List PartialMatch → ℕ → Type 0
+IsHeap held n = (d : PartialMatch) → AreHeaped (time_at held d) n
 
-abbrev pub IsHeapBelow : List Piece → ℕ → Type 0
-IsHeapBelow held n = (d : Piece) → AreHeapedBelow (time_at held d) n
+abbrev pub IsHeapBelow : List PartialMatch → ℕ → Type 0
+IsHeapBelow held n = (d : PartialMatch) → AreHeapedBelow (time_at held d) n
 
 -- no other child is earlier
-pub record IsEarliestChild (held : List Piece) (at child n : ℕ) : Type 0 where
+pub record IsEarliestChild (held : List PartialMatch) (at child n : ℕ) : Type 0 where
   pub is_child : IsChild at child
   pub inside : child < n
-  pub earliest : (d : Piece) (i : ℕ) → IsChild at i → i < n → time_at held d child ≤ℤ time_at held d i
+  pub earliest : (d : PartialMatch) (i : ℕ) → IsChild at i → i < n → time_at held d child ≤ℤ time_at held d i

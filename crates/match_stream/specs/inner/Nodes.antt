@@ -7,14 +7,14 @@ use Rattle.match_stream.specs.declared.levels.Levels.{Levels}
 use Rattle.match_stream.specs.declared.leaves.Leaves.{Leaves}
 use Rattle.match_stream.specs.declared.node.Node.{Node}
 use Rattle.match_stream.specs.declared.node.Node.TheVariants as node
-use Rattle.match_stream.specs.PieceTree.{PieceTree}
-use Rattle.match_stream.specs.inner.Pieces.{piece_trees}
+use Rattle.match_stream.specs.PartialMatchTree.{PartialMatchTree}
+use Rattle.match_stream.specs.inner.PartialMatches.{partial_match_trees}
 use Rattle.match_stream.specs.inner.Steps.{SideStores, State, a_join, a_choice, a_limit, a_chain, leaves_state, all_levels}
 
-abbrev pub store_list : Store → List PieceTree
-store_list store = piece_trees store.held.items
+abbrev pub store_list : Store → List PartialMatchTree
+store_list store = partial_match_trees store.held.items
 
-abbrev pub store_lists : List Store → List (List PieceTree)
+abbrev pub store_lists : List Store → List (List PartialMatchTree)
 store_lists stores = map store_list stores
 
 abbrev pub side_stores : Sides → SideStores

@@ -2,7 +2,7 @@
 use Rattle.std.specs.Prelude.{ℕ, List, [], ◌∷◌, ◌++◌}
 use Rattle.std.specs.List.{flat_map}
 use Rattle.match_bindings.specs.BindTree.{BindTree, One, Pair, First, Second, Empty, Single, More}
-use Rattle.match_stream.specs.PieceTree.{PieceTree}
+use Rattle.match_stream.specs.PartialMatchTree.{PartialMatchTree}
 
 abbrev pub numbers : BindTree → List ℕ
 numbers (One n) = n ∷ []
@@ -14,9 +14,9 @@ numbers (Single a) = numbers a
 numbers (More m a) = numbers m ++ numbers a
 
 -- those of a store
-abbrev pub store_numbers : List PieceTree → List ℕ
+abbrev pub store_numbers : List PartialMatchTree → List ℕ
 store_numbers held = flat_map (λ h. numbers h.tree) held
 
 -- those of all stores
-abbrev pub all_numbers : List (List PieceTree) → List ℕ
+abbrev pub all_numbers : List (List PartialMatchTree) → List ℕ
 all_numbers contents = flat_map store_numbers contents

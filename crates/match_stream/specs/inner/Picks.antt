@@ -2,18 +2,18 @@
 use Rattle.std.specs.Prelude.{◌≡◌, ℕ, nat_eq, true, Some, List, length, slice_get}
 use Rattle.std.specs.List.{AllZip, Contains, IsDistinct}
 use Rattle.match_bindings.specs.BindTree.{BindTree, has}
-use Rattle.match_stream.specs.declared.choices.Choice.{Choice}
+use Rattle.match_stream.specs.declared.matching.Neighbors.{Neighbors}
 use Rattle.match_stream.specs.inner.Numbers.{numbers}
 
 -- a tree has a number, which is one of a choice
-abbrev pub MayPick : BindTree → Choice → ℕ → Type 0
-MayPick x choice n = Contains choice.numbers.items n × (has n x ≡ true)
+abbrev pub MayPick : BindTree → Neighbors → ℕ → Type 0
+MayPick x neighbors n = Contains neighbors.numbers.items n × (has n x ≡ true)
 
 -- and of each choice one of its own
-pub record HasPicks (choices : List Choice) (x : BindTree) : Type 0 where
+pub record HasPerfectMatching (matching : List Neighbors) (x : BindTree) : Type 0 where
   pub picks : List ℕ
   pub differ : IsDistinct nat_eq picks
-  pub each : AllZip (MayPick x) choices picks
+  pub each : AllZip (MayPick x) matching picks
 
 -- the number at a place of a tree, counted from the left, is one of some
 pub record HasAt (found : List ℕ) (place : ℕ) (x : BindTree) : Type 0 where

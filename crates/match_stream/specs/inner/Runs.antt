@@ -6,21 +6,21 @@ use Rattle.match_bindings.specs.Once.{count}
 use Rattle.match_bindings.specs.Flat.{comes_before}
 use Rattle.match_stream.specs.declared.row.Row.{Row}
 use Rattle.match_stream.specs.declared.run.Run.{Run}
-use Rattle.match_stream.specs.PieceTree.{trees_in}
-use Rattle.match_stream.specs.LivePart.{held_count}
+use Rattle.match_stream.specs.PartialMatchTree.{trees_in}
+use Rattle.match_stream.specs.RetainedPart.{held_count}
 use Rattle.match_stream.specs.MatcherState.{Falls}
 use Rattle.match_stream.specs.inner.Steps.{step_new, step_state, expired, contents_of}
 use Rattle.match_stream.specs.inner.Totals.{Admits}
 use Rattle.match_stream.specs.inner.Nodes.{state_of}
-use Rattle.match_stream.specs.inner.Arranged.{IsArranged}
+use Rattle.match_stream.specs.inner.UpToOrder.{IsSameUpToOrder}
 
 -- the next row
 abbrev pub next_row : ℕ → ℤ → ℤ → Row
 next_row rows first last = record { number = rows + 1; first = first; last = last }
 
--- how much is live after a row: what is held and what ended there
-abbrev pub live_after : Run → Row → List Bool → ℕ
-live_after run row truths = length (step_new row truths (state_of run.node)) + held_count (contents_of (step_state row truths (state_of run.node)))
+-- how much is retained after a row: what is held and what ended there
+abbrev pub retained_after : Run → Row → List Bool → ℕ
+retained_after run row truths = length (step_new row truths (state_of run.node)) + held_count (contents_of (step_state row truths (state_of run.node)))
 
 -- the binds are those that end at the row, sorted
 pub record AreSteps (run : Run) (row : Row) (truths : List Bool) (binds : List BindTree) : Type 0 where
@@ -32,22 +32,22 @@ pub record TookRow (old new : Run) (row : Row) (truths : List Bool) : Type 0 whe
   pub rows : new.rows ≡ row.number
   pub last : new.last ≡ Some row.last
   pub node : state_of new.node ≡ step_state row truths (state_of old.node)
-  pub cap : new.cap ≡ old.cap
-  pub room : live_after old row truths ≤ old.cap
+  pub retained_limit : new.retained_limit ≡ old.retained_limit
+  pub budget : retained_after old row truths ≤ old.retained_limit
 
--- more is live after a row than the cap allows
+-- more is retained after a row than the retained limit allows
 abbrev pub IsOver : Run → Row → List Bool → Type 0
-IsOver run row truths = Admits row truths (state_of run.node) → run.cap < live_after run row truths
+IsOver run row truths = Admits row truths (state_of run.node) → run.retained_limit < retained_after run row truths
 
 -- what has expired at a time that isn't before the last row's is taken out of a run, whose other things stay as they were
 pub record IsCleared (old new : Run) (now : ℤ) : Type 0 where
   pub order : ¬ (Falls old.last now)
-  pub node : IsArranged (expired now (state_of old.node)) (state_of new.node)
+  pub node : IsSameUpToOrder (expired now (state_of old.node)) (state_of new.node)
   pub rows : new.rows ≡ old.rows
 
 -- a run took so many rows at which nothing holds
 pub record Passed (old new : Run) (rows : ℕ) (last : ℤ) : Type 0 where
   pub rows_are : new.rows ≡ old.rows + rows
   pub last_is : new.last ≡ Some last
-  pub node : IsArranged (expired last (state_of old.node)) (state_of new.node)
+  pub node : IsSameUpToOrder (expired last (state_of old.node)) (state_of new.node)
   pub order : ¬ (Falls old.last last)

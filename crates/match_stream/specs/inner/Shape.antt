@@ -24,7 +24,7 @@ same_time (Some a) (Some b) = int_le a b && int_le b a
 same_time _ _ = false
 
 abbrev pub same_window : Window → Window → Bool
-same_window a b = (same_count a.seconds b.seconds && same_time a.start b.start) && (same_time a.stop b.stop && same_bool a.behind b.behind)
+same_window a b = (same_count a.seconds b.seconds && same_time a.start b.start) && (same_time a.stop b.stop && same_bool a.after_left b.after_left)
 
 abbrev pub have_windows : SideStores → Window → Window → Bool
 have_windows sides left right = same_window sides.left_window left && same_window sides.right_window right

@@ -3,70 +3,70 @@ use Rattle.std.specs.Prelude.{◌≡◌, ◌⊎◌, ℕ, ◌≤◌, ◌<◌, ◌
 use Rattle.std.specs.List.{AllWithin, Contains}
 use Rattle.std.specs.List.Sorted.{IsNonDecreasing}
 use Rattle.match_bindings.specs.BindTree.{has}
-use Rattle.match_stream.specs.declared.chunk.Chunk.{Chunk}
-use Rattle.match_stream.specs.declared.chunk.Chunks.{Chunks}
+use Rattle.match_stream.specs.declared.block.Block.{Block}
+use Rattle.match_stream.specs.declared.block.Blocks.{Blocks}
 use Rattle.match_stream.specs.declared.join.Join.{Join}
 use Rattle.match_stream.specs.declared.key.Key.{Key}
-use Rattle.match_stream.specs.declared.piece.Piece.{Piece}
-use Rattle.match_stream.specs.declared.probe.Probe.{Probe}
-use Rattle.match_stream.specs.declared.sieve.Sieve.{Sieve}
-use Rattle.match_stream.specs.PieceTree.{PieceTree}
-use Rattle.match_stream.specs.inner.Pieces.{piece_tree}
-use Rattle.match_stream.specs.inner.Reaches.{covers}
+use Rattle.match_stream.specs.declared.partial_match.PartialMatch.{PartialMatch}
+use Rattle.match_stream.specs.declared.query.Query.{Query}
+use Rattle.match_stream.specs.declared.skip_index.SkipIndex.{SkipIndex}
+use Rattle.match_stream.specs.PartialMatchTree.{PartialMatchTree}
+use Rattle.match_stream.specs.inner.PartialMatches.{partial_match_tree}
+use Rattle.match_stream.specs.inner.CompletionBounds.{covers}
 use Rattle.match_stream.specs.inner.Steps.{joined, may_join}
 
 -- what two things are joined to, if at all, begins before a time
-abbrev pub BeginsEarly : Option ℤ → Join → PieceTree → PieceTree → Type 0
-BeginsEarly since j x y = may_join j x y ≡ true → covers since (joined j x y).earliest ≡ false
+abbrev pub BeginsEarly : Option ℤ → Join → PartialMatchTree → PartialMatchTree → Type 0
+BeginsEarly earliest_start j x y = may_join j x y ≡ true → covers earliest_start (joined j x y).earliest ≡ false
 
 -- a thing binds some numbers, and begins no later than a time
-pub record HasCommon (numbers : List ℕ) (begin : ℤ) (piece : PieceTree) : Type 0 where
-  pub binds : (n : ℕ) → Contains numbers n → has n piece.tree ≡ true
-  pub begins : piece.earliest ≤ℤ begin
+pub record HasCommon (numbers : List ℕ) (begin : ℤ) (partial_match : PartialMatchTree) : Type 0 where
+  pub binds : (n : ℕ) → Contains numbers n → has n partial_match.tree ≡ true
+  pub begins : partial_match.earliest ≤ℤ begin
 
 -- the keys of some things: each tells of one of them, and each of them has one
-pub record AreKeysOf (things : List Piece) (keys : List Key) : Type 0 where
-  pub each : (key : Key) → Contains keys key → (key.place < length things)
-      × ((d : Piece) → HasCommon key.numbers.items key.begin (piece_tree (slice_index_or things key.place d)))
-  pub all : (place : ℕ) → place < length things → (key : Key) × Contains keys key × (key.place ≡ place)
+pub record AreKeysOf (candidates : List PartialMatch) (keys : List Key) : Type 0 where
+  pub each : (key : Key) → Contains keys key → (key.place < length candidates)
+      × ((d : PartialMatch) → HasCommon key.numbers.items key.begin (partial_match_tree (slice_index_or candidates key.place d)))
+  pub all : (place : ℕ) → place < length candidates → (key : Key) × Contains keys key × (key.place ≡ place)
 
 -- a chunk's numbers are a key's, which begins no later
-pub record IsCommonTo (chunk : Chunk) (key : Key) : Type 0 where
-  pub numbers : (n : ℕ) → Contains chunk.common.items n → Contains key.numbers.items n
-  pub begins : key.begin ≤ℤ chunk.begin
+pub record IsCommonTo (block : Block) (key : Key) : Type 0 where
+  pub numbers : (n : ℕ) → Contains block.common.items n → Contains key.numbers.items n
+  pub begins : key.begin ≤ℤ block.begin
 
-pub record IsChunkOf (keys : List Key) (chunk : Chunk) : Type 0 where
-  pub within : chunk.end ≤ length keys
-  pub over : AllWithin (IsCommonTo chunk) keys chunk.start chunk.end
+pub record IsBlockOf (keys : List Key) (block : Block) : Type 0 where
+  pub within : block.end ≤ length keys
+  pub over : AllWithin (IsCommonTo block) keys block.start block.end
 
-abbrev pub AreChunksOf : List Key → Chunks → Type 0
-AreChunksOf keys chunks = (chunk : Chunk) → Contains chunks.chunks.items chunk → IsChunkOf keys chunk
+abbrev pub AreBlocksOf : List Key → Blocks → Type 0
+AreBlocksOf keys blocks = (block : Block) → Contains blocks.blocks.items block → IsBlockOf keys block
 
-abbrev pub AreLevelsOf : List Key → List Chunks → Type 0
-AreLevelsOf keys levels = (chunks : Chunks) → Contains levels chunks → AreChunksOf keys chunks
+abbrev pub AreLevelsOf : List Key → List Blocks → Type 0
+AreLevelsOf keys levels = (blocks : Blocks) → Contains levels blocks → AreBlocksOf keys blocks
 
--- a sieve of some things
-pub record IsSieveOf (things : List Piece) (sieve : Sieve) : Type 0 where
-  pub keys : AreKeysOf things sieve.keys.items
-  pub levels : AreLevelsOf sieve.keys.items sieve.levels.items
+-- a skip index of some things
+pub record IsSkipIndexOf (candidates : List PartialMatch) (skip_index : SkipIndex) : Type 0 where
+  pub keys : AreKeysOf candidates skip_index.keys.items
+  pub levels : AreLevelsOf skip_index.keys.items skip_index.levels.items
 
--- a probe tells of a thing
-pub record IsProbeOf (j : Join) (time : Option ℤ) (piece : PieceTree) (probe : Probe) : Type 0 where
-  pub join : probe.join ≡ j
-  pub since : probe.since.start ≡ time
-  pub binds : (n : ℕ) → Contains probe.numbers.items n → has n piece.tree ≡ true
-  pub ends : piece.latest ≡ probe.end
+-- a query tells of a thing
+pub record IsQueryOf (j : Join) (time : Option ℤ) (partial_match : PartialMatchTree) (query : Query) : Type 0 where
+  pub join : query.join ≡ j
+  pub earliest_start : query.earliest_start.start ≡ time
+  pub binds : (n : ℕ) → Contains query.numbers.items n → has n partial_match.tree ≡ true
+  pub ends : partial_match.latest ≡ query.end
 
 -- what it tells of is joined in vain with another thing
-abbrev pub IsVain : Probe → PieceTree → Type 0
-IsVain probe second = (first : PieceTree) → IsProbeOf probe.join probe.since.start first probe → BeginsEarly probe.since.start probe.join first second
+abbrev pub CannotJoin : Query → PartialMatchTree → Type 0
+CannotJoin query second = (first : PartialMatchTree) → IsQueryOf query.join query.earliest_start.start first query → BeginsEarly query.earliest_start.start query.join first second
 
 -- and with that of a key
-abbrev pub IsPassed : Probe → Key → Type 0
-IsPassed probe key = (second : PieceTree) → HasCommon key.numbers.items key.begin second → IsVain probe second
+abbrev pub IsExcluded : Query → Key → Type 0
+IsExcluded query key = (second : PartialMatchTree) → HasCommon key.numbers.items key.begin second → CannotJoin query second
 
--- the places, rising, of all things with which a first thing isn't joined in vain
-pub record AreTried (since : Option ℤ) (j : Join) (first : PieceTree) (things : List Piece) (places : List ℕ) : Type 0 where
-  pub rise : IsNonDecreasing places
-  pub within : (place : ℕ) → Contains places place → place < length things
-  pub others : (place : ℕ) → place < length things → Contains places place ⊎ ((d : Piece) → BeginsEarly since j first (piece_tree (slice_index_or things place d)))
+-- the places, ascending, of all things with which a first thing isn't joined in vain
+pub record AreTried (earliest_start : Option ℤ) (j : Join) (first : PartialMatchTree) (candidates : List PartialMatch) (places : List ℕ) : Type 0 where
+  pub sift_up : IsNonDecreasing places
+  pub within : (place : ℕ) → Contains places place → place < length candidates
+  pub others : (place : ℕ) → place < length candidates → Contains places place ⊎ ((d : PartialMatch) → BeginsEarly earliest_start j first (partial_match_tree (slice_index_or candidates place d)))

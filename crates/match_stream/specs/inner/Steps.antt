@@ -11,11 +11,11 @@ use Rattle.match_pruning.specs.Stores.{window_of}
 use Rattle.match_stream.specs.declared.join.Join.{Join}
 use Rattle.match_stream.specs.declared.join.Join.TheVariants as join
 use Rattle.match_stream.specs.declared.row.Row.{Row}
-use Rattle.match_stream.specs.PieceTree.{PieceTree}
-use Rattle.match_stream.specs.inner.Lives.{lives}
+use Rattle.match_stream.specs.PartialMatchTree.{PartialMatchTree}
+use Rattle.match_stream.specs.inner.Retains.{retains}
 
 -- the same thing under one constructor
-abbrev pub held_with : (BindTree → BindTree) → PieceTree → PieceTree
+abbrev pub held_with : (BindTree → BindTree) → PartialMatchTree → PartialMatchTree
 held_with f a = record { tree = f a.tree; earliest = a.earliest; latest = a.latest }
 
 -- two trees as one
@@ -24,35 +24,35 @@ joined_tree join.Both a b = Pair a b
 joined_tree join.Then a b = Pair a b
 joined_tree join.Repeats a b = add_part a b
 
-abbrev pub joined : Join → PieceTree → PieceTree → PieceTree
+abbrev pub joined : Join → PartialMatchTree → PartialMatchTree → PartialMatchTree
 joined j a b = record { tree = joined_tree j a.tree b.tree; earliest = int_min a.earliest b.earliest; latest = int_max a.latest b.latest }
 
 -- whether two things are joined
-abbrev pub may_join : Join → PieceTree → PieceTree → Bool
+abbrev pub may_join : Join → PartialMatchTree → PartialMatchTree → Bool
 may_join join.Both a b = disjoint a.tree b.tree
 may_join join.Then a b = int_le a.latest b.earliest && disjoint a.tree b.tree
 may_join join.Repeats a b = disjoint a.tree b.tree
 
 -- a thing with each of ys that it is joined with
-abbrev pub join_row : Join → PieceTree → List PieceTree → List PieceTree
+abbrev pub join_row : Join → PartialMatchTree → List PartialMatchTree → List PartialMatchTree
 join_row j x ys = map (joined j x) (filter (may_join j x) ys)
 
 -- each of xs with each of ys that it is joined with
-abbrev pub joins : Join → List PieceTree → List PieceTree → List PieceTree
+abbrev pub joins : Join → List PartialMatchTree → List PartialMatchTree → List PartialMatchTree
 joins j xs ys = flat_map (λ x. join_row j x ys) xs
 
 -- what a store still holds
-abbrev pub kept : Window → ℤ → List PieceTree → List PieceTree
-kept window now held = filter (λ h. lives window h.earliest now) held
+abbrev pub kept : Window → ℤ → List PartialMatchTree → List PartialMatchTree
+kept window now held = filter (λ h. retains window h.earliest now) held
 
 -- what a store holds after a row
-abbrev pub stored : Window → ℤ → List PieceTree → List PieceTree → List PieceTree
+abbrev pub stored : Window → ℤ → List PartialMatchTree → List PartialMatchTree → List PartialMatchTree
 stored window now held new = kept window now held ++ kept window now new
 
 -- the stores of a node that joins two sides, each with its window
 pub record SideStores : Type 0 where
-  pub left : List PieceTree
-  pub right : List PieceTree
+  pub left : List PartialMatchTree
+  pub right : List PartialMatchTree
   pub left_window : Window
   pub right_window : Window
 
@@ -62,18 +62,18 @@ pub data State : Type 0 where
   a_join : (how : Join) (left right : State) (sides : SideStores) → State
   a_choice : (left right : State) → State
   a_limit : (part : State) → State
-  a_chain : (part : State) (count : ℕ) (window : Window) (levels : List (List PieceTree)) → State
+  a_chain : (part : State) (count : ℕ) (window : Window) (levels : List (List PartialMatchTree)) → State
 
 abbrev pub truth_at : List Bool → ℕ → Bool
 truth_at truths leaf = unwrap_or (slice_get truths leaf) false
 
 -- a row alone
-abbrev pub row_alone : Row → PieceTree
+abbrev pub row_alone : Row → PartialMatchTree
 row_alone row = record { tree = One row.number; earliest = row.first; latest = row.last }
 
 -- what is new at a leaf
-abbrev pub new_at_leaf : Row → List Bool → ℕ → Window → List PieceTree
-new_at_leaf row truths leaf window = cond (truth_at truths leaf && lives window row.first row.last) (row_alone row ∷ []) []
+abbrev pub new_at_leaf : Row → List Bool → ℕ → Window → List PartialMatchTree
+new_at_leaf row truths leaf window = cond (truth_at truths leaf && retains window row.first row.last) (row_alone row ∷ []) []
 
 -- a leaf, and so many that follow it, each on the right of an OR of all before it
 abbrev pub leaves_state : ℕ → ℕ → Window → State
@@ -94,11 +94,11 @@ sides_count sides = length sides.left + length sides.right
 
 -- what is new where two sides are joined: the new on the left with what the right holds, and what the left holds with the new on
 -- the right
-abbrev pub joins_both : Join → SideStores → List PieceTree → List PieceTree → List PieceTree
+abbrev pub joins_both : Join → SideStores → List PartialMatchTree → List PartialMatchTree → List PartialMatchTree
 joins_both j sides left right = joins j left sides.right ++ joins j sides.left right
 
 -- the sides with what they admit
-abbrev pub sides_stored : ℤ → SideStores → List PieceTree → List PieceTree → SideStores
+abbrev pub sides_stored : ℤ → SideStores → List PartialMatchTree → List PartialMatchTree → SideStores
 sides_stored now sides left right = record {
   left = sides.left ++ kept sides.left_window now left;
   right = sides.right ++ kept sides.right_window now right;
@@ -107,53 +107,53 @@ sides_stored now sides left right = record {
 }
 
 -- the same at a row
-abbrev pub joins_new : Join → ℤ → SideStores → List PieceTree → List PieceTree → List PieceTree
+abbrev pub joins_new : Join → ℤ → SideStores → List PartialMatchTree → List PartialMatchTree → List PartialMatchTree
 joins_new j now sides left right = joins_both j (sides_kept now sides) left right
 
-abbrev pub sides_after : ℤ → SideStores → List PieceTree → List PieceTree → SideStores
+abbrev pub sides_after : ℤ → SideStores → List PartialMatchTree → List PartialMatchTree → SideStores
 sides_after now sides left right = sides_stored now (sides_kept now sides) left right
 
 -- what is new at the last level, where first is new at the level of the first store, and new at the operand
-abbrev pub levels_new : Window → ℤ → List PieceTree → List PieceTree → List (List PieceTree) → List PieceTree
+abbrev pub levels_new : Window → ℤ → List PartialMatchTree → List PartialMatchTree → List (List PartialMatchTree) → List PartialMatchTree
 levels_new window now first new [] = first
 levels_new window now first new (held ∷ levels) = levels_new window now (joins join.Repeats (kept window now held) new) new levels
 
 -- the levels after it
-abbrev pub levels_after : Window → ℤ → List PieceTree → List PieceTree → List (List PieceTree) → List (List PieceTree)
+abbrev pub levels_after : Window → ℤ → List PartialMatchTree → List PartialMatchTree → List (List PartialMatchTree) → List (List PartialMatchTree)
 levels_after window now first new [] = []
 levels_after window now first new (held ∷ levels) =
     stored window now held first ∷ levels_after window now (joins join.Repeats (kept window now held) new) new levels
 
 -- nothing at so many levels
-abbrev pub no_levels : ℕ → List (List PieceTree)
+abbrev pub no_levels : ℕ → List (List PartialMatchTree)
 no_levels zero = []
 no_levels (suc k) = [] ∷ no_levels k
 
 -- how many levels below the count aren't made
-abbrev pub levels_above : ℕ → List (List PieceTree) → ℕ
+abbrev pub levels_above : ℕ → List (List PartialMatchTree) → ℕ
 levels_above count made = count - 1 - length made
 
 -- all levels below the count, of which those that aren't made hold nothing
-abbrev pub all_levels : ℕ → List (List PieceTree) → List (List PieceTree)
+abbrev pub all_levels : ℕ → List (List PartialMatchTree) → List (List PartialMatchTree)
 all_levels count made = made ++ no_levels (levels_above count made)
 
 -- what is new above the levels that are made is an answer only where no level is above them
-abbrev pub risen : ℕ → List PieceTree → List PieceTree
+abbrev pub risen : ℕ → List PartialMatchTree → List PartialMatchTree
 risen zero sets = sets
 risen (suc above) sets = []
 
 -- and is held in the first of those else
-abbrev pub raised : Window → ℤ → ℕ → List PieceTree → List (List PieceTree)
+abbrev pub raised : Window → ℤ → ℕ → List PartialMatchTree → List (List PartialMatchTree)
 raised window now zero sets = []
 raised window now (suc above) sets = kept window now sets ∷ no_levels above
 
 -- the sets of a REPEATS, of which none has no part
-abbrev pub counted : ℕ → List PieceTree → List PieceTree
+abbrev pub counted : ℕ → List PartialMatchTree → List PartialMatchTree
 counted zero held = []
 counted (suc n) held = held
 
 -- what ends at a row
-abbrev pub step_new : Row → List Bool → State → List PieceTree
+abbrev pub step_new : Row → List Bool → State → List PartialMatchTree
 step_new row truths (a_leaf leaf window) = new_at_leaf row truths leaf window
 step_new row truths (a_join j l r sides) = joins_new j row.last sides (step_new row truths l) (step_new row truths r)
 step_new row truths (a_choice l r) = map (held_with First) (step_new row truths l) ++ map (held_with Second) (step_new row truths r)
@@ -173,10 +173,10 @@ step_state row truths (a_chain part count window levels) =
     (levels_after window row.last (map (held_with Single) (step_new row truths part)) (step_new row truths part) levels)
 
 -- leaves in ORs, of which none holds
-abbrev pub IsQuiet : List Bool → State → Type 0
-IsQuiet truths (a_leaf leaf window) = truth_at truths leaf ≡ false
-IsQuiet truths (a_choice l r) = IsQuiet truths l × IsQuiet truths r
-IsQuiet truths _ = ⊥
+abbrev pub IsNonmatching : List Bool → State → Type 0
+IsNonmatching truths (a_leaf leaf window) = truth_at truths leaf ≡ false
+IsNonmatching truths (a_choice l r) = IsNonmatching truths l × IsNonmatching truths r
+IsNonmatching truths _ = ⊥
 
 -- the sides of a node without rows
 abbrev pub empty_sides : Window → Window → SideStores
@@ -193,7 +193,7 @@ empty_state above (Between p x y) = a_limit (empty_state (between above x y) p)
 empty_state above (Repeats p n) = a_chain (empty_state above p) n (window_of above false) (no_levels (n - 1))
 
 -- what the stores hold, in the order of stores_of
-abbrev pub contents_of : State → List (List PieceTree)
+abbrev pub contents_of : State → List (List PartialMatchTree)
 contents_of (a_leaf leaf window) = []
 contents_of (a_join j l r sides) = sides.left ∷ sides.right ∷ (contents_of l ++ contents_of r)
 contents_of (a_choice l r) = contents_of l ++ contents_of r

@@ -1,30 +1,30 @@
--- For private clauses: how much is live at a node after a row.
+-- For private clauses: how much is retained at a node after a row.
 use Rattle.std.specs.Prelude.{◌≡◌, ℕ, ◌+◌, ◌<◌, ℤ, ⊤, Bool, List, [], ◌∷◌, map, length}
 use Rattle.match_bindings.specs.BindTree.{Single}
 use Rattle.match_pruning.specs.declared.window.Window.{Window}
 use Rattle.match_stream.specs.declared.join.Join.{Join}
 use Rattle.match_stream.specs.declared.join.Join.TheVariants as join
 use Rattle.match_stream.specs.declared.row.Row.{Row}
-use Rattle.match_stream.specs.PieceTree.{PieceTree}
-use Rattle.match_stream.specs.LivePart.{held_count}
+use Rattle.match_stream.specs.PartialMatchTree.{PartialMatchTree}
+use Rattle.match_stream.specs.RetainedPart.{held_count}
 use Rattle.match_stream.specs.inner.Steps.{held_with, joins, kept, State, a_leaf, a_join, a_choice, a_limit, a_chain, step_new, step_state, contents_of}
-use Rattle.match_stream.specs.inner.Wanted.{Ahead, wanted}
+use Rattle.match_stream.specs.inner.Needed.{PendingLeftTrees, needed}
 
 -- what its stores hold
 abbrev pub held_after : Row → List Bool → State → ℕ
 held_after row truths z = held_count (contents_of (step_state row truths z))
 
--- and what is new there and wanted
-abbrev pub live_at : Row → List Bool → List Ahead → State → ℕ
-live_at row truths leads z = held_after row truths z + length (wanted row.last leads (step_new row truths z))
+-- and what is new there and needed
+abbrev pub retained_at : Row → List Bool → List PendingLeftTrees → State → ℕ
+retained_at row truths pending_lefts z = held_after row truths z + length (needed row.last pending_lefts (step_new row truths z))
 
--- the store on the right admits what is new below it, but behind a FOLLOWEDBY
-abbrev pub AdmitsRight : Join → Window → ℤ → List PieceTree → Type 0
+-- the store on the right admits what is new below it, but after left a FOLLOWEDBY
+abbrev pub AdmitsRight : Join → Window → ℤ → List PartialMatchTree → Type 0
 AdmitsRight join.Then window now new = ⊤
 AdmitsRight _ window now new = kept window now new ≡ new
 
 -- each level admits what is new at it
-abbrev pub AdmitLevels : Window → ℤ → List PieceTree → List PieceTree → List (List PieceTree) → Type 0
+abbrev pub AdmitLevels : Window → ℤ → List PartialMatchTree → List PartialMatchTree → List (List PartialMatchTree) → Type 0
 AdmitLevels window now first new [] = ⊤
 AdmitLevels window now first new (held ∷ levels) =
     (kept window now first ≡ first) × AdmitLevels window now (joins join.Repeats (kept window now held) new) new levels
@@ -40,6 +40,6 @@ Admits row truths (a_limit part) = Admits row truths part
 Admits row truths (a_chain part count window levels) =
     Admits row truths part × AdmitLevels window row.last (map (held_with Single) (step_new row truths part)) (step_new row truths part) levels
 
--- more is live at a node than the room that is left
-abbrev pub IsOverAt : Row → List Bool → List Ahead → State → ℕ → Type 0
-IsOverAt row truths leads z room = Admits row truths z → room < live_at row truths leads z
+-- more is retained at a node than the budget that is left
+abbrev pub IsOverAt : Row → List Bool → List PendingLeftTrees → State → ℕ → Type 0
+IsOverAt row truths pending_lefts z budget = Admits row truths z → budget < retained_at row truths pending_lefts z

@@ -1,4 +1,4 @@
--- How the logic stores a tree of a bind: as its nodes in turn, each behind what it is made of.
+-- How the logic stores a tree of a bind: as its nodes in turn, each after left what it is made of.
 use Rattle.std.specs.Prelude.{◌≡◌, ℕ, ◌==◌, cond, List, [], ◌∷◌, refl}
 use Rattle.std.specs.Coded.{Coded, code_by, coded×, coded_ℕ, coded_list}
 use Rattle.std.proofs.Common.{◌∙◌, ap}

@@ -1,4 +1,4 @@
--- What private functions answer. What may follow tokens is a stack of what is wanted, the nearest first.
+-- What private functions answer. What may follow tokens is a stack of what is expected, the nearest first.
 use Rattle.std.specs.Prelude.{Bool, true, false, List, [], ◌∷◌, Option, Some, None, option_and_then, if◌then◌else◌, ◌≡◌, ◌++◌, ◌↔◌, IsTrue, ℕ, length}
 use Rattle.pattern_lexer.specs.declared.token.{Token.Token, TokenKind.TokenKind, TokenKind.TheVariants.RoundOpen, TokenKind.TheVariants.RoundClose}
 use Rattle.pattern_lexer.specs.declared.token.TokenKind.TheVariants as kind
@@ -8,52 +8,52 @@ use Rattle.pattern_grammar.specs.declared.{depth.Counts.Counts, stop.Stop.TheVar
 use Rattle.pattern_grammar.specs.Depth.{how_many, EndsWithIn, FirstTooMany}
 
 -- a line of the grammar whose first token decides how it goes on
-pub data WantedLine : Type 0 where
-  start qualifier test turn check step : WantedLine
+pub data ExpectedLine : Type 0 where
+  start qualifier test turn check step : ExpectedLine
 
 -- a part that may be repeated
 pub data Tail : Type 0 where
   qualifiers ands ors thens cands cors steps commas : Tail
 
-pub data Want : Type 0 where
-  one : TokenClass → Want
-  line : WantedLine → Want
-  tail : Tail → Want
+pub data Expected : Type 0 where
+  one : TokenClass → Expected
+  line : ExpectedLine → Expected
+  tail : Tail → Expected
 
 -- lines that begin in one way
-abbrev pub wants_path : List Want → List Want
-wants_path k = one Root ∷ one (Only kind.Colon) ∷ one Name ∷ tail steps ∷ k
+abbrev pub expects_path : List Expected → List Expected
+expects_path k = one Root ∷ one (Only kind.Colon) ∷ one Name ∷ tail steps ∷ k
 
-abbrev pub wants_cor : List Want → List Want
-wants_cor k = line test ∷ tail cands ∷ tail cors ∷ k
+abbrev pub expects_cor : List Expected → List Expected
+expects_cor k = line test ∷ tail cands ∷ tail cors ∷ k
 
-abbrev pub wants_pattern : List Want → List Want
-wants_pattern k = line start ∷ tail qualifiers ∷ tail ands ∷ tail ors ∷ tail thens ∷ k
+abbrev pub expects_pattern : List Expected → List Expected
+expects_pattern k = line start ∷ tail qualifiers ∷ tail ands ∷ tail ors ∷ tail thens ∷ k
 
 -- the choice that the first token makes
-abbrev pub choose : TokenKind → TokenClass → List Want → Option (List Want) → Option (List Want)
+abbrev pub choose : TokenKind → TokenClass → List Expected → Option (List Expected) → Option (List Expected)
 choose k class s other = if is_in class k then Some s else other
 
--- what is wanted after the first token of a line
-abbrev pub begin_check : TokenKind → List Want → Option (List Want)
+-- what is expected after the first token of a line
+abbrev pub begin_check : TokenKind → List Expected → Option (List Expected)
 begin_check k s =
     choose k Equality (one Constant ∷ s)
     (choose k Order (one Ordered ∷ s)
     (choose k Textual (one (Only kind.String) ∷ s)
     (choose k (Only kind.Among) (one (Only kind.RoundOpen) ∷ one Constant ∷ tail commas ∷ one (Only kind.RoundClose) ∷ s) None)))
 
-abbrev pub begin : WantedLine → TokenKind → List Want → Option (List Want)
+abbrev pub begin : ExpectedLine → TokenKind → List Expected → Option (List Expected)
 begin start k s =
-    choose k (Only kind.RoundOpen) (wants_pattern (one (Only kind.RoundClose) ∷ s))
-    (choose k (Only kind.SquareOpen) (wants_cor (one (Only kind.SquareClose) ∷ s)) None)
+    choose k (Only kind.RoundOpen) (expects_pattern (one (Only kind.RoundClose) ∷ s))
+    (choose k (Only kind.SquareOpen) (expects_cor (one (Only kind.SquareClose) ∷ s)) None)
 begin qualifier k s =
     choose k (Only kind.Within) (one (Only kind.Number) ∷ one (Only kind.Seconds) ∷ s)
     (choose k (Only kind.Repeats) (one (Only kind.Number) ∷ one (Only kind.Times) ∷ s)
     (choose k (Only kind.Start) (one (Only kind.Timestamp) ∷ one (Only kind.Stop) ∷ one (Only kind.Timestamp) ∷ s) None))
 begin test k s =
-    choose k (Only kind.RoundOpen) (wants_cor (one (Only kind.RoundClose) ∷ s))
-    (choose k (Only kind.Exists) (wants_path s)
-    (choose k (Only kind.Not) (one (Only kind.Exists) ∷ wants_path s)
+    choose k (Only kind.RoundOpen) (expects_cor (one (Only kind.RoundClose) ∷ s))
+    (choose k (Only kind.Exists) (expects_path s)
+    (choose k (Only kind.Not) (one (Only kind.Exists) ∷ expects_path s)
     (choose k Root (one (Only kind.Colon) ∷ one Name ∷ tail steps ∷ line turn ∷ s) None)))
 begin turn k s = choose k (Only kind.Not) (line check ∷ s) (begin_check k s)
 begin check k s = begin_check k s
@@ -72,8 +72,8 @@ opening cors = Only kind.Or
 opening steps = Stepping
 opening commas = Only kind.Comma
 
--- what is wanted after the first token of another turn
-abbrev pub again : Tail → TokenKind → List Want → Option (List Want)
+-- what is expected after the first token of another turn
+abbrev pub again : Tail → TokenKind → List Expected → Option (List Expected)
 again qualifiers k s = begin qualifier k s
 again ands k s = Some (line start ∷ tail qualifiers ∷ s)
 again ors k s = Some (line start ∷ tail qualifiers ∷ tail ands ∷ s)
@@ -83,60 +83,60 @@ again cors k s = Some (line test ∷ tail cands ∷ s)
 again steps k s = begin step k s
 again commas k s = Some (one Constant ∷ s)
 
--- what is wanted after one more token
-abbrev pub next : List Want → TokenKind → Option (List Want)
+-- what is expected after one more token
+abbrev pub next : List Expected → TokenKind → Option (List Expected)
 next [] k = None
 next (one class ∷ s) k = if is_in class k then Some s else None
 next (line l ∷ s) k = begin l k s
 next (tail t ∷ s) k = if is_in (opening t) k then again t k (tail t ∷ s) else next s k
 
--- nothing more is wanted
-abbrev pub ended : List Want → Bool
+-- nothing more is expected
+abbrev pub ended : List Expected → Bool
 ended [] = true
 ended (tail t ∷ s) = ended s
 ended _ = false
 
--- what is wanted after the tokens
-abbrev pub reach : Option (List Want) → List Token → Option (List Want)
-reach s [] = s
-reach s (t ∷ ts) = reach (option_and_then (λ w. next w t.kind) s) ts
+-- what is expected after the tokens
+abbrev pub state_after : Option (List Expected) → List Token → Option (List Expected)
+state_after s [] = s
+state_after s (t ∷ ts) = state_after (option_and_then (λ w. next w t.kind) s) ts
 
--- what is wanted after the first of the rest, or after the end
-abbrev pub go : Option (List Want) → List Token → Option (List Want)
+-- what is expected after the first of the rest, or after the end
+abbrev pub go : Option (List Expected) → List Token → Option (List Expected)
 go None rest = None
 go (Some w) [] = if ended w then Some [] else None
 go (Some w) (t ∷ ts) = next w t.kind
 
--- what is wanted before each line, where k is wanted behind it
-abbrev pub wants_step : List Want → List Want
-wants_step k = line step ∷ k
+-- what is expected before each line, where k is expected behind it
+abbrev pub expects_step : List Expected → List Expected
+expects_step k = line step ∷ k
 
-abbrev pub wants_constants : List Want → List Want
-wants_constants k = one Constant ∷ tail commas ∷ k
+abbrev pub expects_constants : List Expected → List Expected
+expects_constants k = one Constant ∷ tail commas ∷ k
 
-abbrev pub wants_check : List Want → List Want
-wants_check k = line check ∷ k
+abbrev pub expects_check : List Expected → List Expected
+expects_check k = line check ∷ k
 
-abbrev pub wants_test : List Want → List Want
-wants_test k = line test ∷ k
+abbrev pub expects_test : List Expected → List Expected
+expects_test k = line test ∷ k
 
-abbrev pub wants_cand : List Want → List Want
-wants_cand k = line test ∷ tail cands ∷ k
+abbrev pub expects_cand : List Expected → List Expected
+expects_cand k = line test ∷ tail cands ∷ k
 
-abbrev pub wants_qualifier : List Want → List Want
-wants_qualifier k = line qualifier ∷ k
+abbrev pub expects_qualifier : List Expected → List Expected
+expects_qualifier k = line qualifier ∷ k
 
-abbrev pub wants_start : List Want → List Want
-wants_start k = line start ∷ k
+abbrev pub expects_start : List Expected → List Expected
+expects_start k = line start ∷ k
 
-abbrev pub wants_unit : List Want → List Want
-wants_unit k = line start ∷ tail qualifiers ∷ k
+abbrev pub expects_unit : List Expected → List Expected
+expects_unit k = line start ∷ tail qualifiers ∷ k
 
-abbrev pub wants_ands : List Want → List Want
-wants_ands k = line start ∷ tail qualifiers ∷ tail ands ∷ k
+abbrev pub expects_ands : List Expected → List Expected
+expects_ands k = line start ∷ tail qualifiers ∷ tail ands ∷ k
 
-abbrev pub wants_ors : List Want → List Want
-wants_ors k = line start ∷ tail qualifiers ∷ tail ands ∷ tail ors ∷ k
+abbrev pub expects_ors : List Expected → List Expected
+expects_ors k = line start ∷ tail qualifiers ∷ tail ands ∷ tail ors ∷ k
 
 -- the first token is of the class, and the rest follows it
 pub record BeginsLine (class : TokenClass) (token : Token) (ts rest : List Token) : Type 0 where
@@ -160,43 +160,43 @@ pub record LacksTestWord (ts : List Token) : Type 0 where
   pub exists : Lacks (Only kind.Exists) ts
   pub not : Lacks (Only kind.Not) ts
 
--- the tokens lead from what is wanted before them to what is wanted after them, where these come next
-pub record Leads (before after : List Want → List Want) (read rest : List Token) : Type 0 where
-  pub go_on : (k : List Want) → go (reach (Some (before k)) read) rest ≡ go (Some (after k)) rest
+-- the tokens lead from what is expected before them to what is expected after them, where these come next
+pub record Leads (before after : List Expected → List Expected) (read rest : List Token) : Type 0 where
+  pub proceed : (k : List Expected) → go (state_after (Some (before k)) read) rest ≡ go (Some (after k)) rest
 
 -- the tokens lead to where the first of these, or the end, may not stand
-pub record Halts (before : List Want → List Want) (read rest : List Token) : Type 0 where
-  pub stop : (k : List Want) → go (reach (Some (before k)) read) rest ≡ None
+pub record Halts (before : List Expected → List Expected) (read rest : List Token) : Type 0 where
+  pub stop : (k : List Expected) → go (state_after (Some (before k)) read) rest ≡ None
 
--- nothing else is wanted
-abbrev pub done : List Want → List Want
+-- nothing else is expected
+abbrev pub done : List Expected → List Expected
 done k = k
 
 -- another turn of the repeated part may follow
-abbrev pub open_for : Tail → List Want → List Want
+abbrev pub open_for : Tail → List Expected → List Expected
 open_for t k = tail t ∷ k
 
 -- the tokens begin a line: some longer list, or they themselves, is one
-pub record Front {V : Type 0} (Spells : List Token → V → Type 0) (ts : List Token) : Type 0 where
+pub record Prefix {V : Type 0} (Spells : List Token → V → Type 0) (ts : List Token) : Type 0 where
   pub more : List Token
   pub value : V
   pub spells : Spells (ts ++ more) value
 
--- a line was read from the front, and can't be longer
-pub record Found {V : Type 0} (Spells : List Token → V → Type 0) (before after : List Want → List Want) (ts : List Token) (value : V) (rest : List Token) : Type 0 where
+-- a line was read from the prefix, and can't be longer
+pub record Found {V : Type 0} (Spells : List Token → V → Type 0) (before after : List Expected → List Expected) (ts : List Token) (value : V) (rest : List Token) : Type 0 where
   pub read : List Token
   pub all_are : ts ≡ read ++ rest
   pub spells : Spells read value
   pub leads : Leads before after read rest
 
 -- a line was read up to the rest, whose first doesn't fit
-pub record Stuck {V : Type 0} (Spells : List Token → V → Type 0) (before : List Want → List Want) (ts rest : List Token) : Type 0 where
+pub record Stuck {V : Type 0} (Spells : List Token → V → Type 0) (before : List Expected → List Expected) (ts rest : List Token) : Type 0 where
   pub read : List Token
   pub all_are : ts ≡ read ++ rest
-  pub front : Front Spells read
+  pub prefix : Prefix Spells read
   pub halts : Halts before read rest
 
-abbrev pub Refused : {V : Type 0} → (List Token → V → Type 0) → (List Want → List Want) → List Token → Stop → Type 0
+abbrev pub Refused : {V : Type 0} → (List Token → V → Type 0) → (List Expected → List Expected) → List Token → Stop → Type 0
 Refused Spells before ts Memory = Unit {0}
 Refused Spells before ts (Syntax rest) = Stuck Spells before ts rest.now
 
@@ -205,7 +205,7 @@ pub record CountsOf (ts : List Token) (counts : Counts) : Type 0 where
   pub opened : counts.opened ≡ how_many (Only RoundOpen) ts
   pub closed : counts.closed ≡ how_many (Only RoundClose) ts
   pub qualifiers : counts.qualifiers ≡ how_many Qualifying ts
-  pub behind_in : IsTrue counts.behind_in ↔ EndsWithIn ts
+  pub after_in : IsTrue counts.after_in ↔ EndsWithIn ts
 
 -- so many tokens stand before the first that is one too many
 abbrev pub IsFirstAt : List Token → ℕ → Type 0

@@ -32,7 +32,7 @@ abbrev pub IsNumberStart : ℕ → Type 0
 IsNumberStart c = IsAsciiDigit c ⊎ (c ≡ 43) ⊎ (c ≡ 45)
 
 -- no letter, digit, sign or quote begins the text
-pub record StartsAsMark (whole : List ℕ) : Type 0 where
+pub record StartsAsPunctuation (whole : List ℕ) : Type 0 where
   pub letter : ¬ HasAt 0 IsWordStart whole
   pub number : ¬ HasAt 0 IsNumberStart whole
   pub quote : ¬ HasAt 0 (λ c. c ≡ 39) whole
@@ -68,15 +68,15 @@ abbrev pub letter_kind : ℕ → Option TokenKind
 letter_kind c = if c == 104 then Some Hex else if c == 98 then Some Binary else if c == 116 then Some Timestamp else None
 
 -- no text in quotes behind a letter that may stand there begins the text
-abbrev pub HasNoLettered : List ℕ → Type 0
-HasNoLettered whole = (letter : ℕ) (inside more : List ℕ) → IsSome (letter_kind letter) → All (λ c. c ≢ 39) inside
+abbrev pub HasNoPrefixed : List ℕ → Type 0
+HasNoPrefixed whole = (letter : ℕ) (inside more : List ℕ) → IsSome (letter_kind letter) → All (λ c. c ≢ 39) inside
     → whole ≢ letter ∷ 39 ∷ (inside ++ 39 ∷ more)
 
 -- the refusal of a token that stands for nothing
-abbrev pub worthless_refusal : TokenKind → ℕ → TokenRefusal
-worthless_refusal Number at = BadNumber at
-worthless_refusal Timestamp at = BadTime at
-worthless_refusal _ at = BadBytes at
+abbrev pub invalid_value_refusal : TokenKind → ℕ → TokenRefusal
+invalid_value_refusal Number at = BadNumber at
+invalid_value_refusal Timestamp at = BadTime at
+invalid_value_refusal _ at = BadBytes at
 
 -- blanks stand from the first place to the second, and none behind
 pub record ArePassed (text : List ℕ) (from to : ℕ) : Type 0 where
@@ -85,11 +85,11 @@ pub record ArePassed (text : List ℕ) (from to : ℕ) : Type 0 where
   pub blank : All IsBlank (slice_range text from to)
   pub ends : ¬ HasAt 0 IsBlank (drop to text)
 
--- the kind of the mark that is this byte
+-- the kind of the punctuation that is this byte
 abbrev pub single_kind : ℕ → Option TokenKind
 single_kind c =
     if c == 91 then Some SquareOpen else if c == 93 then Some SquareClose else if c == 40 then Some RoundOpen else if c == 41 then Some RoundClose else if c == 46 then Some Dot else if c == 58 then Some Colon else if c == 44 then Some Comma else if c == 42 then Some Star else if c == 61 then Some Equal else if c == 60 then Some Less else if c == 62 then Some Greater else None
 
--- the kind of the mark that is this byte and `=`
+-- the kind of the punctuation that is this byte and `=`
 abbrev pub double_kind : ℕ → Option TokenKind
 double_kind c = if c == 33 then Some Differ else if c == 60 then Some LessEqual else if c == 62 then Some GreaterEqual else None

@@ -5,7 +5,7 @@ use Rattle.pattern_types.specs.PlainPattern.{PlainPattern, plain_pattern, a_both
 use Rattle.pattern_types.specs.declared.limit.TheConstants.{MAX_WIDTH, MAX_BRACKETS}
 use Rattle.pattern_types.specs.Width.{width, brackets, IsTooWide}
 use Rattle.pattern_reader.specs.declared.{narrow_pattern.NarrowPattern.NarrowPattern, value_refusal.ValueRefusal.ValueRefusal}
-use Rattle.pattern_reader.specs.{Refusals.RefusalOf, Answer.IsMeant, Answer.IsWidelyMeant, inner.Judgement.IsOutcome}
+use Rattle.pattern_reader.specs.{Refusals.RefusalOf, Answer.IsMeant, Answer.IsWidelyMeant, inner.Analysis.IsOutcome}
 use Rattle.pattern_reader.specs.declared.narrow_pattern.Operator.{Operator, TheVariants.Both, TheVariants.Either, TheVariants.Then}
 
 -- the pattern has this width and so many pairs of brackets, and is not too wide

@@ -1,7 +1,7 @@
 -- For private clauses: the first failure that the code finds, as FailsAt tells it.
 use Rattle.std.specs.Prelude.{ℕ, List, [], ◌∷◌, codes}
 use Rattle.serde_json.specs.Data.{Data}
-use Rattle.stix_json.specs.Walk.{place_part}
+use Rattle.stix_json.specs.Walk.{index_part}
 use Rattle.stix_bundles.specs.declared.outline.Failure.{Failure}
 use Rattle.stix_bundles.specs.declared.outline.Failure.TheVariants.{NoObject, NoType, NoId, NoList, NoMember}
 use Rattle.stix_bundles.specs.Bundle.{IsListOf, IsFirstNoObject}
@@ -12,7 +12,7 @@ failed_parts NoObject = []
 failed_parts NoType = codes "type" ∷ []
 failed_parts NoId = codes "id" ∷ []
 failed_parts NoList = codes "objects" ∷ []
-failed_parts (NoMember at) = codes "objects" ∷ place_part at ∷ []
+failed_parts (NoMember at) = codes "objects" ∷ index_part at ∷ []
 
 -- what fails in the value of `objects`
 abbrev pub FailsInObjects : Data → Failure → Type 0

@@ -6,7 +6,7 @@ use Rattle.serde_json.specs.Data.{Data}
 use Rattle.stix_ids.specs.declared.id.Id.{Id}
 use Rattle.stix_json.specs.Ordered.{IsOrdered}
 use Rattle.stix_bundles.specs.declared.index.Index.{Index}
-use Rattle.stix_bundles.specs.declared.index.Index.TheVariants.{Few, Many}
+use Rattle.stix_bundles.specs.declared.index.Index.TheVariants.{Unindexed, Many}
 use Rattle.stix_bundles.specs.declared.positions.Positions.{Positions}
 use Rattle.stix_bundles.specs.declared.outline.TheConstants.{MAX_OBJECTS}
 use Rattle.stix_bundles.specs.Bundle.{AreAllBreaks}
@@ -25,9 +25,9 @@ abbrev pub Puts : Positions → Positions → Id → ℕ → Type 0
 Puts before after id at = (other : Id) → position_of after other ≡ (if same_id id other then Some at else position_of before other)
 
 -- an object stands at the place that was modified later than that time
-abbrev pub Overtakes : List Data → Option ℕ → Option ℤ → Type 0
-Overtakes objects None time = ⊥
-Overtakes objects (Some at) time = (d : Data) × (modified : Option ℤ) × (slice_get objects at ≡ Some d)
+abbrev pub Supersedes : List Data → Option ℕ → Option ℤ → Type 0
+Supersedes objects None time = ⊥
+Supersedes objects (Some at) time = (d : Data) × (modified : Option ℤ) × (slice_get objects at ≡ Some d)
     × IsModified d modified × IsEarlier time modified
 
 -- what a look-up has to give for an identifier: the place of the latest version, and none where there is none
@@ -41,7 +41,7 @@ ArePositionsOf objects positions = (id : Id) → IsPositionOf objects id (positi
 
 -- what an index has to hold: nothing where the objects are few, else the positions of their latest versions
 abbrev pub IsIndexOf : List Data → Index → Type 0
-IsIndexOf objects Few = ⊤
+IsIndexOf objects Unindexed = ⊤
 IsIndexOf objects (Many positions) = ArePositionsOf objects positions
 
 -- what is true of the objects of each bundle and its index

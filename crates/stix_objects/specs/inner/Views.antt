@@ -1,6 +1,6 @@
 -- For private clauses: the code's tables as the definitions' tables, and what the code finds as what is found.
 use Rattle.std.specs.Prelude.{ℕ, List, [], ◌∷◌, ◌++◌, Bool, true, false, map, option_map, option_to_list}
-use Rattle.stix_json.specs.Walk.{place_part}
+use Rattle.stix_json.specs.Walk.{index_part}
 use Rattle.stix_objects.specs.declared.form.Single.{Single as SingleIn}
 use Rattle.stix_objects.specs.declared.form.Part.{Part as PartIn}
 use Rattle.stix_objects.specs.declared.form.Form.{Form as FormIn}
@@ -11,12 +11,12 @@ use Rattle.stix_objects.specs.declared.row.Condition.{Condition as ConditionIn}
 use Rattle.stix_objects.specs.declared.row.Row.{Row as RowIn}
 use Rattle.stix_objects.specs.declared.row.CommonRow.{CommonRow as CommonRowIn}
 use Rattle.stix_objects.specs.declared.object_type.ObjectType.{ObjectType as ObjectTypeIn}
-use Rattle.stix_objects.specs.declared.row_break.Place.{Place}
-use Rattle.stix_objects.specs.declared.row_break.Place.TheVariants.{Here, Item, ItemPart}
+use Rattle.stix_objects.specs.declared.row_break.ValueLocation.{ValueLocation}
+use Rattle.stix_objects.specs.declared.row_break.ValueLocation.TheVariants.{Here, Item, ItemPart}
 use Rattle.stix_objects.specs.declared.row_break.ItemBreak.{ItemBreak}
 use Rattle.stix_objects.specs.declared.row_break.ValueBreak.{ValueBreak}
-use Rattle.stix_objects.specs.declared.row_break.Site.{Site}
-use Rattle.stix_objects.specs.declared.row_break.Site.TheVariants.{Whole, Property, Within}
+use Rattle.stix_objects.specs.declared.row_break.ObjectLocation.{ObjectLocation}
+use Rattle.stix_objects.specs.declared.row_break.ObjectLocation.TheVariants.{Whole, Property, Within}
 use Rattle.stix_objects.specs.declared.row_break.RowBreak.{RowBreak}
 use Rattle.stix_objects.specs.BreakAt.{BreakAt}
 use Rattle.stix_objects.specs.Form.{Single, any_text, kind, version, one_of, timestamp, any_reference, reference, any_boolean, integer_in, object, texts_by_name, Part, must, may, some_of, Form, one, list, records}
@@ -70,14 +70,14 @@ row_view RowIn.Colour = colour
 row_view RowIn.ColourId = colour_id
 
 -- the group, where it is one of them
-abbrev pub where_so : Bool → Group → List Group
-where_so true group = group ∷ []
-where_so false group = []
+abbrev pub only_if : Bool → Group → List Group
+only_if true group = group ∷ []
+only_if false group = []
 
 -- some of the groups
 abbrev pub groups_view : GroupsIn → List Group
 groups_view groups =
-    where_so groups.domain Domain ++ (where_so groups.marking Marking ++ (where_so groups.observable Observable ++ where_so groups.other Other))
+    only_if groups.domain Domain ++ (only_if groups.marking Marking ++ (only_if groups.observable Observable ++ only_if groups.other Other))
 
 -- a row of several types
 abbrev pub common_view : CommonRowIn → CommonRow
@@ -93,21 +93,21 @@ abbrev pub item_break_view : ItemBreak → BreakAt
 item_break_view item_break = record { rule = item_break.rule; parts = option_to_list (option_map (λ name. name.now) item_break.part) }
 
 -- the parts of the path from a value to a place in it
-abbrev pub place_parts : Place → List (List ℕ)
-place_parts Here = []
-place_parts (Item at) = place_part at ∷ []
-place_parts (ItemPart at name) = place_part at ∷ name.now ∷ []
+abbrev pub value_location_parts : ValueLocation → List (List ℕ)
+value_location_parts Here = []
+value_location_parts (Item at) = index_part at ∷ []
+value_location_parts (ItemPart at name) = index_part at ∷ name.now ∷ []
 
 -- what is found in the value of a property
 abbrev pub value_break_view : ValueBreak → BreakAt
-value_break_view value_break = record { rule = value_break.rule; parts = place_parts value_break.place }
+value_break_view value_break = record { rule = value_break.rule; parts = value_location_parts value_break.location }
 
 -- the parts of the path from an object to a place in it
-abbrev pub site_parts : Site → List (List ℕ)
-site_parts Whole = []
-site_parts (Property name place) = name.now ∷ place_parts place
-site_parts (Within outer inner) = outer.now ∷ inner.now ∷ []
+abbrev pub object_location_parts : ObjectLocation → List (List ℕ)
+object_location_parts Whole = []
+object_location_parts (Property name location) = name.now ∷ value_location_parts location
+object_location_parts (Within outer inner) = outer.now ∷ inner.now ∷ []
 
 -- what is found in an object
 abbrev pub row_break_view : RowBreak → BreakAt
-row_break_view row_break = record { rule = row_break.rule; parts = site_parts row_break.site }
+row_break_view row_break = record { rule = row_break.rule; parts = object_location_parts row_break.object_location }

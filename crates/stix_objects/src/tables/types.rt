@@ -9,7 +9,7 @@ use crate::Group;
 use crate::object_type::ObjectType;
 use crate::tables::{domain, observable};
 
-/// All types, in tables that follow one another. They are short, since what a constant costs its proof rises faster than its length.
+/// All types, in tables that follow one another. They are short, since what a constant costs its proof ascends faster than its length.
 pub(crate) fn type_tables() -> [&'static [ObjectType]; 9]
     ensures { flat_map (λ types. map type_view types.now) result ≡ domain_types ++ observable_types }
 {

@@ -4,13 +4,13 @@ use Rattle.serde_json.specs.Data.{Data}
 use Rattle.stix_versions.specs.declared.version_break.VersionBreak.{VersionBreak}
 use Rattle.stix_versions.specs.declared.versions.History.{History}
 use Rattle.stix_versions.specs.inner.FirstVersions.{AreCreatedBefore}
-use Rattle.stix_versions.specs.inner.Twins.{AreTwinsBefore}
+use Rattle.stix_versions.specs.inner.Duplicates.{AreDuplicatesBefore}
 
 -- what is kept of the versions before the place
 pub record AreVersionsBefore (objects : List Data) (end : ℕ) (seen : History) : Type 0 where
   pub created : AreCreatedBefore objects end seen.created
-  pub twins : AreTwinsBefore objects end seen.twins
+  pub duplicates : AreDuplicatesBefore objects end seen.duplicates
 
 -- the break where the test says so
-abbrev pub where_so : Bool → VersionBreak → List VersionBreak
-where_so broken break = if broken then break ∷ [] else []
+abbrev pub only_if : Bool → VersionBreak → List VersionBreak
+only_if broken break = if broken then break ∷ [] else []

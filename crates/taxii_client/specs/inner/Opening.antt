@@ -21,5 +21,5 @@ stop_of Page.NoMemory = Some Stop.NoMemory
 pub record Opens (name : List ℕ) (kept now : Kept) (mirror : MirrorState) : Type 0 where
   pub agrees : Agrees now mirror.store
   pub sound : IsSoundState mirror.store
-  pub told : now.told ≡ kept.told
-  pub named : IfSome kept.told (λ _. now.name ≡ Some name)
+  pub observable : now.observable ≡ kept.observable
+  pub named : IfSome kept.observable (λ _. now.name ≡ Some name)

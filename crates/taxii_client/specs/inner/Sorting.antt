@@ -1,19 +1,19 @@
--- The entries of a page, sorted one after the other.
+-- The entries of a page, partitioned one after the other.
 use Rattle.std.specs.Prelude.{◌≡◌, ◌⊎◌, ◌+◌, List, [], ◌∷◌, ◌++◌, length}
 use Rattle.stix_json.specs.declared.entry.Entry.{Entry}
 use Rattle.taxii_rows.specs.declared.described.Described.{Described}
 use Rattle.taxii_store.specs.Planned.{IsSound}
 use Rattle.taxii_client.specs.Absorbing.{IsKept, IsSkipped, Splits}
-use Rattle.taxii_client.specs.declared.sorted.Sorted.{Sorted}
+use Rattle.taxii_client.specs.declared.partitioned.Partitioned.{Partitioned}
 
 -- what some entries hold: an object is kept of each, or it is skipped and counted
-pub record Sorts (entries : List Entry) (sorted : Sorted) : Type 0 where
+pub record Partitions (entries : List Entry) (partitioned : Partitioned) : Type 0 where
   pub skipped : List Entry
-  pub splits : Splits entries sorted.objects.items skipped
-  pub count : sorted.skipped ≡ length skipped
+  pub splits : Splits entries partitioned.objects.items skipped
+  pub count : partitioned.skipped ≡ length skipped
 
 -- one more object
-pub record Keeps (entry : Entry) (old new : Sorted) : Type 0 where
+pub record Keeps (entry : Entry) (old new : Partitioned) : Type 0 where
   pub object : Described
   pub kept : IsKept entry object
   pub sound : IsSound object
@@ -21,11 +21,11 @@ pub record Keeps (entry : Entry) (old new : Sorted) : Type 0 where
   pub count : new.skipped ≡ old.skipped
 
 -- one more entry that is skipped
-pub record Skips (entry : Entry) (old new : Sorted) : Type 0 where
+pub record Skips (entry : Entry) (old new : Partitioned) : Type 0 where
   pub fails : IsSkipped entry
   pub objects : new.objects.items ≡ old.objects.items
   pub count : new.skipped ≡ old.skipped + 1
 
 -- one more entry
-abbrev pub SortsOne : Entry → Sorted → Sorted → Type 0
-SortsOne entry old new = Keeps entry old new ⊎ Skips entry old new
+abbrev pub PartitionsOne : Entry → Partitioned → Partitioned → Type 0
+PartitionsOne entry old new = Keeps entry old new ⊎ Skips entry old new

@@ -11,13 +11,13 @@ use Rattle.taxii_routes.specs.Query.{text_of, asked}
 
 -- the query that asks for this by the parameter, and for the rest as before
 abbrev pub put : (param : Param) → Option (Meaning param) → Query → Query
-put AddedAfter wanted query = record query { added_after = wanted }
-put Limit wanted query = record query { limit = wanted }
-put Next wanted query = record query { next = wanted }
-put MatchId wanted query = record query { ids = wanted }
-put MatchType wanted query = record query { kinds = wanted }
-put MatchVersion wanted query = record query { picks = wanted }
-put MatchSpec wanted query = record query { specs = wanted }
+put AddedAfter slot query = record query { added_after = slot }
+put Limit slot query = record query { limit = slot }
+put Next slot query = record query { next = slot }
+put MatchId slot query = record query { ids = slot }
+put MatchType slot query = record query { kinds = slot }
+put MatchVersion slot query = record query { picks = slot }
+put MatchSpec slot query = record query { specs = slot }
 
 -- a parameter for which the query asked nothing is set to what the value means
 pub record Adds (param : Param) (value : List ℕ) (old new : Query) : Type 0 where

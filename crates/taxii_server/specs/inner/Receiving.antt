@@ -1,32 +1,32 @@
 -- What is received from a link: the next request, or why there is none yet.
 use Rattle.std.specs.Prelude.{◌≡◌, ◌⊎◌, ◌<◌, ◌≤◌, ⊤, ℕ, List, [], ◌++◌, length, Option, Some, IfSome, Result, MatchResult}
-use Rattle.flow_edges.specs.Faults.{Rose}
+use Rattle.flow_edges.specs.Faults.{HasIncreased}
 use Rattle.flow_edges.specs.Flow.{IsAtEnd}
 use Rattle.http_messages.specs.declared.frame.Frame.TheVariants.{More, Request as Given, Refused as Bad}
 use Rattle.http_messages.specs.declared.request.Request.{Request}
 use Rattle.http_messages.specs.Frames.{IsFirstFrame}
 use Rattle.taxii_server.specs.declared.connection.TheConstants.{MAX_BODY}
-use Rattle.taxii_server.specs.declared.pause.Pause.{Pause}
-use Rattle.taxii_server.specs.declared.pause.Pause.TheVariants.{AtEnd, Refused, NoMemory, Failed}
+use Rattle.taxii_server.specs.declared.receive_end.ReceiveEnd.{ReceiveEnd}
+use Rattle.taxii_server.specs.declared.receive_end.ReceiveEnd.TheVariants.{AtEnd, Refused, NoMemory, Failed}
 use Rattle.taxii_server.specs.Connections.{HadCome}
-use Rattle.taxii_server.specs.Outside.{Takes}
+use Rattle.taxii_server.specs.Environment.{Takes}
 
 -- why these bytes give no request, and no more of them are there
-abbrev pub PausesAt : List ℕ → Option (List ℕ) → ℕ → ℕ → Pause → Type 0
-PausesAt bytes left faults now AtEnd = IsFirstFrame MAX_BODY bytes More bytes × IsAtEnd left
-PausesAt bytes left faults now (Refused refusal) = IsFirstFrame MAX_BODY bytes (Bad refusal) bytes
-PausesAt bytes left faults now NoMemory = ⊤
-PausesAt bytes left faults now Failed = IsFirstFrame MAX_BODY bytes More bytes × Rose faults now
+abbrev pub StopsReceivingAt : List ℕ → Option (List ℕ) → ℕ → ℕ → ReceiveEnd → Type 0
+StopsReceivingAt bytes left faults now AtEnd = IsFirstFrame MAX_BODY bytes More bytes × IsAtEnd left
+StopsReceivingAt bytes left faults now (Refused refusal) = IsFirstFrame MAX_BODY bytes (Bad refusal) bytes
+StopsReceivingAt bytes left faults now NoMemory = ⊤
+StopsReceivingAt bytes left faults now Failed = IsFirstFrame MAX_BODY bytes More bytes × HasIncreased faults now
 
 -- why no more bytes were taken, or why those that were aren't kept
-abbrev pub Lacks : List ℕ → Option (List ℕ) → ℕ → ℕ → Pause → Type 0
+abbrev pub Lacks : List ℕ → Option (List ℕ) → ℕ → ℕ → ReceiveEnd → Type 0
 Lacks taken left faults now AtEnd = (taken ≡ []) × IsAtEnd left
 Lacks taken left faults now (Refused refusal) = ⊥
 Lacks taken left faults now NoMemory = ⊤
-Lacks taken left faults now Failed = (taken ≡ []) × Rose faults now
+Lacks taken left faults now Failed = (taken ≡ []) × HasIncreased faults now
 
--- some bytes were taken and follow those that were there before, or there is a pause
-pub record TakesMore {T : Type 0} (before after : List ℕ) (left left_now : Option (List ℕ)) (faults faults_now : ℕ) (result : Result T Pause) : Type 0 where
+-- some bytes were taken and follow those that were there before, or there is a receive end
+pub record TakesMore {T : Type 0} (before after : List ℕ) (left left_now : Option (List ℕ)) (faults faults_now : ℕ) (result : Result T ReceiveEnd) : Type 0 where
   pub taken : List ℕ
   pub takes : Takes taken left left_now
   pub gives : MatchResult result (λ _. (after ≡ before ++ taken) × (0 < length taken)) (Lacks taken left_now faults faults_now)
@@ -41,10 +41,10 @@ pub record WantedMore (before : List ℕ) (left : Option (List ℕ)) (bytes : Li
 abbrev pub IsInTime : Option (List ℕ) → Option (List ℕ) → Option (List ℕ) → ℕ → Type 0
 IsInTime first left began requests = (left ≡ first) ⊎ IfSome began (λ bytes. (came : ℕ) × (came ≤ requests) × HadCome came first bytes)
 
--- some bytes were taken, and with those that were there before they give a request, or a pause
-pub record Receives (before after : List ℕ) (left left_now : Option (List ℕ)) (faults faults_now : ℕ) (result : Result Request Pause) : Type 0 where
+-- some bytes were taken, and with those that were there before they give a request, or a receive end
+pub record Receives (before after : List ℕ) (left left_now : Option (List ℕ)) (faults faults_now : ℕ) (result : Result Request ReceiveEnd) : Type 0 where
   pub taken : List ℕ
   pub takes : Takes taken left left_now
   pub gives : MatchResult result
       (λ request. IsFirstFrame MAX_BODY (before ++ taken) (Given request) after)
-      (PausesAt (before ++ taken) left_now faults faults_now)
+      (StopsReceivingAt (before ++ taken) left_now faults faults_now)

@@ -7,7 +7,7 @@ use Rattle.taxii_store.specs.Picks.{HasPicks}
 use Rattle.taxii_store.specs.Meeting.{picks_of}
 use Rattle.taxii_store.specs.declared.text_set.TextSet.{TextSet}
 use Rattle.taxii_store.specs.declared.id_set.IdSet.{IdSet}
-use Rattle.taxii_store.specs.declared.asked.Asked.{Asked}
+use Rattle.taxii_store.specs.declared.asked.RowFilter.{RowFilter}
 use Rattle.taxii_store.specs.inner.Sets.{HasTexts, HasIds}
 
 -- the set is of these texts, and what it missed is none of them
@@ -30,7 +30,7 @@ HasIdsWhere (Some ids) None = ⊥
 HasIdsWhere (Some ids) (Some set) = HasIds ids set.ids.items
 
 -- what the query asks of the collection and of the one object, where there is one
-pub record Asks (collection : ℕ) (only : Option Id) (query : Query) (asked : Asked) : Type 0 where
+pub record Asks (collection : ℕ) (only : Option Id) (query : Query) (asked : RowFilter) : Type 0 where
   pub collection_is : asked.collection ≡ collection
   pub only_is : option_map (λ id. id.now) asked.only ≡ only
   pub kinds_are : HasTextsWhere query.kinds asked.kinds

@@ -3,18 +3,18 @@ use Rattle.std.specs.Prelude.{◌≡◌, ℕ, ◌*◌, ◌≤◌, ◌<◌, pos, 
 use Rattle.std.specs.List.{Contains}
 use Rattle.stix_ids.specs.declared.id.Id.{Id}
 use Rattle.taxii_rows.specs.declared.stored_row.StoredRow.{StoredRow}
-use Rattle.taxii_rows.specs.StoreState.{dates_of, RiseFrom}
+use Rattle.taxii_rows.specs.StoreState.{dates_of, AscendFrom}
 use Rattle.taxii_routes.specs.declared.query.Query.{Query}
 use Rattle.taxii_store.specs.Meeting.{Meets}
 
 -- a row of that date was added behind the instant that the query names, and behind where it begins
-pub record IsBehind (query : Query) (date : ℕ) : Type 0 where
+pub record IsAfter (query : Query) (date : ℕ) : Type 0 where
   pub added : IfSome query.added_after (λ instant. instant <ℤ pos (1000 * date))
   pub next : IfSome query.next (λ after. after < date)
 
 -- the row can meet the query: it was added behind both, and the query takes version 2.1 of the standard, which is that of all rows
 pub record CanMeet (query : Query) (row : StoredRow) : Type 0 where
-  pub behind : IsBehind query row.date
+  pub behind : IsAfter query row.date
   pub specs : IfSome query.specs (λ specs. Contains specs (codes "2.1"))
 
 -- behind some rows that can't meet the query stand these, which can
@@ -33,6 +33,6 @@ pub record IsCutAt (date : ℕ) (rows later : List StoredRow) : Type 0 where
 
 -- these are rows of a store, by date, and each that meets the query is among them
 pub record AreChosen (rows : List StoredRow) (collection : ℕ) (only : Option Id) (query : Query) (chosen : List StoredRow) : Type 0 where
-  pub rise : RiseFrom 1 (dates_of chosen)
+  pub ascend : AscendFrom 1 (dates_of chosen)
   pub own : (row : StoredRow) → Contains chosen row → Contains rows row
   pub every : (row : StoredRow) → Contains rows row → Meets rows collection only query row → Contains chosen row

@@ -3,15 +3,15 @@ use Rattle.std.specs.Prelude.{◌≤◌, ◌<◌, ℕ, List, All, MatchOption}
 use Rattle.taxii_rows.specs.declared.stored_row.StoredRow.{StoredRow}
 use Rattle.taxii_rows.specs.declared.stored_row.TheConstants.{LAST_DATE}
 use Rattle.taxii_rows.specs.Keeper.{row_after}
-use Rattle.taxii_rows.specs.StoreState.{StoreState, dates_of, RiseFrom}
+use Rattle.taxii_rows.specs.StoreState.{StoreState, dates_of, AscendFrom}
 use Rattle.taxii_store.specs.Loading.{IsFit}
 
--- rows that a store with that mark may have
-pub record AreFit (mark : ℕ) (rows : List StoredRow) : Type 0 where
-  pub rise : RiseFrom 1 (dates_of rows)
-  pub fit : All (IsFit mark) rows
-  pub last : mark ≤ LAST_DATE
+-- rows that a store with that watermark may have
+pub record AreFit (watermark : ℕ) (rows : List StoredRow) : Type 0 where
+  pub ascend : AscendFrom 1 (dates_of rows)
+  pub fit : All (IsFit watermark) rows
+  pub last : watermark ≤ LAST_DATE
 
--- the row behind the date isn't fit, or there is none and the mark is no date
+-- the row behind the date isn't fit, or there is none and the watermark is no date
 abbrev pub IsBadNext : StoreState → ℕ → Type 0
-IsBadNext state after = MatchOption (row_after after state.rows) (LAST_DATE < state.mark) (λ row. ¬ IsFit state.mark row)
+IsBadNext state after = MatchOption (row_after after state.rows) (LAST_DATE < state.watermark) (λ row. ¬ IsFit state.watermark row)

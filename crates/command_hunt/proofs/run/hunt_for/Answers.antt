@@ -24,7 +24,7 @@ returns-in-Err-see-clause-end g c before far begun skipped =
     let now = g.O.Sink.written c.see.new.output in
     subst (AnswersHunt task None before (streams left began now)) (sym c.from-in-Err-see.ensures)
     (first-ends c.answers_are_the_hits.ensures task before first.objects skipped.hunt skipped.hunt_is (g.O.Sink.written c.args.output.now) skipped.written_is
-    c.in-Ok.hunter c.in-Ok.ensures.hunts (c.in-Ok.ensures.hunted ∙ skipped.hunted_is) (c.in-Ok.ensures.cap ∙ c.from.ensures) first refl left began now begun
+    c.in-Ok.hunter c.in-Ok.ensures.hunts (c.in-Ok.ensures.hunted ∙ skipped.hunted_is) (c.in-Ok.ensures.retained_limit ∙ c.from.ensures) first refl left began now begun
     c.in-Err-see.end c.in-Err-see.ensures.end)
 
 pub report-requires : goal.report-requires
@@ -42,13 +42,13 @@ returns-in-Done-clause-end g c before far begun skipped =
     let after = streams (g.I.Source.left c.follow.new.input) (g.I.Source.began c.follow.new.input) (g.O.Sink.written c.follow.new.output) in
     let whole = c.in-Done.ensures.end before.left (first ∷ []) far in
     let hunted = c.in-Ok.ensures.hunted ∙ skipped.hunted_is in
-    let cap = c.in-Ok.ensures.cap ∙ c.from.ensures in
+    let retained_limit = c.in-Ok.ensures.retained_limit ∙ c.from.ensures in
     let behind = c.follow.new.watcher in
     let one = c.in_default.ensures.sees in
     let takes = takes-first c.in-Ok.hunter c.see.new.self first one.0 one.1 in
-    let seen = seen-behind c.answers_are_the_hits.ensures task before first.objects skipped.hunt skipped.hunt_is written skipped.written_is c.in-Ok.hunter c.in-Ok.ensures.hunts hunted cap
+    let seen = seen-behind c.answers_are_the_hits.ensures task before first.objects skipped.hunt skipped.hunt_is written skipped.written_is c.in-Ok.hunter c.in-Ok.ensures.hunts hunted retained_limit
     None (first ∷ []) (λ more. refl) c.see.new.self one.0 written_next takes one.2 whole.bundles behind after.written whole.says in
-    report-ends c.answers_are_the_hits.ensures task before first.objects skipped.hunt skipped.hunt_is written skipped.written_is c.in-Ok.hunter c.in-Ok.ensures.hunts hunted cap
+    report-ends c.answers_are_the_hits.ensures task before first.objects skipped.hunt skipped.hunt_is written skipped.written_is c.in-Ok.hunter c.in-Ok.ensures.hunts hunted retained_limit
     None (first ∷ []) (λ more. refl) c.see.new.self one.0 written_next takes one.2 behind after whole (g.O.Sink.written c.report.new.output) c.report.result
     (c.report.ensures.end (rows_of (first ∷ whole.bundles)) seen.so.hunts.hits seen.hunts)
 
@@ -59,7 +59,7 @@ returns g c = record {
       let one = c.in_default.ensures.sees in
       let after = streams (g.I.Source.left c.follow.new.input) (g.I.Source.began c.follow.new.input) (g.O.Sink.written c.follow.new.output) in
       later-ends c.answers_are_the_hits.ensures (task_of c.args.request.now) before first.objects skipped.hunt skipped.hunt_is (g.O.Sink.written c.args.output.now) skipped.written_is
-      c.in-Ok.hunter c.in-Ok.ensures.hunts (c.in-Ok.ensures.hunted ∙ skipped.hunted_is) (c.in-Ok.ensures.cap ∙ c.from.ensures)
+      c.in-Ok.hunter c.in-Ok.ensures.hunts (c.in-Ok.ensures.hunted ∙ skipped.hunted_is) (c.in-Ok.ensures.retained_limit ∙ c.from.ensures)
       None (first ∷ []) (λ more. refl) c.see.new.self one.0 (g.O.Sink.written c.see.new.output) (takes-first c.in-Ok.hunter c.see.new.self first one.0 one.1) one.2
       c.follow.new.watcher after c.follow.result c.in_default-follow.not-Done
       (c.follow.ensures.end before.left (first ∷ []) far);

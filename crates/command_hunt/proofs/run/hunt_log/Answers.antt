@@ -49,11 +49,11 @@ returns-in-Done-clause-end g c before feed unread skipped =
     let far = read-nothing c.begins_with_none.ensures c.args.reader.now c.requires.start before.left (g.I.Source.left c.args.input.now) (g.I.Source.began c.args.input.now) unread.left_is in
     let whole = c.in-Done.ensures.end before.left [] far in
     let hunted = c.in-Ok.ensures.hunted ∙ skipped.hunted_is in
-    let cap = c.in-Ok.ensures.cap ∙ c.from-cap.ensures in
+    let retained_limit = c.in-Ok.ensures.retained_limit ∙ c.from-retained_limit.ensures in
     let behind = c.follow.new.watcher in
-    let seen = seen-behind c.answers_are_the_hits.ensures task before feed skipped.hunt skipped.hunt_is written skipped.written_is start c.in-Ok.ensures.hunts hunted cap
+    let seen = seen-behind c.answers_are_the_hits.ensures task before feed skipped.hunt skipped.hunt_is written skipped.written_is start c.in-Ok.ensures.hunts hunted retained_limit
     (Some feed) [] (λ more. refl) start [] written (takes-none start) (written_with-nil written) whole.bundles behind after.written whole.says in
-    report-ends c.answers_are_the_hits.ensures task before feed skipped.hunt skipped.hunt_is written skipped.written_is start c.in-Ok.ensures.hunts hunted cap
+    report-ends c.answers_are_the_hits.ensures task before feed skipped.hunt skipped.hunt_is written skipped.written_is start c.in-Ok.ensures.hunts hunted retained_limit
     (Some feed) [] (λ more. refl) start [] written (takes-none start) (written_with-nil written) behind after whole (g.O.Sink.written c.report.new.output) c.report.result
     (c.report.ensures.end (rows_of whole.bundles) seen.so.hunts.hits seen.hunts)
 
@@ -64,7 +64,7 @@ returns g c = record {
       let written = g.O.Sink.written c.args.output.now in
       let after = streams (g.I.Source.left c.follow.new.input) (g.I.Source.began c.follow.new.input) (g.O.Sink.written c.follow.new.output) in
       later-ends c.answers_are_the_hits.ensures (task_of c.args.request.now) before feed skipped.hunt skipped.hunt_is written skipped.written_is
-      start c.in-Ok.ensures.hunts (c.in-Ok.ensures.hunted ∙ skipped.hunted_is) (c.in-Ok.ensures.cap ∙ c.from-cap.ensures)
+      start c.in-Ok.ensures.hunts (c.in-Ok.ensures.hunted ∙ skipped.hunted_is) (c.in-Ok.ensures.retained_limit ∙ c.from-retained_limit.ensures)
       (Some feed) [] (λ more. refl) start [] written (takes-none start) (written_with-nil written) c.follow.new.watcher after c.follow.result c.in_default.not-Done
       (c.follow.ensures.end before.left [] (read-nothing c.begins_with_none.ensures c.args.reader.now c.requires.start before.left (g.I.Source.left c.args.input.now)
       (g.I.Source.began c.args.input.now) unread.left_is));

@@ -10,4 +10,4 @@ returns-clause-hunted c =
 pub returns-clause-skipped : goal.returns-clause-skipped
 returns-clause-skipped c =
     let objects = data_in c.args.bundle.now in
-    if_ok c.hunt.result (λ hunt is. c.skipped_can_be_told.ensures objects c.args.moment hunt (unbroken 0 objects c.objects-unbroken.ensures.unbroken) is) c.hunt.ensures
+    if_ok c.hunt.result (λ hunt is. c.skipped_have_lines.ensures objects c.args.moment hunt (unbroken 0 objects c.objects-unbroken.ensures.unbroken) is) c.hunt.ensures

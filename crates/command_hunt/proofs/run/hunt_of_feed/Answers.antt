@@ -7,4 +7,4 @@ returns-clause-hunted c feed gathers unbroken =
 
 pub returns-clause-skipped : goal.returns-clause-skipped
 returns-clause-skipped c feed gathers unbroken =
-    if_ok c.hunt.result (λ hunt is. c.skipped_can_be_told.ensures feed c.args.moment hunt unbroken is) (c.hunt.ensures feed gathers)
+    if_ok c.hunt.result (λ hunt is. c.skipped_have_lines.ensures feed c.args.moment hunt unbroken is) (c.hunt.ensures feed gathers)

@@ -1,4 +1,4 @@
 use Rattle.command_make.proofs.making.write_texts.Goals as goal
 
 pub returns-clause-text : goal.returns-clause-text
-returns-clause-text g c = rw c.as_bytes.ensures.value at (rw c.as_bytes-2.ensures.value at (rw c.as_bytes-3.ensures.value at c.write_pieces.ensures.text))
+returns-clause-text g c = rw c.as_bytes.ensures.value at (rw c.as_bytes-2.ensures.value at (rw c.as_bytes-3.ensures.value at c.write_all_vectored.ensures.text))

@@ -14,14 +14,14 @@ returns-clause-end g c =
     let before = streams (g.I.Source.left c.args.input.now) (g.I.Source.began c.args.input.now) (g.O.Sink.written c.args.output.now) in
     let after = streams (g.I.Source.left c.match_stream-end.new.input) (g.I.Source.began c.match_stream-end.new.input) (g.O.Sink.written c.match_stream-end.new.output) in
     let state = c.match_stream-end.new.matcher in
-    let of_mode = subst (λ (m : Mode). AnswersMatch m c.in-Ok.matcher.pattern c.in-Ok.matcher.cap before after state c.match_stream-end.result)
+    let of_mode = subst (λ (m : Mode). AnswersMatch m c.in-Ok.matcher.pattern c.in-Ok.matcher.retained_limit before after state c.match_stream-end.result)
     c.mode_of.ensures c.match_stream-end.ensures.end in
-    let of_pattern = subst (λ (p : Pattern). AnswersMatch mode p c.in-Ok.matcher.cap before after state c.match_stream-end.result) c.in-Ok.ensures.pattern of_mode in
+    let of_pattern = subst (λ (p : Pattern). AnswersMatch mode p c.in-Ok.matcher.retained_limit before after state c.match_stream-end.result) c.in-Ok.ensures.pattern of_mode in
     record {
       pattern = c.args.pattern.now;
       read = c.requires;
       matcher = state;
-      answers = subst (λ (n : ℕ). AnswersMatch mode c.args.pattern.now n before after state c.match_stream-end.result) c.in-Ok.ensures.cap of_pattern;
+      answers = subst (λ (n : ℕ). AnswersMatch mode c.args.pattern.now n before after state c.match_stream-end.result) c.in-Ok.ensures.retained_limit of_pattern;
     }
 
 pub returns-clause-input : goal.returns-clause-input

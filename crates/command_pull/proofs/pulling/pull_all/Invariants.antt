@@ -1,15 +1,15 @@
 use Rattle.std.proofs.Common.{◌≡◌, ◌≤◌, ◌*◌, ◌-◌, ◌^◌}
-use Rattle.taxii_client.specs.Outside.{link_view}
+use Rattle.taxii_client.specs.Environment.{link_view}
 use Rattle.taxii_client.specs.declared.pull.TheConstants.{MAX_PAGES}
-use Rattle.command_pull.specs.Pulling.{outside}
+use Rattle.command_pull.specs.Pulling.{environment}
 use Rattle.command_pull.proofs.RunLemmas.{RunsSo}
 use Rattle.command_pull.proofs.pulling.pull_all.Given as goal
 
 abbrev pub invariant-pages : goal.invariant-pages
 invariant-pages g l = record {
   runs : RunsSo (link_view g.D.Link.Source.left g.D.Link.Sink.written g.D.Link.Source.faults g.D.Link.Sink.faults) l.fn.target
-      (outside (g.D.Dial.told l.fn.dial) (g.D.Dial.faults l.fn.dial) (g.O.Sink.written l.fn.output))
-      (outside (g.D.Dial.told l.dial) (g.D.Dial.faults l.dial) (g.O.Sink.written l.output)) l.pull l.skipped;
+      (environment (g.D.Dial.observable l.fn.dial) (g.D.Dial.faults l.fn.dial) (g.O.Sink.written l.fn.output))
+      (environment (g.D.Dial.observable l.dial) (g.D.Dial.faults l.dial) (g.O.Sink.written l.output)) l.pull l.skipped;
   few : l.skipped ≤ l.pull.pages * 2 ^ 64;
   quiet : g.O.Sink.faults l.output ≡ g.O.Sink.faults l.fn.output;
 }

@@ -14,10 +14,10 @@ returns-in-Ok-serve_door-clause-ends g c =
     (c.in-Ok.ensures.causes.quiet (λ is. absurd (cc is))) did.2 in
     concluded-ends _ _ _ _ c.in-Ok-serve_door.served c.conclude.result (
       did.0,
-      serves-of _ _ _ _ server last did.0 (g.K.Keeper.kept c.open.new.keeper) c.in-Ok.ensures.ok c.in-Ok.ensures.told
+      serves-of _ _ _ _ server last did.0 (g.K.Keeper.kept c.open.new.keeper) c.in-Ok.ensures.ok c.in-Ok.ensures.observable
           c.in-Ok-serve_door.ensures.keeper did.1 c.in-Ok-serve_door.ensures.agrees.told_is (rw c.from-connections.ensures at did.3) pass
           (λ dated. c.walks_among_requests_skip_no_row.ensures server.config server.state last (exchanges_of did.0) dated
-          (c.callers_make_history.ensures _ server.config server.state last did.0 did.1)),
+          (c.clients_make_history.ensures _ server.config server.state last did.0 did.1)),
       elim did.4 [ inl p ↦ p | inr q ↦ absurd (false≢true q.0) ],
       rw c.from-connections.ensures at did.5,
     )
@@ -32,10 +32,10 @@ returns-clause-ends g c =
     (c.in-Ok.ensures.causes.quiet (λ is. absurd (cc is))) did.2 in (
       (
         did.0,
-        serves-of _ _ _ _ server last did.0 (g.K.Keeper.kept c.open.new.keeper) c.in-Ok.ensures.ok c.in-Ok.ensures.told
+        serves-of _ _ _ _ server last did.0 (g.K.Keeper.kept c.open.new.keeper) c.in-Ok.ensures.ok c.in-Ok.ensures.observable
             c.in-Err-serve_door.ensures.keeper did.1 c.in-Err-serve_door.ensures.agrees.told_is (rw c.from-connections.ensures at did.3) pass
             (λ dated. c.walks_among_requests_skip_no_row.ensures server.config server.state last (exchanges_of did.0) dated
-            (c.callers_make_history.ensures _ server.config server.state last did.0 did.1)),
+            (c.clients_make_history.ensures _ server.config server.state last did.0 did.1)),
         elim did.4 [ inl p ↦ inl p | inr q ↦ inr (q.1, q.2) ],
       ),
       refl,

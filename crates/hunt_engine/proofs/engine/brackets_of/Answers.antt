@@ -9,7 +9,7 @@ use Rattle.pattern_types.specs.PlainLeaf.{PlainLeaf, plain_leaf}
 use Rattle.pattern_types.specs.PlainPattern.{PlainPattern, plain_pattern}
 use Rattle.pattern_types.specs.Soundness.{IsSoundLeaf, IsSoundPattern}
 use Rattle.hunt_feed.specs.declared.hunted.Hunted.{Hunted}
-use Rattle.hunt_engine.specs.Known.{leaf_list, brackets_of}
+use Rattle.hunt_engine.specs.Memo.{leaf_list, brackets_of}
 use Rattle.hunt_engine.specs.inner.Table.{IsTable}
 use Rattle.hunt_engine.proofs.SoundLemmas.{sound_leaves}
 use Rattle.hunt_engine.proofs.engine.brackets_of.Goals as goal
@@ -38,7 +38,7 @@ loop-indicator-preserved c =
     let inside : i < length hunted = omega arith in
     let sound : IsSoundPattern (plain_pattern h.pattern) = subst (λ (k : Hunted). IsSoundPattern (plain_pattern k.pattern)) (sym c.indicator-item.is) (All-get_or (λ (k : Hunted). IsSoundPattern (plain_pattern k.pattern)) hunted i h inside c.requires.sound) in
     record {
-      table = subst (λ (ps : List PlainPattern). IsTable ps (map plain_leaf (map (λ leaf. leaf.now) new.leaves.items)) new.owners.items new.stretches.items) (sym (patterns_more hunted i h inside c.indicator-item.is))
+      table = subst (λ (ps : List PlainPattern). IsTable ps (map plain_leaf (map (λ leaf. leaf.now) new.leaves.items)) new.owners.items new.bracket_ranges.items) (sym (patterns_more hunted i h inside c.indicator-item.is))
           (c.in_ok-add.ensures.table (map plain_pattern (map (λ k. k.pattern) (take i hunted))) c.loop-indicator.invariant.table);
       sound = subst (λ (l : List PlainLeaf). All IsSoundLeaf l) (sym c.in_ok-add.ensures.leaves)
           (All-append IsSoundLeaf leaves (leaf_list (plain_pattern h.pattern)) c.loop-indicator.invariant.sound (sound_leaves (plain_pattern h.pattern) sound));

@@ -19,8 +19,8 @@ loop-indicator-preserved-then-is_valid c =
       are,
       λ objects count gathers.
           let gathered : Gathered = record { count = count; kept = c.args.kept.items; versions = c.args.versions.now.entries } in
-          hunt_judged laws gathered objects c.args.moment seen rest kept c.loop-indicator.hunt c.judge.new.hunt gathers are (next_of gathered objects seen rest kept gathers are)
-          (c.is_last.ensures.0 c.if-is_last.true) (c.is_valid.ensures.0 c.if-is_valid.true) c.in_ok-judge.ensures (c.loop-indicator.invariant.1 objects count gathers),
+          hunt_judged laws gathered objects c.args.moment seen rest kept c.loop-indicator.hunt c.classify.new.hunt gathers are (next_of gathered objects seen rest kept gathers are)
+          (c.is_last.ensures.0 c.if-is_last.true) (c.is_valid.ensures.0 c.if-is_valid.true) c.in_ok-classify.ensures (c.loop-indicator.invariant.1 objects count gathers),
     )
 
 pub loop-indicator-preserved : goal.loop-indicator-preserved

@@ -1,5 +1,5 @@
 use Rattle.std.proofs.Common.{rules, ◌≡◌, Result, Ok, Err, Option, Some, None, IfOk, IfSome, subst, ◌∙◌}
-use Rattle.flow_lines.specs.Lines.{lines_start, lines_ahead}
+use Rattle.flow_lines.specs.Lines.{lines_start, lines_remaining}
 use Rattle.stix_json.specs.declared.value.Json.{Json}
 use Rattle.stix_json.specs.DataOf.{data_of}
 use Rattle.hunt_feed.specs.declared.end.FeedEnd.{FeedEnd}
@@ -11,8 +11,8 @@ use Rattle.hunt_feed.proofs.feed.gather.Goals as goal
 pub returns-in_err-object-clause-refused : goal.returns-in_err-object-clause-refused
 returns-in_err-object-clause-refused g c line why is =
     let left = g.S.Source.left c.args.source.now in
-    let ahead = lines_ahead c.objects.lines (g.S.Source.left c.objects.source) in
-    let after = lines_ahead c.next_object.new.lines (g.S.Source.left c.next_object.new.source) in
+    let ahead = lines_remaining c.objects.lines (g.S.Source.left c.objects.source) in
+    let after = lines_remaining c.next_object.new.lines (g.S.Source.left c.next_object.new.source) in
     let so = c.objects.invariant.so in
     let found : c.next_object.result ≡ Err (end.Refused line why) = search rules in
     (so.objects, feed_refused left ahead c.objects.gathering so line why (subst (AnswersObject ahead after) found c.next_object.ensures.next))
@@ -20,8 +20,8 @@ returns-in_err-object-clause-refused g c line why is =
 pub returns-in_default-clause-whole : goal.returns-in_default-clause-whole
 returns-in_default-clause-whole g c =
     let left = g.S.Source.left c.args.source.now in
-    let ahead = lines_ahead c.objects.lines (g.S.Source.left c.objects.source) in
-    let after = lines_ahead c.next_object.new.lines (g.S.Source.left c.next_object.new.source) in
+    let ahead = lines_remaining c.objects.lines (g.S.Source.left c.objects.source) in
+    let after = lines_remaining c.next_object.new.lines (g.S.Source.left c.next_object.new.source) in
     let so = c.objects.invariant.so in
     let found : c.next_object.result ≡ Ok None = search rules in
     (so.objects, gathers_whole left ahead c.objects.gathering so (subst (AnswersObject ahead after) found c.next_object.ensures.next))
@@ -29,8 +29,8 @@ returns-in_default-clause-whole g c =
 pub objects-preserved : goal.objects-preserved
 objects-preserved g c =
     let left = g.S.Source.left c.args.source.now in
-    let ahead = lines_ahead c.objects.lines (g.S.Source.left c.objects.source) in
-    let after = lines_ahead c.next_object.new.lines (g.S.Source.left c.next_object.new.source) in
+    let ahead = lines_remaining c.objects.lines (g.S.Source.left c.objects.source) in
+    let after = lines_remaining c.next_object.new.lines (g.S.Source.left c.next_object.new.source) in
     let so = c.objects.invariant.so in
     let object = data_of c.in-Some.object in
     let found : c.next_object.result ≡ Ok (Some c.in-Some.object) = search rules in
@@ -40,7 +40,7 @@ objects-preserved g c =
     record {
       unrefused = moves.unrefused;
       within = moves.within;
-      so = gathers_one (lines_ahead lines_start left) ahead after c.objects.gathering c.add-added.new.gathering object gives so
+      so = gathers_one (lines_remaining lines_start left) ahead after c.objects.gathering c.add-added.new.gathering object gives so
           (c.in_ok-added.ensures so.objects so.gathers);
       quiet = c.next_object.ensures.causes.quiet (λ fault. absurd (cc)) ∙ c.objects.invariant.quiet;
     }

@@ -7,11 +7,11 @@ use Rattle.hunt_feed.specs.Gathering.{indicator_id}
 use Rattle.hunt_feed.proofs.indicator_object.number_of.Goals as goal
 
 pub unreachable-requires : goal.unreachable-requires
-unreachable-requires c = c.in-None.ensures (indicator_id c.indicators_are_told.ensures.number) c.indicators_are_told.ensures.has
+unreachable-requires c = c.in-None.ensures (indicator_id c.indicators_have_fields.ensures.number) c.indicators_have_fields.ensures.has
 
 pub returns : goal.returns
 returns c =
     let d = data_of c.args.object.now in
-    let told = c.indicators_are_told.ensures in
+    let told = c.indicators_have_fields.ensures in
     let same = c.one_id.ensures d (id_of c.in-Some.id) (indicator_id told.number) c.in-Some.ensures told.has in
     subst (λ n. HasId d (indicator_id n)) (ap (λ (i : Id). i.number) (sym same)) told.has

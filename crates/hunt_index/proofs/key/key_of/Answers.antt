@@ -1,6 +1,6 @@
 use Rattle.std.proofs.Common.{rules, ◌≡◌, w64, to_z, of_z}
 use Rattle.std.proofs.lemmas.Int.{to_z-of_z}
-use Rattle.hunt_index.proofs.GuardLemmas.{text_key, text_answers, whole_answers}
+use Rattle.hunt_index.proofs.IndexKeyLemmas.{text_key, text_answers, whole_answers}
 use Rattle.hunt_index.proofs.key.key_of.Goals as goal
 
 pub returns-in-String-clause-stands : goal.returns-in-String-clause-stands

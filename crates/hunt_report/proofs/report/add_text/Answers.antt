@@ -1,7 +1,7 @@
 use Rattle.std.proofs.Common.{◌++◌, ℕ, List, append_assoc, subst, ◌∙◌}
 use Rattle.flow_edges.specs.Flow.{WritesPrefix}
 use Rattle.match_run.proofs.PendingLemmas.{fails_so, prefix-more}
-use Rattle.match_run.specs.OnItsWay.{IsOnItsWay}
+use Rattle.match_run.specs.Buffered.{IsBuffered}
 use Rattle.hunt_report.specs.inner.Reporting.{mark_of}
 use Rattle.hunt_report.proofs.report.add_text.Goals as goal
 
@@ -30,7 +30,7 @@ returns-clause-ok g c before first way =
     let mark = mark_of c.args.begun in
     let written = g.O.Sink.written c.add-2.new.output in
     let pending = c.add-2.new.self in
-    subst (λ (t : List ℕ). IsOnItsWay t pending first written) (append_assoc before mark text)
-    (subst (λ (m : List ℕ). IsOnItsWay ((before ++ mark) ++ m) pending first written) c.as_bytes-2.ensures.value
-    (subst (λ (m : List ℕ). IsOnItsWay ((before ++ m) ++ c.as_bytes-2.result.now) pending first written) (c.as_bytes.ensures.value ∙ c.mark_of-mark.ensures)
+    subst (λ (t : List ℕ). IsBuffered t pending first written) (append_assoc before mark text)
+    (subst (λ (m : List ℕ). IsBuffered ((before ++ mark) ++ m) pending first written) c.as_bytes-2.ensures.value
+    (subst (λ (m : List ℕ). IsBuffered ((before ++ m) ++ c.as_bytes-2.result.now) pending first written) (c.as_bytes.ensures.value ∙ c.mark_of-mark.ensures)
     (c.in_ok-add-2.ensures.ok (before ++ c.as_bytes.result.now) first (c.in_ok-add.ensures.ok before first way))))

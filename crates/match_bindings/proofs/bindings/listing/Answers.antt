@@ -30,4 +30,4 @@ returns c =
     subst (λ (binds : List Bind). IsListing (observed_in log) p (map tree_of binds)) (sym c.from_vec.ensures)
     (sorted_bindings log p (spanned_trees c.in_ok-held.held.items) (map tree_of c.in_ok-binds.binds.items) (map tree_of c.in_ok-sorted.sorted.items)
     (c.in_ok-held.ensures ∙ ap (λ (w : Bounds). candidates (observed_in log) (length log) w p) c.open.ensures) c.in_ok-binds.ensures
-    c.in_ok-sorted.ensures.counts c.in_ok-sorted.ensures.rises)
+    c.in_ok-sorted.ensures.counts c.in_ok-sorted.ensures.ascends)

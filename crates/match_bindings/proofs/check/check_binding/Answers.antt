@@ -19,5 +19,5 @@ returns c =
     let o = observed_in c.args.log.now in
     let p = numbered_pattern c.args.pattern.now in
     let x = tree_of c.args.bind.now in
-    let is : c.is_some.result ≡ is_binding o p x = c.is_some.ensures ∙ ap is_some c.judge.ensures ∙ some_if (is_binding o p x) _ in
+    let is : c.is_some.result ≡ is_binding o p x = c.is_some.ensures ∙ ap is_some c.verify.ensures ∙ some_if (is_binding o p x) _ in
     (λ h. binding_to o p x (sym is ∙ h), λ h. is ∙ binding_from o p x h)

@@ -1,4 +1,4 @@
--- What is sorted by rank has the same trees, and rises.
+-- What is sorted by rank has the same trees, and ascends.
 use Rattle.std.proofs.Common.{sym, ◌∙◌, ap, subst, rules, List}
 use Rattle.std.specs.Ordering.{nat_cmp, is_lt}
 use Rattle.std.specs.Cmp.Lexicographic.{slice_cmp}
@@ -19,8 +19,8 @@ returns-clause-counts c x =
     ∙ count_permuted x _ _ (IsPermutation-map (λ r. tree_of r.bind) _ _ c.in_ok-sort_by.ensures.permutation)
     ∙ ap (count x) c.in_ok-all.ensures
 
-pub returns-clause-rises : goal.returns-clause-rises
-returns-clause-rises c =
+pub returns-clause-ascends : goal.returns-clause-ascends
+returns-clause-ascends c =
     let lt = λ (a : Ranked) (b : Ranked). is_lt (slice_cmp nat_cmp a.key.items b.key.items) in
     let up : IsSortedBy lt c.sort_by.new.self.items =
     c.in_ok-sort_by.ensures.sorted lt (ranks_by nat_list_cmp_total (λ (r : Ranked). r.key.items)) (answers_always _ _ _ (λ f a r g h. search rules)) in

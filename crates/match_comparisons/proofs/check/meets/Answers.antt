@@ -8,13 +8,13 @@ pub returns-in-Less : goal.returns-in-Less
 returns-in-Less c = rw c.in-Less.is c.compares-in-Less.ensures
 
 pub returns-in-LessEqual : goal.returns-in-LessEqual
-returns-in-LessEqual c = rw c.in-LessEqual.is c.reaches.ensures
+returns-in-LessEqual c = rw c.in-LessEqual.is c.compares_or_equals.ensures
 
 pub returns-in-Greater : goal.returns-in-Greater
 returns-in-Greater c = rw c.in-Greater.is c.compares-in-Greater.ensures
 
 pub returns-in-GreaterEqual : goal.returns-in-GreaterEqual
-returns-in-GreaterEqual c = rw c.in-GreaterEqual.is c.reaches-in-GreaterEqual.ensures
+returns-in-GreaterEqual c = rw c.in-GreaterEqual.is c.compares_or_equals-in-GreaterEqual.ensures
 
 pub returns-in-Among : goal.returns-in-Among
 returns-in-Among c = rw c.in-Among.is (rw c.as_slice.ensures at c.equals_some.ensures)

@@ -3,23 +3,23 @@ use Rattle.std.specs.Str.{chars}
 use Rattle.match_comparisons.specs.Like.{any_run}
 use Rattle.match_comparisons.proofs.CharactersLemmas.{lacks_within, too_long}
 use Rattle.match_comparisons.proofs.IsLikeLemmas.{run_takes}
-use Rattle.match_comparisons.proofs.PiecesLemmas.{first_piece, no_first_piece}
+use Rattle.match_comparisons.proofs.SegmentsLemmas.{first_segment, no_first_segment}
 use Rattle.match_comparisons.proofs.matching.like.Goals as goal
 
-pub is_like_piece-requires : goal.is_like_piece-requires
-is_like_piece-requires c =
+pub is_like_segment-requires : goal.is_like_segment-requires
+is_like_segment-requires c =
     lacks_within c.args.pattern.now (length c.args.text.now) c.utf8.pattern c.in-None.ensures c.if-pattern-text.true
 
-pub returns-in-Some-behind_front : goal.returns-in-Some-behind_front
-returns-in-Some-behind_front c =
+pub returns-in-Some-strip_front : goal.returns-in-Some-strip_front
+returns-in-Some-strip_front c =
     let split = c.in-Some.ensures.0 in
-    let on = first_piece (chars c.args.text.now) (chars c.in-Some.piece.now) (chars c.in-Some.rest.now) (chars c.in-Some-behind_front.left.now) c.in-Some.ensures.1 c.in-Some-behind_front.ensures in
-    (λ yes. rw split (on.1 (c.has_like_end.ensures.0 yes)), λ like. c.has_like_end.ensures.1 (on.0 (rw split at like)))
+    let on = first_segment (chars c.args.text.now) (chars c.in-Some.segment.now) (chars c.in-Some.rest.now) (chars c.in-Some-strip_front.left.now) c.in-Some.ensures.1 c.in-Some-strip_front.ensures in
+    (λ yes. rw split (on.1 (c.matches_after_run.ensures.0 yes)), λ like. c.matches_after_run.ensures.1 (on.0 (rw split at like)))
 
-pub returns-in-None-behind_front : goal.returns-in-None-behind_front
-returns-in-None-behind_front c =
+pub returns-in-None-strip_front : goal.returns-in-None-strip_front
+returns-in-None-strip_front c =
     let split = c.in-Some.ensures.0 in
-    let none = no_first_piece (chars c.args.text.now) (chars c.in-Some.piece.now) (any_run ∷ chars c.in-Some.rest.now) c.in-None-behind_front.ensures in
+    let none = no_first_segment (chars c.args.text.now) (chars c.in-Some.segment.now) (any_run ∷ chars c.in-Some.rest.now) c.in-None-strip_front.ensures in
     (λ yes. absurd (cc yes), λ like. absurd (none (rw split at like)))
 
 pub returns-else-pattern-text : goal.returns-else-pattern-text

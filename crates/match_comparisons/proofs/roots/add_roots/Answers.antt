@@ -1,7 +1,7 @@
 use Rattle.std.proofs.Common.{◌≡◌, List, ℕ, ◌∷◌, [], ◌++◌, ◌+◌, take, get_or, Vec, Global, sym, ap, subst, ◌∙◌}
 use Rattle.std.proofs.lemmas.Bool.{false≢true}
 use Rattle.std.proofs.lemmas.List.{take_more, take_all}
-use Rattle.match_comparisons.specs.inner.Positions.{AreOf}
+use Rattle.match_comparisons.specs.inner.PositionSet.{AreOf}
 use Rattle.match_comparisons.proofs.RootsLemmas.{not_not, new_same, old_same, AreAdded, new_added, old_added}
 use Rattle.match_comparisons.proofs.roots.add_roots.Goals as goal
 use Rattle.match_comparisons.proofs.roots.add_roots.Goals.{then-branch+in_ok-push, else-branch}

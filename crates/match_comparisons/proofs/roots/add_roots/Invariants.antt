@@ -1,6 +1,6 @@
 use Rattle.std.proofs.Common.{◌↔◌, ◌⊎◌, ℕ, take}
 use Rattle.std.specs.Prelude.{Contains}
-use Rattle.match_comparisons.specs.inner.Positions.{AreOf}
+use Rattle.match_comparisons.specs.inner.PositionSet.{AreOf}
 use Rattle.match_comparisons.proofs.roots.add_roots.Given as goal
 
 abbrev pub invariant-loop-at : goal.invariant-loop-at

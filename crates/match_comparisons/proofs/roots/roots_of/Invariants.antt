@@ -1,6 +1,6 @@
 use Rattle.std.proofs.Common.{◌↔◌, ℕ, take}
 use Rattle.std.specs.Prelude.{Contains}
-use Rattle.match_comparisons.specs.inner.Positions.{AreOf}
+use Rattle.match_comparisons.specs.inner.PositionSet.{AreOf}
 use Rattle.match_comparisons.specs.inner.Roots.{IsSomeRoot}
 use Rattle.match_comparisons.proofs.roots.roots_of.Given as goal
 

@@ -6,7 +6,7 @@ use Rattle.pattern_types.specs.PlainLeaf.{plain_leaf}
 use Rattle.pattern_types.specs.PlainPattern.{a_leaf}
 use Rattle.match_comparisons.specs.Tests.{LeafHolds}
 use Rattle.match_comparisons.specs.Truths.{AreTruths}
-use Rattle.match_comparisons.specs.inner.Positions.{AreOf}
+use Rattle.match_comparisons.specs.inner.PositionSet.{AreOf}
 use Rattle.match_comparisons.proofs.RowsLemmas.{HasSome, holds_some, row_more, rows_whole}
 use Rattle.match_comparisons.proofs.rows.add_leaf.Goals as goal
 

@@ -12,7 +12,7 @@ use Rattle.match_comparisons.proofs.search.+search.Goals as goal
 
 pub finds-returns-in_default-clause-found : goal.finds-returns-in_default-clause-found
 finds-returns-in_default-clause-found t c =
-    ok_same c.meets_turned.result (finds_here c.args.search.now (name_of c.args.last) (data_of c.args.value.now) c.args.steps.now c.in_default.ensures.cases) c.meets_turned.ensures
+    ok_same c.meets_unless_negated.result (finds_here c.args.search.now (name_of c.args.last) (data_of c.args.value.now) c.args.steps.now c.in_default.ensures.cases) c.meets_unless_negated.ensures
 
 pub finds-returns-in-Some-referred-clause-found : goal.finds-returns-in-Some-referred-clause-found
 finds-returns-in-Some-referred-clause-found t c =
@@ -34,7 +34,7 @@ pub finds-returns-clause-found : goal.finds-returns-clause-found
 finds-returns-clause-found t c =
     ok_same c.some_finds.result
     (finds_next c.args.search.now (name_of c.args.last) (data_of c.args.value.now) c.args.steps.now c.in-Some.step.now c.in-Some.rest.now _ (data_in c.selected-values.result.now)
-    c.in-Some.ensures.cases.0 c.name_behind.ensures c.selected-values.ensures.reached) c.some_finds.ensures.found
+    c.in-Some.ensures.cases.0 c.name_after.ensures c.selected-values.ensures.reached) c.some_finds.ensures.found
 
 pub finds_at-some_finds-requires : goal.finds_at-some_finds-requires
 finds_at-some_finds-requires t c =
@@ -46,9 +46,9 @@ finds_at-returns-in_ok-add-clause-right t c =
     let sought = c.args.search.now in
     let step = c.args.step.now in
     let rest = c.args.rest.now in
-    let there = finds_there sought step rest c.args.at (data_of c.in-Some-object_at.object.now) _ (data_in c.selected-values.result.now) (sym c.in-Some-object_at.ensures.value) c.name_behind.ensures c.selected-values.ensures.reached in
-    one_more sought c.some_finds.new.findings c.add.new.self step rest c.args.at c.in_ok-found.found c.in_ok-found.ensures.right c.requires.last
-    (λ yes. there.0 (c.in_ok-found.ensures.found.0 yes), λ finds. c.in_ok-found.ensures.found.1 (there.1 finds)) c.in_ok-add.ensures.live c.in_ok-add.ensures.dead
+    let there = finds_there sought step rest c.args.at (data_of c.in-Some-object_at.object.now) _ (data_in c.selected-values.result.now) (sym c.in-Some-object_at.ensures.value) c.name_after.ensures c.selected-values.ensures.reached in
+    one_more sought c.some_finds.new.memo c.add.new.self step rest c.args.at c.in_ok-found.found c.in_ok-found.ensures.right c.requires.last
+    (λ yes. there.0 (c.in_ok-found.ensures.found.0 yes), λ finds. c.in_ok-found.ensures.found.1 (there.1 finds)) c.in_ok-add.ensures.positive c.in_ok-add.ensures.negative
 
 pub some_finds-finds-requires : goal.some_finds-finds-requires
 some_finds-finds-requires t c =
@@ -77,5 +77,5 @@ some_finds-returns-clause-found t c =
 
 pub finds_at-returns-in-Some-clause-found : goal.finds_at-returns-in-Some-clause-found
 finds_at-returns-in-Some-clause-found t c =
-    known_right c.args.search.now c.args.findings.now c.args.step.now c.args.rest.now c.args.at c.in-Some.found c.requires.right c.requires.last
-    (λ yes. c.in-Some.ensures.live (search rules)) (λ no. c.in-Some.ensures.dead (search rules))
+    known_right c.args.search.now c.args.memo.now c.args.step.now c.args.rest.now c.args.at c.in-Some.found c.requires.right c.requires.last
+    (λ yes. c.in-Some.ensures.positive (search rules)) (λ no. c.in-Some.ensures.negative (search rules))

@@ -9,4 +9,4 @@ pub returns-then-is_reference : goal.returns-then-is_reference
 returns-then-is_reference c =
     let last = option_map (λ (name : Bor (List ℕ)). name.now) c.args.last in
     let named : IsReference last = search rules in
-    refers_exactly c.one_meaning.ensures.one (data_in c.args.bundle.now) last (data_of c.args.value.now) c.place_of.result named c.place_of.ensures
+    refers_exactly c.one_meaning.ensures.one (data_in c.args.bundle.now) last (data_of c.args.value.now) c.position_of.result named c.position_of.ensures

@@ -29,16 +29,16 @@ pub returns-clause-none : goal.returns-clause-none
 returns-clause-none c =
     let objects = data_in c.args.bundle.now in
     let frames = reverse c.args.frames.now.items in
-    let below : Frame = record { last = c.name_behind.result; steps = c.in-Some-split_first.steps; values = c.selected.result } in
+    let below : Frame = record { last = c.name_after.result; steps = c.in-Some-split_first.steps; values = c.selected.result } in
     let is = pushed_twice c.args.frames.now.items c.push.new.self.items c.push-2.new.self.items (with_values c.args.frame c.in-Some.others) below c.push.ensures.items c.push-2.ensures.items in
     let LeadsTo : List Frame → Type 0 = λ now. (values : List Data) → LeftIn objects (c.args.frame ∷ frames) values ↔ LeftIn objects now values in
     subst LeadsTo (sym is)
     (left_below c.one_meaning.ensures.one objects c.args.frame frames c.in-Some.value.now c.in-Some.others c.in-Some-split_first.step.now c.in-Some-split_first.steps.now below
-    c.in-Some.ensures.cases.0 c.in-Some-split_first.ensures.cases.0 c.name_behind.ensures refl c.selected.ensures.all)
+    c.in-Some.ensures.cases.0 c.in-Some-split_first.ensures.cases.0 c.name_after.ensures refl c.selected.ensures.all)
 
 pub returns-clause-fits : goal.returns-clause-fits
 returns-clause-fits c =
-    let below : Frame = record { last = c.name_behind.result; steps = c.in-Some-split_first.steps; values = c.selected.result } in
+    let below : Frame = record { last = c.name_after.result; steps = c.in-Some-split_first.steps; values = c.selected.result } in
     let is = pushed_twice c.args.frames.now.items c.push.new.self.items c.push-2.new.self.items (with_values c.args.frame c.in-Some.others) below c.push.ensures.items c.push-2.ensures.items in
     subst Fits (sym is)
     (fits_below c.args.frame (reverse c.args.frames.now.items) c.in-Some.value.now c.in-Some.others c.in-Some-split_first.step.now c.in-Some-split_first.steps.now below
@@ -47,7 +47,7 @@ returns-clause-fits c =
 pub returns-clause-falls : goal.returns-clause-falls
 returns-clause-falls c =
     let frames = reverse c.args.frames.now.items in
-    let below : Frame = record { last = c.name_behind.result; steps = c.in-Some-split_first.steps; values = c.selected.result } in
+    let below : Frame = record { last = c.name_after.result; steps = c.in-Some-split_first.steps; values = c.selected.result } in
     let is = pushed_twice c.args.frames.now.items c.push.new.self.items c.push-2.new.self.items (with_values c.args.frame c.in-Some.others) below c.push.ensures.items c.push-2.ensures.items in
     subst (λ (now : List Frame). weight now < weight (c.args.frame ∷ frames)) (sym is)
     (falls_below c.args.frame frames c.in-Some.value.now c.in-Some.others c.in-Some-split_first.step.now c.in-Some-split_first.steps.now below

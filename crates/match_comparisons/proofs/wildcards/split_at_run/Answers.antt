@@ -9,8 +9,8 @@ use Rattle.match_comparisons.proofs.wildcards.split_at_run.Goals as goal
 pub returns-in_err-at : goal.returns-in_err-at
 returns-in_err-at c =
     let near = ap (take c.min.result) c.as_bytes-bytes.ensures.value in
-    let reaches : (k : ℕ) → k < length c.args.pattern.now → k ≤ c.args.most → k < c.min.result = λ k inside within. omega (arith, c.min.ensures, c.saturating_add.ensures, c.as_bytes-bytes.ensures.len, c.ranges.most, inside, within) in
-    rw c.from_residual.ensures (run_behind c.args.pattern.now _ c.min.result near c.args.most reaches c.in_err-at.ensures)
+    let compares_or_equals : (k : ℕ) → k < length c.args.pattern.now → k ≤ c.args.most → k < c.min.result = λ k inside within. omega (arith, c.min.ensures, c.saturating_add.ensures, c.as_bytes-bytes.ensures.len, c.ranges.most, inside, within) in
+    rw c.from_residual.ensures (run_behind c.args.pattern.now _ c.min.result near c.args.most compares_or_equals c.in_err-at.ensures)
 
 pub range_from-requires : goal.range_from-requires
 range_from-requires c =

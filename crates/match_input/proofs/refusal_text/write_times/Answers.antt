@@ -7,12 +7,12 @@ pub returns-clause-text : goal.returns-clause-text
 returns-clause-text g c =
     let tail = codes " refused: OutOfOrder last " ++ (c.args.last.now ++ (codes " now " ++ (c.args.now.now ++ codes "\n"))) in
     let same = ap (λ (l : List ℕ). codes "line " ++ (l ++ tail)) c.as_bytes.ensures.value ∙ times_line c.args.line.now c.args.last.now c.args.now.now in
-    subst (λ (bytes : List ℕ). WritesWhole bytes (g.S.Sink.written c.args.sink.now) (g.S.Sink.written c.write_pieces.new.sink) c.write_pieces.result)
-    same c.write_pieces.ensures.text
+    subst (λ (bytes : List ℕ). WritesWhole bytes (g.S.Sink.written c.args.sink.now) (g.S.Sink.written c.write_all_vectored.new.sink) c.write_all_vectored.result)
+    same c.write_all_vectored.ensures.text
 
 pub returns-clause-part : goal.returns-clause-part
 returns-clause-part g c =
     let tail = codes " refused: OutOfOrder last " ++ (c.args.last.now ++ (codes " now " ++ (c.args.now.now ++ codes "\n"))) in
     let same = ap (λ (l : List ℕ). codes "line " ++ (l ++ tail)) c.as_bytes.ensures.value ∙ times_line c.args.line.now c.args.last.now c.args.now.now in
-    subst (λ (bytes : List ℕ). OnErr c.write_pieces.result (WritesPart bytes (g.S.Sink.written c.args.sink.now) (g.S.Sink.written c.write_pieces.new.sink)))
-    same c.write_pieces.ensures.part
+    subst (λ (bytes : List ℕ). OnErr c.write_all_vectored.result (WritesPart bytes (g.S.Sink.written c.args.sink.now) (g.S.Sink.written c.write_all_vectored.new.sink)))
+    same c.write_all_vectored.ensures.part

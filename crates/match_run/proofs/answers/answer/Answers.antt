@@ -1,7 +1,7 @@
 use Rattle.std.proofs.Common.{◌≡◌, List, [], ◌∷◌, ◌++◌, length, map, sym, ap, subst, ◌∙◌, arith}
 use Rattle.std.proofs.lemmas.List.{length-map}
 use Rattle.match_bindings.specs.BindTree.{tree_of}
-use Rattle.match_run.specs.inner.Rows.{counted, IsBehind, row_of, EndsAtRow}
+use Rattle.match_run.specs.inner.Rows.{counted, IsAfter, row_of, EndsAtRow}
 use Rattle.match_run.specs.declared.tally.Tally.{Tally}
 use Rattle.match_run.specs.declared.match_end.MatchEnd.{MatchEnd}
 use Rattle.match_run.proofs.RowsLemmas.{behind-more}
@@ -11,7 +11,7 @@ use Rattle.match_run.proofs.answers.answer.Goals as goal
 pub end_of-requires : goal.end_of-requires
 end_of-requires c =
     let b = c.requires.behind.2 in
-    may_end c.in-Err.refusal c.args.matcher.now c.args.observation.now.last b.stands.runs c.requires.order
+    may_end c.in-Err.refusal c.args.matcher.now c.args.observation.now.last b.represents.runs c.requires.order
     (λ before time is. (c.in-Err.ensures.out_of_order before time).0 is)
     (λ e is. (c.in-Err.ensures.ended e).0 is)
 
@@ -23,22 +23,22 @@ returns-in-Ok-clause-row c objects are log answers b =
     let binds = map tree_of c.in-Ok.binds in
     let same : length binds ≡ length c.in-Ok.binds = length-map c.in-Ok.binds tree_of in
     let count : c.len.result ≡ length binds = c.len.ensures ∙ sym same in
-    let answered = c.in-Ok.ensures.answers log b.stands b.rows.order in
+    let answered = c.in-Ok.ensures.answers log b.represents b.rows.order in
     record {
       truths = truths;
       are = are;
-      behind = subst (λ (t : Tally). IsBehind m.pattern m.cap c.take.new.self t (log ++ row_of o truths ∷ []) (answers ++ binds ∷ []))
+      behind = subst (λ (t : Tally). IsAfter m.pattern m.retained_limit c.take.new.self t (log ++ row_of o truths ∷ []) (answers ++ binds ∷ []))
           (sym (c.count.ensures ∙ ap (counted c.args.tally.now o.number) count))
-          (behind-more m.pattern m.cap m c.take.new.self c.args.tally.now log answers o truths binds b
-          c.requires.number (omega (arith, count)) answered.stands answered.order answered.answers answered.roomy);
+          (behind-more m.pattern m.retained_limit m c.take.new.self c.args.tally.now log answers o truths binds b
+          c.requires.number (omega (arith, count)) answered.represents answered.order answered.answers answered.within_limit);
     }
 
 pub returns-in-Err-clause-end : goal.returns-in-Err-clause-end
 returns-in-Err-clause-end c objects are log answers b =
     let m = c.args.matcher.now in
     let o = c.args.observation.now in
-    subst (λ (e : MatchEnd). EndsAtRow m.pattern m.cap objects o log c.take.new.self e)
+    subst (λ (e : MatchEnd). EndsAtRow m.pattern m.retained_limit objects o log c.take.new.self e)
     (sym c.end_of.ensures.end)
     (ends_row objects o log m c.take.new.self c.args.truths.now c.in-Err.refusal are
-    (λ number named is. c.in-Err.ensures.crowded log b.stands b.rows.order number named is)
+    (λ number named is. c.in-Err.ensures.over_limit log b.represents b.rows.order number named is)
     (λ e is. c.in-Err.ensures.stopped e is))

@@ -6,7 +6,7 @@ use Rattle.match_run.proofs.batch.answer_all.Given as goal
 abbrev pub invariant-loop-at : goal.invariant-loop-at
 invariant-loop-at g l = record {
   pattern : l.matcher.pattern ≡ l.fn.matcher.pattern;
-  most : l.matcher.cap ≡ l.fn.matcher.cap;
+  most : l.matcher.retained_limit ≡ l.fn.matcher.retained_limit;
   behind : IsAtSome (so_far l.matcher l.tally);
   follow : MayFollow l.matcher.last (l.matcher.rows + 1) (drop l.at l.observations);
   goes : GoesThrough (data_in l.batch.bundle) (take l.at l.observations) (so_far l.fn.matcher l.fn.tally) (so_far l.matcher l.tally)

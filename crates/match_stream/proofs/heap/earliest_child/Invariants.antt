@@ -1,5 +1,5 @@
 use Rattle.std.proofs.Common.{ℕ, ◌<◌, ◌≤ℤ◌, length}
-use Rattle.match_stream.specs.declared.piece.Piece.{Piece}
+use Rattle.match_stream.specs.declared.partial_match.PartialMatch.{PartialMatch}
 use Rattle.match_stream.specs.inner.Heaps.{IsChild, time_at}
 use Rattle.match_stream.proofs.heap.earliest_child.Given as goal
 
@@ -7,5 +7,5 @@ abbrev pub invariant-loop-child : goal.invariant-loop-child
 invariant-loop-child l = record {
   is_child : IsChild l.at l.earliest;
   inside : l.earliest < length l.held;
-  first : (d : Piece) (i : ℕ) → IsChild l.at i → i < l.child → time_at l.held d l.earliest ≤ℤ time_at l.held d i;
+  first : (d : PartialMatch) (i : ℕ) → IsChild l.at i → i < l.child → time_at l.held d l.earliest ≤ℤ time_at l.held d i;
 }

@@ -18,7 +18,7 @@ returns c =
     let moved = c.sort_unstable.ensures.permutation in
     let all = c.in_ok-push_node.ensures ∙ ap (λ (z : List ℕ). z ++ all_numbers contents) c.new-kept.ensures.items in
     record {
-      rises = rw is (IsStrictlyIncreasing-dedup _ c.sort_unstable.ensures.sorted);
+      ascends = rw is (IsStrictlyIncreasing-dedup _ c.sort_unstable.ensures.sorted);
       each = λ n. (
         λ h. (contains_kept n contents).0
             (subst (λ (xs : List ℕ). Contains xs n) all (Contains-permutation _ _ n (IsPermutation-sym _ _ moved) (Contains-from_dedup _ _ n (rw is at h)))),

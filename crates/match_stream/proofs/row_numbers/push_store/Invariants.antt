@@ -1,8 +1,8 @@
 use Rattle.std.proofs.Common.{◌≡◌, ◌++◌}
 use Rattle.std.specs.Prelude.{take}
-use Rattle.match_stream.specs.inner.Pieces.{piece_trees}
+use Rattle.match_stream.specs.inner.PartialMatches.{partial_match_trees}
 use Rattle.match_stream.specs.inner.Numbers.{store_numbers}
 use Rattle.match_stream.proofs.row_numbers.push_store.Given as goal
 
 abbrev pub invariant-loop-held : goal.invariant-loop-held
-invariant-loop-held l = l.out.items ≡ l.fn.out.items ++ store_numbers (piece_trees (take l.held-index l.store.held.items))
+invariant-loop-held l = l.out.items ≡ l.fn.out.items ++ store_numbers (partial_match_trees (take l.held-index l.store.held.items))

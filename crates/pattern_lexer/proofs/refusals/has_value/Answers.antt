@@ -16,4 +16,4 @@ pub returns-in-Hex : goal.returns-in-Hex
 returns-in-Hex c = at_kind c.args.token.kind Hex (text_at c.args.text.now c.args.token) c.is_hex.result c.in-Hex.is c.is_hex.ensures
 
 pub returns-in-Binary : goal.returns-in-Binary
-returns-in-Binary c = at_kind c.args.token.kind Binary (text_at c.args.text.now c.args.token) c.is_base.result c.in-Binary.is c.is_base.ensures
+returns-in-Binary c = at_kind c.args.token.kind Binary (text_at c.args.text.now c.args.token) c.is_base64.result c.in-Binary.is c.is_base64.ensures

@@ -1,5 +1,5 @@
 use Rattle.std.proofs.Common.{take}
-use Rattle.pattern_reader.specs.inner.Judgement.{IsOutcome}
+use Rattle.pattern_reader.specs.inner.Analysis.{IsOutcome}
 use Rattle.pattern_reader.proofs.PathLemmas.{AreSteps, RefusalUpTo}
 use Rattle.pattern_reader.proofs.paths.steps_of.Given as goal
 

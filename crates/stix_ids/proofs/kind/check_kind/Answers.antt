@@ -7,10 +7,10 @@ pub returns-then-at-bytes-clause-ok : goal.returns-then-at-bytes-clause-ok
 returns-then-at-bytes-clause-ok c = (
   λ bad. cc,
   λ kind.
-      let ends = longest_from_kind c.args.bytes.now c.fitting_length-at.result c.fitting_length-at.ensures kind in
+      let ends = longest_from_kind c.args.bytes.now c.longest_prefix_length-at.result c.longest_prefix_length-at.ensures kind in
       absurd (elim c.then-at-bytes.branch [ then-at-bytes-via-then-at-bytes w ↦ omega arith | then-at-bytes-via-else-at-bytes+then-at-lt-LEAST_LENGTH w ↦ omega arith ]),
 )
 
 pub returns-clause-ok : goal.returns-clause-ok
 returns-clause-ok c =
-    (λ _. kind_from_longest c.args.bytes.now c.fitting_length-at.result c.fitting_length-at.ensures (omega arith) (omega arith), λ _. refl)
+    (λ _. kind_from_longest c.args.bytes.now c.longest_prefix_length-at.result c.longest_prefix_length-at.ensures (omega arith) (omega arith), λ _. refl)

@@ -1,7 +1,7 @@
 use Rattle.std.proofs.Common.{List, sym, subst}
 use Rattle.std.proofs.lemmas.Result.{err_from_is_err_and}
-use Rattle.stix_json.specs.declared.held.Property.{Property}
-use Rattle.stix_json.specs.inner.Held.{HoldsProperties}
+use Rattle.stix_json.specs.declared.property_value.Property.{Property}
+use Rattle.stix_json.specs.inner.PropertyValue.{HoldsProperties}
 use Rattle.stix_json.proofs.PropertiesLemmas.{no_next}
 use Rattle.stix_json.proofs.envelope.read_envelope.Goals as goal
 

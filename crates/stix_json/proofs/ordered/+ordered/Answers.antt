@@ -5,7 +5,7 @@ use Rattle.serde_json.specs.Data.{Data}
 use Rattle.stix_json.specs.declared.value.Field.{Field}
 use Rattle.stix_json.specs.DataOf.{data_of, field_data, members_of}
 use Rattle.stix_json.specs.Ordered.{IsOrdered, MembersAreOrdered}
-use Rattle.stix_json.proofs.FlawsLemmas.{data_of-Object}
+use Rattle.stix_json.proofs.ValueErrorsLemmas.{data_of-Object}
 use Rattle.stix_json.proofs.FieldsLemmas.{open_ordered, close_ordered}
 use Rattle.stix_json.proofs.ordered.+ordered.Goals as goal
 use Rattle.stix_json.proofs.ordered.+ordered.Goals.{are_ordered_fields-then-not-is_before_next-via-then-not-is_before_next, are_ordered_fields-then-not-is_before_next-via-else-not-is_before_next+then-not-is_ordered}

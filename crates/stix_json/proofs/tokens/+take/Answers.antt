@@ -6,47 +6,47 @@ use Rattle.json.specs.Reads.{token_of}
 use Rattle.json.proofs.Grammar.{value_is, value-begin_array, value-begin_object, read_key-shorter}
 use Rattle.serde_json.specs.Data.{null, boolean, number, string, array, object, put, no_members}
 use Rattle.serde_json.specs.Read.{of_json, of_items, of_members, converted}
-use Rattle.stix_json.specs.declared.gathered.Gathered.{Gathered}
-use Rattle.stix_json.specs.inner.Putting.{put_all}
-use Rattle.stix_json.specs.inner.Judging.{IsJudgedAs, AreGathered, name_of}
-use Rattle.stix_json.proofs.FlawsLemmas.{data_of-String, data_of-Bool}
-use Rattle.stix_json.proofs.PuttingLemmas.{put_pushed}
+use Rattle.stix_json.specs.declared.raw_members.RawMember.{RawMember}
+use Rattle.stix_json.specs.inner.Insertion.{insert_all}
+use Rattle.stix_json.specs.inner.Checking.{IsCheckedAs, AreRawMembers, name_of}
+use Rattle.stix_json.proofs.ValueErrorsLemmas.{data_of-String, data_of-Bool}
+use Rattle.stix_json.proofs.InsertionLemmas.{insert_pushed}
 use Rattle.stix_json.proofs.TokensLemmas.{converted-array, converted-object, item_read, item_refused, items_over, member_read, member_refused, key_refused, members_over, items_before, items_before-no_items, one_more_item, none_before, number_token}
-use Rattle.stix_json.proofs.JudgedLemmas.{list_within, object_within, gathered_put, unread_under, unread_since, unread_at, no_number}
+use Rattle.stix_json.proofs.CheckedLemmas.{list_within, object_within, gathered_insert, read_error_under, read_error_since, read_error_at, no_number}
 use Rattle.stix_json.proofs.tokens.+take.Goals as goal
 
-pub judge_token-returns-then-left-eq0-clause-err : goal.judge_token-returns-then-left-eq0-clause-err
+pub check_token-returns-then-left-eq0-clause-err : goal.check_token-returns-then-left-eq0-clause-err
 unfolding value
-judge_token-returns-then-left-eq0-clause-err t c =
+check_token-returns-then-left-eq0-clause-err t c =
     let none : c.args.left ≡ 0 = omega arith in
     ap (converted of_json) (ap₂ value none (ap (λ k. token_of k ∷ c.args.reader.now) c.in-BeginArray.is))
 
-pub judge_token-returns-then-left-eq0-2-clause-err : goal.judge_token-returns-then-left-eq0-2-clause-err
+pub check_token-returns-then-left-eq0-2-clause-err : goal.check_token-returns-then-left-eq0-2-clause-err
 unfolding value
-judge_token-returns-then-left-eq0-2-clause-err t c =
+check_token-returns-then-left-eq0-2-clause-err t c =
     let none : c.args.left ≡ 0 = omega arith in
     ap (converted of_json) (ap₂ value none (ap (λ k. token_of k ∷ c.args.reader.now) c.in-BeginObject.is))
 
-pub judge_token-returns-in_err-judged-in-BeginArray-clause-err : goal.judge_token-returns-in_err-judged-in-BeginArray-clause-err
-judge_token-returns-in_err-judged-in-BeginArray-clause-err t c =
+pub check_token-returns-in_err-checked-in-BeginArray-clause-err : goal.check_token-returns-in_err-checked-in-BeginArray-clause-err
+check_token-returns-in_err-checked-in-BeginArray-clause-err t c =
     let r = c.args.reader.now in
     let some : 0 < c.args.left = omega arith in
     let opened = ap (converted of_json) (ap (λ k. value c.args.left (token_of k ∷ r)) c.in-BeginArray.is ∙ value-begin_array c.args.left r some)
     ∙ converted-array (items (value (c.args.left - 1)) (length r) r) in
-    let told = unread_under c.take_items.result array (converted of_items (items (value (c.args.left - 1)) (length r) r)) _ opened c.take_items.ensures.err in
+    let told = read_error_under c.take_items.result array (converted of_items (items (value (c.args.left - 1)) (length r) r)) _ opened c.take_items.ensures.err in
     search (rules, told)
 
-pub judge_token-returns-in_err-judged-in-BeginObject-clause-err : goal.judge_token-returns-in_err-judged-in-BeginObject-clause-err
-judge_token-returns-in_err-judged-in-BeginObject-clause-err t c =
+pub check_token-returns-in_err-checked-in-BeginObject-clause-err : goal.check_token-returns-in_err-checked-in-BeginObject-clause-err
+check_token-returns-in_err-checked-in-BeginObject-clause-err t c =
     let r = c.args.reader.now in
     let some : 0 < c.args.left = omega arith in
     let opened = ap (converted of_json) (ap (λ k. value c.args.left (token_of k ∷ r)) c.in-BeginObject.is ∙ value-begin_object c.args.left r some)
     ∙ converted-object (members (value (c.args.left - 1)) (length r) r) in
-    let told = unread_under c.take_members.result object (converted (λ ms. of_members ms no_members) (members (value (c.args.left - 1)) (length r) r)) _ opened c.take_members.ensures.err in
+    let told = read_error_under c.take_members.result object (converted (λ ms. of_members ms no_members) (members (value (c.args.left - 1)) (length r) r)) _ opened c.take_members.ensures.err in
     search (rules, told)
 
-pub judge_token-returns-in_ok-text-in-String-clause-ok : goal.judge_token-returns-in_ok-text-in-String-clause-ok
-judge_token-returns-in_ok-text-in-String-clause-ok t c =
+pub check_token-returns-in_ok-text-in-String-clause-ok : goal.check_token-returns-in_ok-text-in-String-clause-ok
+check_token-returns-in_ok-text-in-String-clause-ok t c =
     let r = c.args.reader.now in
     let is : token_of c.args.token ≡ Token.string c.in-String.text.now = ap token_of c.in-String.is in (
       string c.in-String.text.now,
@@ -54,8 +54,8 @@ judge_token-returns-in_ok-text-in-String-clause-ok t c =
       (refl, data_of-String _ _ c.in_ok-text-in-String.ensures),
     )
 
-pub judge_token-returns-in-Bool-clause-ok : goal.judge_token-returns-in-Bool-clause-ok
-judge_token-returns-in-Bool-clause-ok t c =
+pub check_token-returns-in-Bool-clause-ok : goal.check_token-returns-in-Bool-clause-ok
+check_token-returns-in-Bool-clause-ok t c =
     let r = c.args.reader.now in
     let is : token_of c.args.token ≡ Token.boolean c.in-Bool.truth = ap token_of c.in-Bool.is in (
       boolean c.in-Bool.truth,
@@ -63,8 +63,8 @@ judge_token-returns-in-Bool-clause-ok t c =
       (refl, data_of-Bool c.in-Bool.truth),
     )
 
-pub judge_token-returns-in-Null-clause-ok : goal.judge_token-returns-in-Null-clause-ok
-judge_token-returns-in-Null-clause-ok t c =
+pub check_token-returns-in-Null-clause-ok : goal.check_token-returns-in-Null-clause-ok
+check_token-returns-in-Null-clause-ok t c =
     let r = c.args.reader.now in
     let is : token_of c.args.token ≡ Token.null = ap token_of c.in-Null.is in (
       null,
@@ -72,50 +72,50 @@ judge_token-returns-in-Null-clause-ok t c =
       ap Some (sym c.here.ensures),
     )
 
-pub judge_token-returns-in-Number-clause-ok : goal.judge_token-returns-in-Number-clause-ok
-judge_token-returns-in-Number-clause-ok t c =
+pub check_token-returns-in-Number-clause-ok : goal.check_token-returns-in-Number-clause-ok
+check_token-returns-in-Number-clause-ok t c =
     let r = c.args.reader.now in
     let is : token_of c.args.token ≡ Token.number c.in-Number.text.now = ap token_of c.in-Number.is in
     let read = ap (converted of_json) (ap (λ (k : Token). value c.args.left (k ∷ r)) is ∙ value_is c.args.left _) in
-    IfOk-weaker c.judge_number.result _ _ (λ judged found. (number found.0, read ∙ number_token c.in-Number.text.now r found.0 found.1, found.2 c.args.levels)) c.judge_number.ensures.ok
+    IfOk-weaker c.check_number.result _ _ (λ checked found. (number found.0, read ∙ number_token c.in-Number.text.now r found.0 found.1, found.2 c.args.levels)) c.check_number.ensures.ok
 
-pub judge_token-returns-in-Number-clause-err : goal.judge_token-returns-in-Number-clause-err
-judge_token-returns-in-Number-clause-err t c =
+pub check_token-returns-in-Number-clause-err : goal.check_token-returns-in-Number-clause-err
+check_token-returns-in-Number-clause-err t c =
     let r = c.args.reader.now in
     let is : token_of c.args.token ≡ Token.number c.in-Number.text.now = ap token_of c.in-Number.is in
     let read = ap (converted of_json) (ap (λ (k : Token). value c.args.left (k ∷ r)) is ∙ value_is c.args.left _) in
-    no_number c.judge_number.result c.in-Number.text.now r _ read c.judge_number.ensures.err
+    no_number c.check_number.result c.in-Number.text.now r _ read c.check_number.ensures.err
 
-pub judge_token-returns-in_ok-judged-in-BeginArray-clause-ok : goal.judge_token-returns-in_ok-judged-in-BeginArray-clause-ok
-judge_token-returns-in_ok-judged-in-BeginArray-clause-ok t c =
+pub check_token-returns-in_ok-checked-in-BeginArray-clause-ok : goal.check_token-returns-in_ok-checked-in-BeginArray-clause-ok
+check_token-returns-in_ok-checked-in-BeginArray-clause-ok t c =
     let r = c.args.reader.now in
     let some : 0 < c.args.left = omega arith in
     let opened = ap (converted of_json) (ap (λ k. value c.args.left (token_of k ∷ r)) c.in-BeginArray.is ∙ value-begin_array c.args.left r some)
     ∙ converted-array (items (value (c.args.left - 1)) (length r) r) in
-    let found = c.in_ok-judged-in-BeginArray.ensures.ok in
+    let found = c.in_ok-checked-in-BeginArray.ensures.ok in
     let less : c.saturating_sub.result ≡ c.args.levels - 1 = omega arith in (
       array found.0,
       opened ∙ ap (parse_map array) found.1,
-      list_within c.args.levels found.0 c.in_ok-judged-in-BeginArray.judged c.within-in-BeginArray.result (subst (λ n. IsJudgedAs (suc n) (array found.0) c.in_ok-judged-in-BeginArray.judged) less found.2)
+      list_within c.args.levels found.0 c.in_ok-checked-in-BeginArray.checked c.within-in-BeginArray.result (subst (λ n. IsCheckedAs (suc n) (array found.0) c.in_ok-checked-in-BeginArray.checked) less found.2)
           c.within-in-BeginArray.ensures.deep c.within-in-BeginArray.ensures.same,
     )
 
-pub judge_token-returns-in_ok-judged-in-BeginObject-clause-ok : goal.judge_token-returns-in_ok-judged-in-BeginObject-clause-ok
-judge_token-returns-in_ok-judged-in-BeginObject-clause-ok t c =
+pub check_token-returns-in_ok-checked-in-BeginObject-clause-ok : goal.check_token-returns-in_ok-checked-in-BeginObject-clause-ok
+check_token-returns-in_ok-checked-in-BeginObject-clause-ok t c =
     let r = c.args.reader.now in
     let some : 0 < c.args.left = omega arith in
     let opened = ap (converted of_json) (ap (λ k. value c.args.left (token_of k ∷ r)) c.in-BeginObject.is ∙ value-begin_object c.args.left r some)
     ∙ converted-object (members (value (c.args.left - 1)) (length r) r) in
-    let found = c.in_ok-judged-in-BeginObject.ensures.ok in
+    let found = c.in_ok-checked-in-BeginObject.ensures.ok in
     let less : c.saturating_sub-in-BeginObject.result ≡ c.args.levels - 1 = omega arith in (
       object found.0,
       opened ∙ ap (parse_map object) found.1,
-      object_within c.args.levels found.0 c.in_ok-judged-in-BeginObject.judged c.within-in-BeginObject.result (subst (λ n. IsJudgedAs (suc n) (object found.0) c.in_ok-judged-in-BeginObject.judged) less found.2)
+      object_within c.args.levels found.0 c.in_ok-checked-in-BeginObject.checked c.within-in-BeginObject.result (subst (λ n. IsCheckedAs (suc n) (object found.0) c.in_ok-checked-in-BeginObject.checked) less found.2)
           c.within-in-BeginObject.ensures.deep c.within-in-BeginObject.ensures.same,
     )
 
-pub judge_token-returns-in-EndObject-clause-err : goal.judge_token-returns-in-EndObject-clause-err
-judge_token-returns-in-EndObject-clause-err t c =
+pub check_token-returns-in-EndObject-clause-err : goal.check_token-returns-in-EndObject-clause-err
+check_token-returns-in-EndObject-clause-err t c =
     let none : value c.args.left (token_of c.args.token ∷ c.args.reader.now) ≡ None = rw (value_is c.args.left (token_of c.args.token ∷ c.args.reader.now)) (grind arith) in
     ap (converted of_json) none
 
@@ -129,13 +129,13 @@ take_items-items-init t c =
     let all = converted of_items (items (value c.args.left) (length c.args.reader.now) c.args.reader.now) in
     (length c.args.reader.now, omega arith, [], none_before all, c.in_ok-elements.ensures c.args.levels, omega arith)
 
-pub take_items-returns-in_err-judged-clause-err : goal.take_items-returns-in_err-judged-clause-err
-take_items-returns-in_err-judged-clause-err t c =
+pub take_items-returns-in_err-checked-clause-err : goal.take_items-returns-in_err-checked-clause-err
+take_items-returns-in_err-checked-clause-err t c =
     let p = value c.args.left in
     let l = c.items in
     let n = l.invariant.0 in
     let going : (after_end_array l.reader ≡ None) × (c.take_end_array.new.self ≡ l.reader) = grind arith in
-    let told = unread_since c.take_value.result (converted of_json (p c.take_end_array.new.self)) _
+    let told = read_error_since c.take_value.result (converted of_json (p c.take_end_array.new.self)) _
     (λ none. l.invariant.3 ∙ ap (parse_map (items_before l.invariant.2)) (item_refused p n l.reader going.0 (rw (← going.1) none))) c.take_value.ensures.err in
     search (rules, told)
 
@@ -146,10 +146,10 @@ take_items-items-preserved t c =
     let n = l.invariant.0 in
     let ds = l.invariant.2 in
     let going : (after_end_array l.reader ≡ None) × (c.take_end_array.new.self ≡ l.reader) = grind arith in
-    let found = c.in_ok-judged.ensures.ok in
+    let found = c.in_ok-checked.ensures.ok in
     let d = found.0 in
     let r = c.take_value.new.reader in
-    let less : length r < length l.reader = rw (← going.1) c.in_ok-judged.ensures.shorter in
+    let less : length r < length l.reader = rw (← going.1) c.in_ok-checked.ensures.shorter in
     let turn = item_read p n l.reader r d (omega (arith, l.invariant.1)) going.0 (rw (← going.1) found.1) in (
       n - 1,
       omega (arith, l.invariant.1),
@@ -167,7 +167,7 @@ take_items-returns-clause-ok t c =
     let r = c.take_end_array.new.self in
     let ds = l.invariant.2 in
     let read = l.invariant.3 ∙ ap (parse_map (items_before ds)) (items_over p n l.reader r l.invariant.1 (grind arith)) ∙ ap (λ es. Some (es, r)) (items_before-no_items ds) in
-    (_, read, c.in_ok-into_judged.ensures c.args.levels ds l.invariant.4)
+    (_, read, c.in_ok-into_checked.ensures c.args.levels ds l.invariant.4)
 
 pub take_members-members-init : goal.take_members-members-init
 take_members-members-init t c =
@@ -176,10 +176,10 @@ take_members-members-init t c =
 pub take_members-returns-in_err-name-clause-err : goal.take_members-returns-in_err-name-clause-err
 take_members-returns-in_err-name-clause-err t c =
     let l = c.members in
-    unread_at c.from_residual-in_err-name.result _ (l.invariant.3 ∙ key_refused (value c.args.left) l.invariant.2 l.invariant.0 l.reader c.in_err-name.ensures.value)
+    read_error_at c.from_residual-in_err-name.result _ (l.invariant.3 ∙ key_refused (value c.args.left) l.invariant.2 l.invariant.0 l.reader c.in_err-name.ensures.value)
 
-pub take_members-returns-in_err-judged-clause-err : goal.take_members-returns-in_err-judged-clause-err
-take_members-returns-in_err-judged-clause-err t c =
+pub take_members-returns-in_err-checked-clause-err : goal.take_members-returns-in_err-checked-clause-err
+take_members-returns-in_err-checked-clause-err t c =
     let p = value c.args.left in
     let l = c.members in
     let n = l.invariant.0 in
@@ -187,7 +187,7 @@ take_members-returns-in_err-judged-clause-err t c =
     let k = c.in-Some.name.now in
     let s = c.next_key.new.self in
     let named : read_key l.reader ≡ Some (Some k, s) = search rules in
-    let told = unread_since c.take_value.result (converted of_json (p s)) _
+    let told = read_error_since c.take_value.result (converted of_json (p s)) _
     (λ none. l.invariant.3 ∙ member_refused p old n k l.reader s named none) c.take_value.ensures.err in
     search (rules, told)
 
@@ -200,19 +200,19 @@ take_members-members-preserved t c =
     let k = c.in-Some.name.now in
     let s = c.next_key.new.self in
     let named : read_key l.reader ≡ Some (Some k, s) = search rules in
-    let found = c.in_ok-judged.ensures.ok in
+    let found = c.in_ok-checked.ensures.ok in
     let d = found.0 in
     let r = c.take_value.new.reader in
     let less = read_key-shorter l.reader (Some k) s named in
-    let lesser = c.in_ok-judged.ensures.shorter in
-    let one : Gathered = record { name = c.in_ok-name-2.name; judged = c.in_ok-judged.judged } in
+    let lesser = c.in_ok-checked.ensures.shorter in
+    let one : RawMember = record { name = c.in_ok-name-2.name; checked = c.in_ok-checked.checked } in
     let turn = member_read p old n k l.reader s r d (omega (arith, less, l.invariant.1)) named found.1 in (
       n - 1,
       omega (arith, l.invariant.1, less, lesser),
       put k d old,
       l.invariant.3 ∙ turn,
-      subst (λ (gs : List Gathered). AreGathered c.args.levels (put k d old) (put_all name_of gs [])) (sym c.in_ok-push_member.ensures) (subst (AreGathered c.args.levels (put k d old)) (sym (put_pushed name_of l.gathered.items one []))
-          (gathered_put c.args.levels k d old one (put_all name_of l.gathered.items []) c.in_ok-name-2.ensures found.2 l.invariant.4)),
+      subst (λ (gs : List RawMember). AreRawMembers c.args.levels (put k d old) (insert_all name_of gs [])) (sym c.in_ok-push_member.ensures) (subst (AreRawMembers c.args.levels (put k d old)) (sym (insert_pushed name_of l.raw_members.items one []))
+          (gathered_insert c.args.levels k d old one (insert_all name_of l.raw_members.items []) c.in_ok-name-2.ensures found.2 l.invariant.4)),
       omega (arith, l.invariant.5, less, lesser),
     )
 
@@ -223,5 +223,5 @@ take_members-returns-clause-ok t c =
     let n = l.invariant.0 in
     let r = c.next_key.new.self in
     let over : read_key l.reader ≡ Some (None, r) = search rules in
-    let gathered = subst (AreGathered c.args.levels l.invariant.2) (sym c.in_ok-ordered.ensures) l.invariant.4 in
-    (l.invariant.2, l.invariant.3 ∙ members_over p l.invariant.2 n l.reader r l.invariant.1 over, c.in_ok-judge_members.ensures c.args.levels l.invariant.2 gathered)
+    let raw_members = subst (AreRawMembers c.args.levels l.invariant.2) (sym c.in_ok-ordered.ensures) l.invariant.4 in
+    (l.invariant.2, l.invariant.3 ∙ members_over p l.invariant.2 n l.reader r l.invariant.1 over, c.in_ok-check_members.ensures c.args.levels l.invariant.2 raw_members)

@@ -1,6 +1,6 @@
 use Rattle.std.proofs.Common.{rules, sym, ◌∙◌}
 use Rattle.std.proofs.lemmas.Bool.{false≢true}
-use Rattle.stix_versions.proofs.PathLemmas.{path_begins, path_goes_on, path_ends}
+use Rattle.stix_versions.proofs.PathLemmas.{path_begins, path_continues, path_ends}
 use Rattle.stix_versions.proofs.selector.is_path.Goals as goal
 
 pub returns-then-not-is_part : goal.returns-then-not-is_part
@@ -12,7 +12,7 @@ returns-then-not-is_part c = (
 
 pub loop-part-preserved : goal.loop-part-preserved
 loop-part-preserved c =
-    let on = path_goes_on c.loop-part.rest.now (c.in-Some.part, c.in-Some.after) c.in-Some.ensures.cases (c.is_part.ensures.0 c.if-not-is_part.false) in
+    let on = path_continues c.loop-part.rest.now (c.in-Some.part, c.in-Some.after) c.in-Some.ensures.cases (c.is_part.ensures.0 c.if-not-is_part.false) in
     (search rules, (λ path. on.0 (c.loop-part.invariant.1.0 path), λ path. c.loop-part.invariant.1.1 (on.1 path)))
 
 pub returns : goal.returns

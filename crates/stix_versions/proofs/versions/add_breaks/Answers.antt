@@ -1,11 +1,11 @@
 use Rattle.std.proofs.Common.{◌↔◌, ◌+◌, ◌++◌, IsTrue, List, [], append-nil, sym, subst}
 use Rattle.stix_json.specs.declared.value.Json.{Json}
 use Rattle.stix_versions.specs.declared.version_break.VersionRule.TheVariants.{CreatedChanged, AfterRevoked, SameVersionTwice}
-use Rattle.stix_versions.specs.inner.Twins.{AreTwinsBefore}
+use Rattle.stix_versions.specs.inner.Duplicates.{AreDuplicatesBefore}
 use Rattle.stix_bundles.specs.Objects.{data_in}
 use Rattle.stix_versions.specs.Versions.{BreaksVersionRule}
 use Rattle.stix_versions.proofs.CreatedLemmas.{created_past}
-use Rattle.stix_versions.proofs.TwinsLemmas.{twins_past}
+use Rattle.stix_versions.proofs.DuplicatesLemmas.{duplicates_past}
 use Rattle.stix_versions.proofs.VersionBreaksLemmas.{so, none_broken, broken_where, told_where}
 use Rattle.stix_versions.proofs.versions.add_breaks.Goals as goal
 
@@ -16,12 +16,12 @@ returns-in_default-clause-told c =
 pub returns-in_default-clause-kept : goal.returns-in_default-clause-kept
 returns-in_default-clause-kept c = record {
   created = created_past (data_in c.args.bundle.now) c.args.at c.args.seen.now.created c.in_default.ensures.none c.requires.before.created;
-  twins = twins_past (data_in c.args.bundle.now) c.args.at c.args.seen.now.twins c.in_default.ensures.none c.requires.before.twins;
+  duplicates = duplicates_past (data_in c.args.bundle.now) c.args.at c.args.seen.now.duplicates c.in_default.ensures.none c.requires.before.duplicates;
 }
 
 pub add-requires-2-clause-before : goal.add-requires-2-clause-before
 add-requires-2-clause-before c =
-    subst (λ (values : List Json). AreTwinsBefore (data_in values) c.args.at c.args.seen.now.twins) (sym c.objects-objects.ensures.value) c.requires.before.twins
+    subst (λ (values : List Json). AreDuplicatesBefore (data_in values) c.args.at c.args.seen.now.duplicates) (sym c.objects-objects.ensures.value) c.requires.before.duplicates
 
 pub returns-clause-told : goal.returns-clause-told
 returns-clause-told c =
@@ -42,5 +42,5 @@ returns-clause-told c =
 pub returns-clause-kept : goal.returns-clause-kept
 returns-clause-kept c = record {
   created = c.in_ok-changed.ensures.kept (data_in c.args.bundle.now) c.args.at c.in-Some.ensures.some c.requires.before.created;
-  twins = subst (λ (values : List Json). AreTwinsBefore (data_in values) (c.args.at + 1) c.add-2.new.self) c.objects-objects.ensures.value c.in_ok-twice.ensures.kept;
+  duplicates = subst (λ (values : List Json). AreDuplicatesBefore (data_in values) (c.args.at + 1) c.add-2.new.self) c.objects-objects.ensures.value c.in_ok-twice.ensures.kept;
 }

@@ -3,7 +3,7 @@ use Rattle.flow_edges.specs.Flow.{written_with}
 use Rattle.stix_json.specs.Envelopes.{IsEnvelopeOf}
 use Rattle.taxii_client.specs.declared.reply_refusal.ReplyRefusal.TheVariants.{NotEnvelope}
 use Rattle.taxii_client.specs.declared.fetch_end.FetchEnd.TheVariants.{Refused, NoMemory}
-use Rattle.taxii_client.specs.Outside.{link_view}
+use Rattle.taxii_client.specs.Environment.{link_view}
 use Rattle.taxii_client.specs.Fetches.{Fetched, IsNoEnvelope}
 use Rattle.taxii_client.proofs.FetchLemmas.{passed_on, nothing_done, sink_side, source_side, reply_judged}
 use Rattle.taxii_client.proofs.fetching.fetch.Goals as goal

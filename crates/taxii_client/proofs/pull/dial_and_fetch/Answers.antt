@@ -1,5 +1,5 @@
 use Rattle.std.proofs.Common.{option_map}
-use Rattle.taxii_client.specs.Outside.{link_view}
+use Rattle.taxii_client.specs.Environment.{link_view}
 use Rattle.taxii_client.proofs.PullLemmas.{fetched_over}
 use Rattle.taxii_client.proofs.pull.dial_and_fetch.Goals as goal
 

@@ -1,5 +1,5 @@
 use Rattle.std.proofs.Common.{◌∙◌}
-use Rattle.taxii_rows.proofs.RiseLemmas.{found_among}
+use Rattle.taxii_rows.proofs.AscendLemmas.{found_among}
 use Rattle.taxii_memory.proofs.held.is_among.Goals as goal
 
 pub returns : goal.returns

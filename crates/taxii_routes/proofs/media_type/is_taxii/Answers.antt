@@ -4,8 +4,8 @@ use Rattle.taxii_routes.proofs.media_type.is_taxii.Goals as goal
 pub returns-then-is_named : goal.returns-then-is_named
 returns-then-is_named c =
     let taxii = taxii_some c.args.header.now (c.in-Some.range, c.in-Some.parameters) c.in-Some.ensures.cases in (
-      λ is. taxii.1 (c.is_named.ensures.0 c.if-is_named.true, c.says_no_other.ensures.0 is),
-      λ is. c.says_no_other.ensures.1 (taxii.0 is).1,
+      λ is. taxii.1 (c.is_named.ensures.0 c.if-is_named.true, c.names_no_other_version.ensures.0 is),
+      λ is. c.names_no_other_version.ensures.1 (taxii.0 is).1,
     )
 
 pub returns-in-None : goal.returns-in-None

@@ -1,7 +1,7 @@
 use Rattle.std.proofs.Common.{leb, ◌∙◌, rules}
 use Rattle.std.proofs.lemmas.List.Sorted.{IsPartitionedBy-leb, IsPartitionPoint-from_clause}
 use Rattle.taxii_rows.specs.declared.stored_row.StoredRow.{StoredRow}
-use Rattle.taxii_rows.proofs.RiseLemmas.{rows_never_fall, row_after_at, item_at}
+use Rattle.taxii_rows.proofs.AscendLemmas.{rows_never_fall, row_after_at, item_at}
 use Rattle.taxii_rows.proofs.by_date.row_after.Goals as goal
 
 pub returns : goal.returns

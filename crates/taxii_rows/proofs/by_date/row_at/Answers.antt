@@ -2,7 +2,7 @@ use Rattle.std.proofs.Common.{◌≡◌, ltb, ◌∙◌, sym, ap, inl, inr, opti
 use Rattle.std.proofs.lemmas.Bool.{cases_eq}
 use Rattle.std.proofs.lemmas.List.Sorted.{IsPartitionedBy-ltb, IsPartitionPoint-from_clause}
 use Rattle.taxii_rows.specs.declared.stored_row.StoredRow.{StoredRow}
-use Rattle.taxii_rows.proofs.RiseLemmas.{rows_never_fall, item_at, row_at_there, row_at_none}
+use Rattle.taxii_rows.proofs.AscendLemmas.{rows_never_fall, item_at, row_at_there, row_at_none}
 use Rattle.taxii_rows.proofs.by_date.row_at.Goals as goal
 
 pub returns-in-Some : goal.returns-in-Some

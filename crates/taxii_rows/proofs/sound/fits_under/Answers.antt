@@ -10,8 +10,8 @@ use Rattle.taxii_rows.proofs.sound.fits_under.Goals as goal
 pub returns-in-Some-true : goal.returns-in-Some-true
 returns-in-Some-true c =
     let own : SFits w64 c.args.row.now.version = search rules in
-    let told : SFits w64 c.in-Some-true.version = search rules in
-    dated_fits c.one_version.ensures.only c.args.set c.args.row.now (data_of c.args.object.now) c.in-Some-true.version c.in-Some-true.is-1 c.in-Some-true.ensures own told
+    let observable : SFits w64 c.in-Some-true.version = search rules in
+    dated_fits c.one_version.ensures.only c.args.set c.args.row.now (data_of c.args.object.now) c.in-Some-true.version c.in-Some-true.is-1 c.in-Some-true.ensures own observable
 
 pub returns-in-None-false : goal.returns-in-None-false
 returns-in-None-false c =

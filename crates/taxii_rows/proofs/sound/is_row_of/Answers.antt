@@ -13,6 +13,6 @@ returns c =
     let text = c.as_str.result.now in
     let text_is : text ≡ compact_text object = c.as_str.ensures ∙ c.in_ok-text.ensures.text in
     elim c.if-own.branch [
-      | then-own w ↦ row_of_text row object text w.is_told_by.result c.if-own.result text_is (c.has_body-own.ensures.0 w.if-own.true) w.is_told_by.ensures w.result-is
+      | then-own w ↦ row_of_text row object text w.has_id_and_version.result c.if-own.result text_is (c.has_body-own.ensures.0 w.if-own.true) w.has_id_and_version.ensures w.result-is
       | else-own w ↦ row_of_other_text row object text c.if-own.result text_is (λ same. false≢true (sym w.if-own.false ∙ c.has_body-own.ensures.1 same)) (w.result-is ∙ w.if-own.false)
     ]

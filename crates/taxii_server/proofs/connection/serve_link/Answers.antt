@@ -1,7 +1,7 @@
 use Rattle.std.proofs.Common.{◌∙◌, ◌+◌, inl, refl, arith}
-use Rattle.taxii_server.specs.Outside.{LinkView, link_view}
+use Rattle.taxii_server.specs.Environment.{LinkView, link_view}
 use Rattle.taxii_server.proofs.EndsLemmas.{finishes-leave, quiet-leave, finishes-answered, finishes-cut}
-use Rattle.taxii_server.proofs.OutsideLemmas.{sink_side, source_side}
+use Rattle.taxii_server.proofs.EnvironmentLemmas.{sink_side, source_side}
 use Rattle.taxii_server.proofs.TakesLemmas.{next-in-time}
 use Rattle.taxii_server.proofs.SoFarLemmas.{IsNextAnswer, so_far-start, so_far-received, received-in-time, so_far-next, few-next}
 use Rattle.taxii_server.proofs.connection.serve_link.Goals as goal
@@ -21,18 +21,18 @@ loop-request-init g c = record {
 pub returns-in-Err-receive-clause-serves : goal.returns-in-Err-receive-clause-serves
 returns-in-Err-receive-clause-serves g c =
     let read = sink_side (g.met.L.Link.unwritten c.loop-request.link) (g.met.L.Link.unwritten c.receive.new.link) c.in-Err-receive.ensures.unwritten in
-    let wrote = source_side (g.met.L.Link.unread c.receive.new.link) (g.met.L.Link.unread c.take_leave-in-Err-receive.new.link) c.take_leave-in-Err-receive.ensures.unread in
+    let wrote = source_side (g.met.L.Link.unread c.receive.new.link) (g.met.L.Link.unread c.write_closing_answer-in-Err-receive.new.link) c.write_closing_answer-in-Err-receive.ensures.unread in
     let link : LinkView = link_view g.L.Source.left g.L.Source.began g.L.Sink.written g.L.Source.faults g.L.Sink.faults c.args.link.now in
     let so_far = so_far-received {link = link} c.later_bytes_change_nothing.ensures c.loop-request.invariant.so_far c.in-Err-receive.ensures.receives read.0 in
     let in_time = received-in-time {link = link} c.later_bytes_change_nothing.ensures g.L.Source.left g.L.Source.began
     c.loop-request.link c.receive.new.link c.loop-request.invariant.so_far c.loop-request.invariant.in_time c.in-Err-receive.ensures.in_time in
-    finishes-leave {link = link} _ c.in-Err-receive.pause c.take_leave-in-Err-receive.result c.after-in-Err-receive.result so_far wrote.0
-    (rw (← c.loop-request.invariant.read_faults, wrote.1) c.in-Err-receive.ensures.receives.gives) c.take_leave-in-Err-receive.ensures.leave
-    (λ fine. rw (← c.loop-request.invariant.write_faults, ← read.1) (c.take_leave-in-Err-receive.ensures.causes fine).failed) (rw (wrote.0, wrote.2) in_time)
+    finishes-leave {link = link} _ c.in-Err-receive.receive_end c.write_closing_answer-in-Err-receive.result c.after-in-Err-receive.result so_far wrote.0
+    (rw (← c.loop-request.invariant.read_faults, wrote.1) c.in-Err-receive.ensures.receives.gives) c.write_closing_answer-in-Err-receive.ensures.leave
+    (λ fine. rw (← c.loop-request.invariant.write_faults, ← read.1) (c.write_closing_answer-in-Err-receive.ensures.causes fine).failed) (rw (wrote.0, wrote.2) in_time)
     (λ closed is.
-    let quiet = quiet-leave c.in-Err-receive.pause c.take_leave-in-Err-receive.result c.after-in-Err-receive.result _ closed c.after-in-Err-receive.ensures is
-    (λ failed. (c.take_leave-in-Err-receive.ensures.failed failed).0) (λ fine. c.in-Err-receive.ensures.quiet (λ failed. fine (cc failed)))
-    (λ fine. (c.take_leave-in-Err-receive.ensures.causes fine).quiet) in
+    let quiet = quiet-leave c.in-Err-receive.receive_end c.write_closing_answer-in-Err-receive.result c.after-in-Err-receive.result _ closed c.after-in-Err-receive.ensures is
+    (λ failed. (c.write_closing_answer-in-Err-receive.ensures.failed failed).0) (λ fine. c.in-Err-receive.ensures.quiet (λ failed. fine (cc failed)))
+    (λ fine. (c.write_closing_answer-in-Err-receive.ensures.causes fine).quiet) in
     (wrote.1 ∙ quiet.0 ∙ c.loop-request.invariant.read_faults, quiet.1 ∙ read.1 ∙ c.loop-request.invariant.write_faults))
     c.after-in-Err-receive.ensures
 
@@ -84,11 +84,11 @@ loop-request-preserved g c =
 
 pub returns-in-Err-clause-serves : goal.returns-in-Err-clause-serves
 returns-in-Err-clause-serves g c =
-    let wrote = source_side (g.met.L.Link.unread c.args.link.now) (g.met.L.Link.unread c.take_leave.new.link) c.take_leave.ensures.unread in
-    finishes-leave _ _ c.take_leave.result c.after.result (so_far-start _ _ _ _) wrote.0 tt c.take_leave.ensures.leave
-    (λ fine. (c.take_leave.ensures.causes fine).failed) (inl wrote.0)
+    let wrote = source_side (g.met.L.Link.unread c.args.link.now) (g.met.L.Link.unread c.write_closing_answer.new.link) c.write_closing_answer.ensures.unread in
+    finishes-leave _ _ c.write_closing_answer.result c.after.result (so_far-start _ _ _ _) wrote.0 tt c.write_closing_answer.ensures.leave
+    (λ fine. (c.write_closing_answer.ensures.causes fine).failed) (inl wrote.0)
     (λ closed is.
-    let quiet = quiet-leave {reads = 0} {reads_now = 0} _ c.take_leave.result c.after.result _ closed c.after.ensures is (λ failed. absurd (cc failed)) (λ fine. refl)
-    (λ fine. (c.take_leave.ensures.causes fine).quiet) in
+    let quiet = quiet-leave {reads = 0} {reads_now = 0} _ c.write_closing_answer.result c.after.result _ closed c.after.ensures is (λ failed. absurd (cc failed)) (λ fine. refl)
+    (λ fine. (c.write_closing_answer.ensures.causes fine).quiet) in
     (wrote.1, quiet.1))
     c.after.ensures

@@ -1,7 +1,7 @@
 use Rattle.std.proofs.Common.{◌≡◌, ◌-◌, ◌<◌}
 use Rattle.taxii_store.specs.Agreement.{Agrees, without_rows}
 use Rattle.taxii_server.specs.declared.connection.TheConstants.{MAX_REQUESTS}
-use Rattle.taxii_server.specs.Outside.{link_view}
+use Rattle.taxii_server.specs.Environment.{link_view}
 use Rattle.taxii_server.specs.inner.Receiving.{IsInTime}
 use Rattle.taxii_server.proofs.SoFarLemmas.{SoFar}
 use Rattle.taxii_server.proofs.connection.serve_link.Given as goal

@@ -1,6 +1,6 @@
 use Rattle.std.proofs.Common.{rules, arith, [], inr, refl, subst, ◌∙◌}
 use Rattle.flow_links.specs.Doors.{GivesNext}
-use Rattle.taxii_server.proofs.CallersLemmas.{no_pass, none_yet, one_more}
+use Rattle.taxii_server.proofs.ClientsLemmas.{no_pass, none_yet, one_more}
 use Rattle.taxii_server.proofs.door.serve_door.Goals as goal
 
 pub returns-in_err-listen-clause-serves : goal.returns-in_err-listen-clause-serves
@@ -20,12 +20,12 @@ loop-served-init g c = record {
 pub loop-served-preserved : goal.loop-served-preserved
 loop-served-preserved g c =
     let before = c.loop-served.invariant in record {
-      agrees = c.serve_caller.ensures.agrees;
-      keeper = c.serve_caller.ensures.keeper ∙ before.keeper;
-      config = c.serve_caller.ensures.config ∙ before.config;
+      agrees = c.serve_client.ensures.agrees;
+      keeper = c.serve_client.ensures.keeper ∙ before.keeper;
+      config = c.serve_client.ensures.config ∙ before.config;
       so_far = one_more _ _ _ _ _ _ _ _ _ _ _ _ _ _ _ _ _ before.so_far
-          (subst (λ found. GivesNext found (g.D.Door.told c.loop-served.door) (g.D.Door.told c.next.new.self)) c.in-Some.is c.in_ok-link.ensures.ok) before.config
-          c.serve_caller.ensures.serves c.serve_caller.ensures.few;
+          (subst (λ found. GivesNext found (g.D.Door.observable c.loop-served.door) (g.D.Door.observable c.next.new.self)) c.in-Some.is c.in_ok-link.ensures.ok) before.config
+          c.serve_client.ensures.serves c.serve_client.ensures.few;
       most = search rules;
-      quiet = c.serve_caller.ensures.quiet ∙ c.in_ok-link.ensures.causes.quiet (λ failed. absurd (cc failed)) ∙ before.quiet;
+      quiet = c.serve_client.ensures.quiet ∙ c.in_ok-link.ensures.causes.quiet (λ failed. absurd (cc failed)) ∙ before.quiet;
     }

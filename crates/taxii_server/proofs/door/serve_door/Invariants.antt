@@ -1,6 +1,6 @@
 use Rattle.std.proofs.Common.{◌-◌, ◌≡◌, ◌≤◌}
 use Rattle.taxii_store.specs.Agreement.{Agrees, without_rows}
-use Rattle.taxii_server.specs.Outside.{link_view}
+use Rattle.taxii_server.specs.Environment.{link_view}
 use Rattle.taxii_server.specs.inner.Serving.{SoFar}
 use Rattle.taxii_server.proofs.door.serve_door.Given as goal
 
@@ -12,7 +12,7 @@ invariant-loop-served g l = record {
   so_far : SoFar (link_view g.D.Link.Source.left g.D.Link.Source.began g.D.Link.Sink.written g.D.Link.Source.faults g.D.Link.Sink.faults)
       l.fn.server.config l.fn.server.state l.server.state l.port
       (record { moments = g.C.Clock.moments l.fn.clock; faults = g.K.Keeper.faults l.fn.keeper }) (record { moments = g.C.Clock.moments l.clock; faults = g.K.Keeper.faults l.keeper })
-      (g.D.Door.told l.fn.door) (g.D.Door.told l.door) l.served;
+      (g.D.Door.observable l.fn.door) (g.D.Door.observable l.door) l.served;
   most : l.served.connections ≤ l.connections;
   quiet : g.D.Door.faults l.door ≡ g.D.Door.faults l.fn.door;
 }

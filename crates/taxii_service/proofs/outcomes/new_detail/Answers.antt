@@ -3,15 +3,15 @@ use Rattle.std.proofs.lemmas.List.Elements.{All-contains}
 use Rattle.taxii_rows.specs.declared.stored_row.StoredRow.{StoredRow}
 use Rattle.taxii_rows.specs.declared.stored_row.TheConstants.{LAST_DATE}
 use Rattle.taxii_rows.specs.SoundRow.{IsSoundRow}
-use Rattle.taxii_rows.specs.StoreState.{dates_of, RiseFrom}
+use Rattle.taxii_rows.specs.StoreState.{dates_of, AscendFrom}
 use Rattle.taxii_rows.specs.Keeper.{row_at}
-use Rattle.taxii_service.proofs.RowLemmas.{rise_from_1, row_found, row_missing, success_row}
+use Rattle.taxii_service.proofs.RowLemmas.{ascend_from_1, row_found, row_missing, success_row}
 use Rattle.taxii_service.proofs.outcomes.new_detail.Goals as goal
 
 pub row_at-requires : goal.row_at-requires
 row_at-requires c =
-    subst (λ (rows : List StoredRow). RiseFrom 1 (dates_of rows)) (sym c.rows-rows.ensures.rows)
-    (rise_from_1 (c.args.planned.now.mark + 1) (dates_of c.args.planned.now.rows) (omega arith) c.rows-rows.ensures.sound.rise)
+    subst (λ (rows : List StoredRow). AscendFrom 1 (dates_of rows)) (sym c.rows-rows.ensures.rows)
+    (ascend_from_1 (c.args.planned.now.watermark + 1) (dates_of c.args.planned.now.rows) (omega arith) c.rows-rows.ensures.sound.ascend)
 
 pub success_detail-requires : goal.success_detail-requires
 success_detail-requires c =

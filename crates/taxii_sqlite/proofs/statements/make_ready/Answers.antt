@@ -9,14 +9,14 @@ pub returns-then-branch-eq0 : goal.returns-then-branch-eq0
 returns-then-branch-eq0 g c = record {
   ready = λ clean.
       let read = c.count_early_rows.ensures.clean clean in
-      let taken = c.read_mark.ensures.clean read in
+      let taken = c.read_watermark.ensures.clean read in
       record {
         taken = c.take.new.connection;
-        marked = c.read_mark.new.connection;
-        mark = c.in_ok-_mark._mark;
+        marked = c.read_watermark.new.connection;
+        watermark = c.in_ok-_watermark._watermark;
         takes = c.in_ok-take.ensures.taken taken;
-        has_mark = c.in_ok-_mark.ensures.asks read;
-        has_none_early = let none : c.in_ok-count_early_rows.field-0 ≡ pos 0 = search (rules, ints) in subst (λ count. AnswersCount (state g.S.Store c.read_mark.new.connection) (state g.S.Store c.count_early_rows.new.connection) count) none (c.in_ok-count_early_rows.ensures.asks clean);
+        has_watermark = c.in_ok-_watermark.ensures.asks read;
+        has_none_early = let none : c.in_ok-count_early_rows.field-0 ≡ pos 0 = search (rules, ints) in subst (λ count. AnswersCount (state g.S.Store c.read_watermark.new.connection) (state g.S.Store c.count_early_rows.new.connection) count) none (c.in_ok-count_early_rows.ensures.asks clean);
       };
-  clean = λ clean. c.take.ensures.clean (c.read_mark.ensures.clean (c.count_early_rows.ensures.clean clean));
+  clean = λ clean. c.take.ensures.clean (c.read_watermark.ensures.clean (c.count_early_rows.ensures.clean clean));
 }

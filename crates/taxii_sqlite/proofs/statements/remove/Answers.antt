@@ -1,4 +1,4 @@
--- The mark was written, and then the rows were removed.
+-- The watermark was written, and then the rows were removed.
 use Rattle.sqlite.specs.Held.{state}
 use Rattle.taxii_sqlite.proofs.StepLemmas.{both}
 use Rattle.taxii_sqlite.proofs.statements.remove.Goals as goal

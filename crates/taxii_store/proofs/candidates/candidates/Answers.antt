@@ -6,8 +6,8 @@ use Rattle.taxii_store.proofs.candidates.candidates.Goals as goal
 
 pub returns-then-asks_for_version-clause-candidates : goal.returns-then-asks_for_version-clause-candidates
 returns-then-asks_for_version-clause-candidates c =
-    candidates_behind c.args.query.now c.args.library.now.rows c.rows_behind.result.now c.cursor.result c.rows-rows.ensures.sound.rise
-    (subst (λ (rows : List StoredRow). IsCutAt c.cursor.result rows c.rows_behind.result.now) c.rows-rows.ensures.rows c.rows_behind.ensures)
+    candidates_behind c.args.query.now c.args.library.now.rows c.rows_after.result.now c.cursor.result c.rows-rows.ensures.sound.ascend
+    (subst (λ (rows : List StoredRow). IsCutAt c.cursor.result rows c.rows_after.result.now) c.rows-rows.ensures.rows c.rows_after.ensures)
     c.cursor.ensures (c.asks_for_version.ensures.0 c.if-asks_for_version.true)
 
 pub returns-else-asks_for_version-clause-candidates : goal.returns-else-asks_for_version-clause-candidates

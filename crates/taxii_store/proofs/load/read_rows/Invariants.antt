@@ -10,5 +10,5 @@ abbrev pub invariant-loop-rows : goal.invariant-loop-rows
 invariant-loop-rows g l =
     (g.K.Keeper.kept l.keeper ≡ g.K.Keeper.kept l.fn.keeper)
     × (g.K.Keeper.faults l.keeper ≡ g.K.Keeper.faults l.fn.keeper)
-    × AreGood l.mark l.after l.rows
-    × IfSome (g.K.Keeper.kept l.fn.keeper).told (λ state. IsReadTo state l.rows l.after)
+    × AreGood l.watermark l.after l.rows
+    × IfSome (g.K.Keeper.kept l.fn.keeper).observable (λ state. IsReadTo state l.rows l.after)

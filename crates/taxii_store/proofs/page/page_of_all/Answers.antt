@@ -19,14 +19,14 @@ loop-row-init c = (
 pub meets-requires : goal.meets-requires
 meets-requires c = record {
   there = chosen_own c.args.library.now.rows c.args.collection (option_map (λ (id : Bor Id). id.now) c.args.only) c.args.query.now c.candidates-later.result.now c.loop-row.row-index c.row-item.result
-      (chosen_behind c.args.library.now.rows c.args.collection (option_map (λ (id : Bor Id). id.now) c.args.only) c.args.query.now c.candidates-later.result.now c.candidates-later.ensures.rise c.candidates-later.ensures.candidates) c.loop-row-test.true c.row-item.is;
+      (chosen_behind c.args.library.now.rows c.args.collection (option_map (λ (id : Bor Id). id.now) c.args.only) c.args.query.now c.candidates-later.result.now c.candidates-later.ensures.ascend c.candidates-later.ensures.candidates) c.loop-row-test.true c.row-item.is;
 }
 
 pub returns-then-len-size : goal.returns-then-len-size
 returns-then-len-size c =
     page_full c.args.library.now.rows c.args.collection (option_map (λ (id : Bor Id). id.now) c.args.only) c.args.query.now c.candidates-later.result.now
     (map (λ (row : Bor StoredRow). row.now) c.loop-row.rows.items) c.loop-row.row-index c.row-item.result
-    (chosen_behind c.args.library.now.rows c.args.collection (option_map (λ (id : Bor Id). id.now) c.args.only) c.args.query.now c.candidates-later.result.now c.candidates-later.ensures.rise c.candidates-later.ensures.candidates) c.loop-row-test.true c.row-item.is ((c.meets.ensures.meets c.args.collection (option_map (λ (id : Bor Id). id.now) c.args.only) c.args.query.now c.loop-row.invariant.2 (candidate_can c.args.query.now c.args.library.now.rows c.candidates-later.result.now c.loop-row.row-index c.row-item.result c.candidates-later.ensures.candidates c.loop-row-test.true c.row-item.is)).0 c.if-meets.true) c.loop-row.invariant.0
+    (chosen_behind c.args.library.now.rows c.args.collection (option_map (λ (id : Bor Id). id.now) c.args.only) c.args.query.now c.candidates-later.result.now c.candidates-later.ensures.ascend c.candidates-later.ensures.candidates) c.loop-row-test.true c.row-item.is ((c.meets.ensures.meets c.args.collection (option_map (λ (id : Bor Id). id.now) c.args.only) c.args.query.now c.loop-row.invariant.2 (candidate_can c.args.query.now c.args.library.now.rows c.candidates-later.result.now c.loop-row.row-index c.row-item.result c.candidates-later.ensures.candidates c.loop-row-test.true c.row-item.is)).0 c.if-meets.true) c.loop-row.invariant.0
     (length-map c.loop-row.rows.items (λ (row : Bor StoredRow). row.now) ∙ sym c.loop-row.rows.ok.0 ∙ sym c.len.ensures ∙ c.if-len-size.true ∙ c.page_size-size.ensures)
 
 pub loop-row-preserved : goal.loop-row-preserved
@@ -63,7 +63,7 @@ pub returns : goal.returns
 returns c =
     page_whole c.args.library.now.rows c.args.collection (option_map (λ (id : Bor Id). id.now) c.args.only) c.args.query.now c.candidates-later.result.now
     (map (λ (row : Bor StoredRow). row.now) c.loop-row.rows.items)
-    (chosen_behind c.args.library.now.rows c.args.collection (option_map (λ (id : Bor Id). id.now) c.args.only) c.args.query.now c.candidates-later.result.now c.candidates-later.ensures.rise c.candidates-later.ensures.candidates)
+    (chosen_behind c.args.library.now.rows c.args.collection (option_map (λ (id : Bor Id). id.now) c.args.only) c.args.query.now c.candidates-later.result.now c.candidates-later.ensures.ascend c.candidates-later.ensures.candidates)
     (c.loop-row.invariant.0 ∙ ap (meeting c.args.library.now.rows c.args.collection (option_map (λ (id : Bor Id). id.now) c.args.only) c.args.query.now)
     (take_all c.loop-row.row-index c.candidates-later.result.now c.loop-row-test.false))
     (omega (arith, length-map c.loop-row.rows.items (λ (row : Bor StoredRow). row.now), c.loop-row.invariant.1, c.page_size-size.ensures))

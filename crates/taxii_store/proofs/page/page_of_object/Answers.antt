@@ -56,7 +56,7 @@ returns-then-len-size c =
     let are = subst (λ (lent : List (Bor StoredRow)). AreRowsOf collection id rows (map (λ row. row.now) lent)) (sym c.as_slice-row-items.ensures.value) c.in_ok-own.ensures in
     let here = lent_at lent i c.row-item.result c.loop-row-test.true c.row-item.is in
     let version = c.asks_for_version.ensures.0 c.if-not-asks_for_version.false in
-    let can = own_can query c.cursor-after.result walked i row are.rise here.0 here.1 c.cursor-after.ensures version c.if-row-after.true in
+    let can = own_can query c.cursor-after.result walked i row are.ascend here.0 here.1 c.cursor-after.ensures version c.if-row-after.true in
     let meets = (c.meets.ensures.meets collection (Some id) query c.loop-row.invariant.2 can).0 c.if-meets.true in
     page_full rows collection (Some id) query walked (map now c.loop-row.rows.items) i row
     (chosen_of_object rows collection id query walked are) here.0 here.1 meets c.loop-row.invariant.0
@@ -79,7 +79,7 @@ loop-row-preserved c =
     let version = c.asks_for_version.ensures.0 c.if-not-asks_for_version.false in
     elim c.if-row-after.branch [
       | then-row-after+then-meets+else-len-size+in_ok-push w ↦
-          let can = own_can query after walked i row are.rise here.0 here.1 c.cursor-after.ensures version w.if-row-after.true in
+          let can = own_can query after walked i row are.ascend here.0 here.1 c.cursor-after.ensures version w.if-row-after.true in
           let meets = (w.meets.ensures.meets collection (Some id) query c.loop-row.invariant.2 can).0 w.if-meets.true in
           let pushed = ap (λ (v : Vec (Bor StoredRow) Global). v.items) w.rows-is ∙ w.in_ok-push.ensures.items in
           let grown = ap length pushed ∙ length-append c.loop-row.rows.items (_ ∷ []) in (
@@ -90,20 +90,20 @@ loop-row-preserved c =
           )
       | else-row-after w ↦
           let kept = ap (λ (v : Vec (Bor StoredRow) Global). v.items) w.rows-is in
-          let told : (¬ Meets rows collection (Some id) query row) × Asks collection (Some id) query c.if-row-after.asked = elim w.else-row-after.branch [
+          let observable : (¬ Meets rows collection (Some id) query row) × Asks collection (Some id) query c.if-row-after.asked = elim w.else-row-after.branch [
             | else-row-after-via-then-row-after+else-meets v ↦
-                let can = own_can query after walked i row are.rise here.0 here.1 c.cursor-after.ensures version v.if-row-after.true in (
+                let can = own_can query after walked i row are.ascend here.0 here.1 c.cursor-after.ensures version v.if-row-after.true in (
                   λ meets. let wrong = subst IsTrue v.if-meets.false ((v.meets.ensures.meets collection (Some id) query c.loop-row.invariant.2 can).1 meets) in absurd (cc wrong),
                   subst (Asks collection (Some id) query) (sym (w.asked-is ∙ v.asked-is)) (v.meets.ensures.same collection (Some id) query c.loop-row.invariant.2),
                 )
             | else-row-after-via-else-row-after v ↦ (
-              own_never rows collection (Some id) query after walked i row are.rise here.0 here.1 c.cursor-after.ensures v.if-row-after.false,
+              own_never rows collection (Some id) query after walked i row are.ascend here.0 here.1 c.cursor-after.ensures v.if-row-after.false,
               subst (Asks collection (Some id) query) (sym (w.asked-is ∙ v.asked-is)) c.loop-row.invariant.2,
             )
           ] in (
-            ap (map now) kept ∙ c.loop-row.invariant.0 ∙ sym (meeting_same rows collection (Some id) query walked i row here.0 here.1 told.0),
+            ap (map now) kept ∙ c.loop-row.invariant.0 ∙ sym (meeting_same rows collection (Some id) query walked i row here.0 here.1 observable.0),
             omega (arith, ap length kept, c.loop-row.invariant.1),
-            told.1,
+            observable.1,
           )
     ]
 

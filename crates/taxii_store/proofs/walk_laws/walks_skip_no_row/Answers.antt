@@ -2,11 +2,11 @@ use Rattle.std.proofs.Common.{slice_index_or}
 use Rattle.std.proofs.lemmas.List.Elements.{All-contains_itself}
 use Rattle.std.specs.Prelude.{None}
 use Rattle.taxii_store.specs.Walk.{rows_given}
-use Rattle.taxii_store.proofs.WalkLemmas.{rises, asked, whole, dated}
+use Rattle.taxii_store.proofs.WalkLemmas.{ascends, asked, whole, dated}
 use Rattle.taxii_store.proofs.walk_laws.walks_skip_no_row.Goals as goal
 
 pub returns-clause-once : goal.returns-clause-once
-returns-clause-once c wanted first others walk = rises wanted None first others walk.goes
+returns-clause-once c wanted first others walk = ascends wanted None first others walk.goes
 
 pub returns-clause-asked : goal.returns-clause-asked
 returns-clause-asked c wanted first others walk k d within =

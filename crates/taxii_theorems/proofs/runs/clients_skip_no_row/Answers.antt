@@ -6,10 +6,10 @@ use Rattle.taxii_theorems.proofs.WalkLemmas.{walked}
 use Rattle.taxii_theorems.proofs.runs.clients_skip_no_row.Goals as goal
 
 pub returns : goal.returns
-returns c store after runs wanted first others dated within go_on followed =
+returns c store after runs wanted first others dated within proceed followed =
     let histories : Histories = record { history = c.requests_make_history.ensures.history; dated = c.requests_make_history.ensures.dated } in
     let chain = among_chain store (first ∷ others) (rounds_of runs) followed.among
-    (rounds_chain histories store after runs (record { dated = dated; within = within }) go_on) in
+    (rounds_chain histories store after runs (record { dated = dated; within = within }) proceed) in
     let walk = walked c.gets_are_paged.ensures c.nexts_read_back.ensures wanted None None store first others refl chain followed.fetches in
     let its : IsWalk wanted walk.first walk.others = record { start = followed.start; goes = walk.goes } in
     record {

@@ -11,7 +11,7 @@ use Rattle.alert_window.proofs.watch.Watch.take.Goals as goal
 use Rattle.alert_window.proofs.watch.Watch.take.Goals.{in_default-via-in-None-1, in_default-via-in-Some+else-lt, then-holds+in_ok-alert, else-holds}
 
 pub returns-2-clause-answers : goal.returns-2-clause-answers
-returns-2-clause-answers c = λ log stands order.
+returns-2-clause-answers c = λ log represents order.
     let before = c.args.self.now in
     let after : WatchState = the_view (record {
       seconds = c.self-2.inside.seconds;
@@ -43,12 +43,12 @@ returns-2-clause-answers c = λ log stands order.
           (subst (λ (answer : Bool). IsTrue answer ↔ IsReached before.n before.x w.keep.new.self.kept c.args.first c.args.last) (sym w.alert-is) w.in_ok-alert.ensures.reached)
           in
           subst (λ (h : Bool). AnswersRow before after (with_row log c.args.first c.args.last h) c.if-holds.alert) (sym w.if-holds.true)
-          (answer_matching before after log c.args.first c.args.last c.if-holds.alert some stands order c.requires.span later follows kept reached)
+          (answer_matching before after log c.args.first c.args.last c.if-holds.alert some represents order c.requires.span later follows kept reached)
       | else-holds w ↦
           let joined = c.self-2.view_is ∙ w.self-is in
           let follows : Follows before after c.args.last = record { n = ap (λ (s : WatchState). s.n) joined; rows = rows; last_is = refl } in
           let kept : after.kept ≡ before.kept = ap (λ (s : WatchState). s.kept) joined in
           subst (λ (h : Bool). AnswersRow before after (with_row log c.args.first c.args.last h) c.if-holds.alert) (sym w.if-holds.false)
           (subst (λ (answer : Bool). AnswersRow before after (with_row log c.args.first c.args.last false) answer) (sym (w.alert-is ∙ w.if-holds.false))
-          (answer_other before after log c.args.first c.args.last some stands order c.requires.span later follows kept))
+          (answer_other before after log c.args.first c.args.last some represents order c.requires.span later follows kept))
     ]

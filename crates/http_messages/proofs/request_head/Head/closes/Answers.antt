@@ -1,7 +1,7 @@
 use Rattle.std.proofs.Common.{◌∙◌, ap, map, List, ℕ, Bor}
 use Rattle.http_messages.specs.Fields.{asks_to_close}
 use Rattle.http_messages.proofs.ValueLemmas.{any_of}
-use Rattle.http_messages.proofs.RequestJudgeLemmas.{close_old, close_new}
+use Rattle.http_messages.proofs.RequestCheckLemmas.{close_old, close_new}
 use Rattle.http_messages.proofs.request_head.Head.closes.Goals as goal
 use Rattle.http_messages.proofs.request_head.Head.closes.Goals.{then-minor-eq0, else-minor-eq0}
 

@@ -1,5 +1,5 @@
 use Rattle.std.proofs.Common.{◌∙◌, ap, map, List, ℕ, Bor}
-use Rattle.http_messages.proofs.RequestJudgeLemmas.{bad_length}
+use Rattle.http_messages.proofs.RequestCheckLemmas.{bad_length}
 use Rattle.http_messages.proofs.request_head.Head.has_bad_length.Goals as goal
 
 pub returns : goal.returns

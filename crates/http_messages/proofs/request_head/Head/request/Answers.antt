@@ -2,7 +2,7 @@ use Rattle.std.proofs.Common.{◌∙◌, ap, map, List, ℕ, Bor}
 use Rattle.std.specs.Str.{is_utf8}
 use Rattle.std.proofs.lemmas.Str.{is_utf8-from_IsUtf8}
 use Rattle.http_messages.proofs.ValueLemmas.{all_of}
-use Rattle.http_messages.proofs.RequestJudgeLemmas.{are_texts}
+use Rattle.http_messages.proofs.RequestCheckLemmas.{are_texts}
 use Rattle.http_messages.proofs.request_head.Head.request.Goals as goal
 
 pub text_of-requires : goal.text_of-requires

@@ -1,7 +1,7 @@
 -- A new engine has its tables, and stands for no rows.
 use Rattle.std.proofs.Common.{rules, ◌∙◌, refl, sym, ap, [], map}
 use Rattle.std.proofs.lemmas.List.{length-map}
-use Rattle.hunt_engine.proofs.JudgeLemmas.{clear_repeated}
+use Rattle.hunt_engine.proofs.EvaluateLemmas.{clear_repeated}
 use Rattle.hunt_engine.proofs.engine.Engine.new.Goals as goal
 
 pub invariant_of-result : goal.invariant_of-result
@@ -10,16 +10,16 @@ invariant_of-result c = record {
   sound = c.in_ok-brackets.ensures.sound;
   brackets_are = c.in_ok-brackets.ensures.leaves;
   index_is = c.in_ok-index.ensures ∙ ap (map (λ leaf. leaf.now)) c.as_slice-2.ensures.value;
-  followers_are = c.in_ok-followers.ensures.count;
+  lazy_matchers_are = c.in_ok-lazy_matchers.ensures.count;
   marks_are = search rules;
   clear = λ runs. clear_repeated c.len.result c.in_ok-marks.marks.items (c.in_ok-marks.ensures.items_if_clones_equal (search rules));
 }
 
-pub returns-clause-stands : goal.returns-clause-stands
-returns-clause-stands c = record {
+pub returns-clause-represents : goal.returns-clause-represents
+returns-clause-represents c = record {
   runs = refl;
   rows_are = refl;
   last_is = refl;
-  count = c.in_ok-followers.ensures.count ∙ sym (length-map c.args.hunted.now (λ h. h.pattern));
-  each = λ place p follower at there. ([], tt, c.in_ok-followers.ensures.each place p follower at there);
+  count = c.in_ok-lazy_matchers.ensures.count ∙ sym (length-map c.args.hunted.now (λ h. h.pattern));
+  each = λ position p lazy_matcher at there. ([], tt, c.in_ok-lazy_matchers.ensures.each position p lazy_matcher at there);
 }

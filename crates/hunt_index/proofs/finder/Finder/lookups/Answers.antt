@@ -21,8 +21,8 @@ loop-root-preserved c =
 
 pub returns-clause-asks : goal.returns-clause-asks
 returns-clause-asks c = λ root has lookup leads.
-    c.each_lookup_once.ensures.keeps lookup
+    c.dedup_lookups.ensures.keeps lookup
     (c.loop-root.invariant.0 root (subst (λ (l : List ℕ). Contains l root) (sym (take_whole c.args.roots.now c.loop-root.root-index c.loop-root-test.false)) has) lookup leads)
 
 pub returns-clause-seen : goal.returns-clause-seen
-returns-clause-seen c = λ lookup has. c.loop-root.invariant.1 lookup (c.each_lookup_once.ensures.only lookup has)
+returns-clause-seen c = λ lookup has. c.loop-root.invariant.1 lookup (c.dedup_lookups.ensures.only lookup has)

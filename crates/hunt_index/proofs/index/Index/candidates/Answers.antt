@@ -14,11 +14,11 @@ returns c =
     let roots = c.args.roots.now in
     let brackets = map (λ leaf. leaf.now) c.self.inside.brackets.items in
     let finder = c.self.inside.finder in
-    let own = c.each_once-roots.result.items in
-    let places = c.in_ok-places.places.items in
-    let result = c.each_once.result.items in
-    let same_roots = λ (n : ℕ). subst (λ (l : List ℕ). Contains own n ↔ Contains l n) c.in_ok-roots.ensures.items (c.each_once-roots.ensures.same n) in
-    let found = subst (λ (l : List ℕ). FindsPlaces finder objects l places) c.as_slice.ensures.value c.in_ok-places.ensures in
-    let all = are_candidates brackets finder objects roots own places result c.self.invariant same_roots found c.each_once.ensures.same c.each_once.ensures.rise in
+    let own = c.sort_dedup-roots.result.items in
+    let brackets_found = c.in_ok-brackets_found.brackets_found.items in
+    let result = c.sort_dedup.result.items in
+    let same_roots = λ (n : ℕ). subst (λ (l : List ℕ). Contains own n ↔ Contains l n) c.in_ok-roots.ensures.items (c.sort_dedup-roots.ensures.same n) in
+    let found = subst (λ (l : List ℕ). FindsPlaces finder objects l brackets_found) c.as_slice.ensures.value c.in_ok-brackets_found.ensures in
+    let all = are_candidates brackets finder objects roots own brackets_found result c.self.invariant same_roots found c.sort_dedup.ensures.same c.sort_dedup.ensures.ascend in
     let seen = subst (λ (leaves : List Leaf). AreCandidates objects roots (map plain_leaf leaves) result) c.self.view_is all in
     subst (λ (l : List ℕ). AreCandidates objects roots (map plain_leaf c.args.self.now) l) (sym c.from_vec.ensures) seen

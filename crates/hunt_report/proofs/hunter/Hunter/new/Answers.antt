@@ -1,5 +1,5 @@
 use Rattle.std.proofs.Common.{rules}
-use Rattle.hunt_report.proofs.SightLemmas.{nothing_seen, nothing_in_order}
+use Rattle.hunt_report.proofs.HitSummaryLemmas.{nothing_seen, nothing_in_order}
 use Rattle.hunt_report.proofs.HunterLemmas.{hunts-none}
 use Rattle.hunt_report.proofs.hunter.Hunter.new.Goals as goal
 
@@ -11,12 +11,12 @@ new-requires-clause-narrow c = λ k x inside. (c.requires k x inside).narrow
 
 pub invariant_of-result : goal.invariant_of-result
 invariant_of-result c =
-    let items = c.in_ok-sights.ensures.items_if_clones_equal (search rules) in record {
+    let items = c.in_ok-hit_summaries.ensures.items_if_clones_equal (search rules) in record {
       count = search rules;
-      order = nothing_in_order _ c.in_ok-sights.sights.items items;
+      order = nothing_in_order _ c.in_ok-hit_summaries.hit_summaries.items items;
     }
 
 pub returns-clause-hunts : goal.returns-clause-hunts
 returns-clause-hunts c =
-    hunts-none _ c.in_ok-engine.ensures.patterns c.in_ok-engine.ensures.stands (search rules)
-    (nothing_seen _ c.in_ok-sights.sights.items (c.in_ok-sights.ensures.items_if_clones_equal (search rules)))
+    hunts-none _ c.in_ok-engine.ensures.patterns c.in_ok-engine.ensures.represents (search rules)
+    (nothing_seen _ c.in_ok-hit_summaries.hit_summaries.items (c.in_ok-hit_summaries.ensures.items_if_clones_equal (search rules)))

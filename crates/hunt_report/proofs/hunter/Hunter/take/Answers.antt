@@ -2,12 +2,12 @@ use Rattle.std.proofs.Common.{◌≡◌, ◌<◌, ◌++◌, ℕ, Err, List, [], 
 use Rattle.std.specs.Prelude.{All}
 use Rattle.stix_bundles.specs.Objects.{data_in}
 use Rattle.match_stream.specs.MatcherState.{Falls}
-use Rattle.hunt_engine.specs.declared.found.Found.{Found}
+use Rattle.hunt_engine.specs.declared.found.Hit.{Hit}
 use Rattle.hunt_engine.specs.EngineLog.{row_of}
-use Rattle.hunt_engine.specs.Known.{brackets_of, IsRight}
+use Rattle.hunt_engine.specs.Memo.{brackets_of, IsSoundMemo}
 use Rattle.hunt_report.specs.Hunting.{HunterState, patterns_of, IsReady}
 use Rattle.hunt_report.specs.inner.Noting.{all_noted}
-use Rattle.hunt_report.specs.inner.Telling.{TakesRow, EndsAtRow}
+use Rattle.hunt_report.specs.inner.HitReporting.{TakesRow, EndsAtRow}
 use Rattle.hunt_report.proofs.HunterLemmas.{right-engine, right-hunted, takes-row, ends-engine, hits-inside, seen-before}
 use Rattle.hunt_report.proofs.hunter.Hunter.take.Goals as goal
 
@@ -16,15 +16,15 @@ take-requires-clause-ready c = λ runs. let ready = subst IsReady (sym c.self.vi
 
 pub take-requires-clause-right : goal.take-requires-clause-right
 take-requires-clause-right c =
-    let before : HunterState = record { hunted = c.self.inside.hunted.now; engine = c.self.inside.engine; sights = c.self.inside.sights.items } in
-    right-engine before (data_in c.args.bundle.now) c.args.known.now (subst IsReady (sym c.self.view_is) c.requires.ready)
-    (subst (λ (s : HunterState). IsRight (data_in c.args.bundle.now) (brackets_of (patterns_of s.hunted)) c.args.known.now) (sym c.self.view_is) c.requires.right)
+    let before : HunterState = record { hunted = c.self.inside.hunted.now; engine = c.self.inside.engine; hit_summaries = c.self.inside.hit_summaries.items } in
+    right-engine before (data_in c.args.bundle.now) c.args.memo.now (subst IsReady (sym c.self.view_is) c.requires.ready)
+    (subst (λ (s : HunterState). IsSoundMemo (data_in c.args.bundle.now) (brackets_of (patterns_of s.hunted)) c.args.memo.now) (sym c.self.view_is) c.requires.right)
 
 pub returns-clause-right : goal.returns-clause-right
 returns-clause-right c =
-    let before : HunterState = record { hunted = c.self.inside.hunted.now; engine = c.self.inside.engine; sights = c.self.inside.sights.items } in
-    subst (λ (s : HunterState). IsRight (data_in c.args.bundle.now) (brackets_of (patterns_of s.hunted)) c.take.new.known) c.self.view_is
-    (right-hunted before (data_in c.args.bundle.now) c.take.new.known (subst IsReady (sym c.self.view_is) c.requires.ready) c.in-Ok.ensures.right)
+    let before : HunterState = record { hunted = c.self.inside.hunted.now; engine = c.self.inside.engine; hit_summaries = c.self.inside.hit_summaries.items } in
+    subst (λ (s : HunterState). IsSoundMemo (data_in c.args.bundle.now) (brackets_of (patterns_of s.hunted)) c.take.new.memo) c.self.view_is
+    (right-hunted before (data_in c.args.bundle.now) c.take.new.memo (subst IsReady (sym c.self.view_is) c.requires.ready) c.in-Ok.ensures.right)
 
 pub end_of-requires : goal.end_of-requires
 end_of-requires c is =
@@ -35,25 +35,25 @@ end_of-requires c is =
 pub returns-in-Err-clause-end : goal.returns-in-Err-clause-end
 returns-in-Err-clause-end c =
     let row = row_of c.args.observation.now (data_in c.args.bundle.now) in
-    let before : HunterState = record { hunted = c.self.inside.hunted.now; engine = c.self.inside.engine; sights = c.self.inside.sights.items } in
+    let before : HunterState = record { hunted = c.self.inside.hunted.now; engine = c.self.inside.engine; hit_summaries = c.self.inside.hit_summaries.items } in
     let ready : IsReady before = subst IsReady (sym c.self.view_is) c.requires.ready in
     subst (λ (s : HunterState). EndsAtRow row s c.end_of.result) c.self.view_is
     (subst (EndsAtRow row before) (sym c.end_of.ensures)
     (ends-engine row before c.in-Err.refusal (λ is. let ended = c.in-Err.ensures.ended.0 (ap Err is) in let runs = ready.hunts.engine.runs in cc)
-    (λ rows stands place number cap is. c.in-Err.ensures.crowded rows stands place number cap (ap Err is))))
+    (λ rows represents place number retained_limit is. c.in-Err.ensures.over_limit rows represents place number retained_limit (ap Err is))))
 
-pub note_all-requires-clause-inside : goal.note_all-requires-clause-inside
-note_all-requires-clause-inside c =
+pub count_all-requires-clause-inside : goal.count_all-requires-clause-inside
+count_all-requires-clause-inside c =
     let row = row_of c.args.observation.now (data_in c.args.bundle.now) in
-    let before : HunterState = record { hunted = c.self.inside.hunted.now; engine = c.self.inside.engine; sights = c.self.inside.sights.items } in
+    let before : HunterState = record { hunted = c.self.inside.hunted.now; engine = c.self.inside.engine; hit_summaries = c.self.inside.hit_summaries.items } in
     let ready : IsReady before = subst IsReady (sym c.self.view_is) c.requires.ready in
-    let all = hits-inside before (ready.rows ++ row ∷ []) c.in-Ok.hits ready.hunts.patterns (c.in-Ok.ensures.tells ready.rows ready.hunts.engine) in
-    subst (λ (hits : List Found). All (λ hit. hit.hunted < length c.self.inside.sights.items) hits) (sym c.as_slice.ensures)
+    let all = hits-inside before (ready.rows ++ row ∷ []) c.in-Ok.hits ready.hunts.patterns (c.in-Ok.ensures.reports ready.rows ready.hunts.engine) in
+    subst (λ (hits : List Hit). All (λ hit. hit.hunted < length c.self.inside.hit_summaries.items) hits) (sym c.as_slice.ensures)
     (subst (λ (n : ℕ). All (λ hit. hit.hunted < n) c.in-Ok.hits) (sym ready.hunts.count) all)
 
-pub note_all-requires-clause-order : goal.note_all-requires-clause-order
-note_all-requires-clause-order c =
-    let before : HunterState = record { hunted = c.self.inside.hunted.now; engine = c.self.inside.engine; sights = c.self.inside.sights.items } in
+pub count_all-requires-clause-order : goal.count_all-requires-clause-order
+count_all-requires-clause-order c =
+    let before : HunterState = record { hunted = c.self.inside.hunted.now; engine = c.self.inside.engine; hit_summaries = c.self.inside.hit_summaries.items } in
     let ready : IsReady before = subst IsReady (sym c.self.view_is) c.requires.ready in
     seen-before before ready.rows ready.hits ready.hunts c.args.observation.now.last
     (subst (λ (s : HunterState). ¬ (Falls s.engine.last c.args.observation.now.last)) (sym c.self.view_is) c.requires.order)
@@ -62,11 +62,11 @@ pub returns-clause-row : goal.returns-clause-row
 returns-clause-row c =
     let row = row_of c.args.observation.now (data_in c.args.bundle.now) in
     let last = c.args.observation.now.last in
-    let before : HunterState = record { hunted = c.self.inside.hunted.now; engine = c.self.inside.engine; sights = c.self.inside.sights.items } in
+    let before : HunterState = record { hunted = c.self.inside.hunted.now; engine = c.self.inside.engine; hit_summaries = c.self.inside.hit_summaries.items } in
     let ready : IsReady before = subst IsReady (sym c.self.view_is) c.requires.ready in
-    let noted = λ (hits : List Found). all_noted last hits c.self.inside.sights.items in
-    let after : c.note_all.new.self ≡ record { hunted = c.self.inside.hunted.now; engine = c.take.new.self; sights = all_noted last c.in-Ok.hits c.self.inside.sights.items } =
-    c.note_all.ensures ∙ ap (λ (hits : List Found). let s : HunterState = record { hunted = c.self.inside.hunted.now; engine = c.take.new.self; sights = all_noted last hits c.self.inside.sights.items } in s) c.as_slice.ensures in
-    subst (λ (s : HunterState). TakesRow row s c.note_all.new.self c.in-Ok.hits) c.self.view_is
+    let noted = λ (hits : List Hit). all_noted last hits c.self.inside.hit_summaries.items in
+    let after : c.count_all.new.self ≡ record { hunted = c.self.inside.hunted.now; engine = c.take.new.self; hit_summaries = all_noted last c.in-Ok.hits c.self.inside.hit_summaries.items } =
+    c.count_all.ensures ∙ ap (λ (hits : List Hit). let s : HunterState = record { hunted = c.self.inside.hunted.now; engine = c.take.new.self; hit_summaries = all_noted last hits c.self.inside.hit_summaries.items } in s) c.as_slice.ensures in
+    subst (λ (s : HunterState). TakesRow row s c.count_all.new.self c.in-Ok.hits) c.self.view_is
     (subst (λ (s : HunterState). TakesRow row before s c.in-Ok.hits) (sym after)
-    (takes-row c.one_log.ensures before c.take.new.self row c.in-Ok.hits ready c.in-Ok.ensures.kept.0 c.in-Ok.ensures.kept.1 c.in-Ok.ensures.stands c.in-Ok.ensures.tells))
+    (takes-row c.one_log.ensures before c.take.new.self row c.in-Ok.hits ready c.in-Ok.ensures.kept.0 c.in-Ok.ensures.kept.1 c.in-Ok.ensures.represents c.in-Ok.ensures.reports))

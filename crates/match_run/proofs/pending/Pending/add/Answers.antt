@@ -1,7 +1,7 @@
 use Rattle.std.proofs.Common.{ℕ, List, ◌++◌, sym, subst}
 use Rattle.match_run.proofs.PendingLemmas.{fails_so}
-use Rattle.match_run.specs.OnItsWay.{IsOnItsWay}
-use Rattle.match_run.proofs.WayLemmas.{way-more, way-all, way-stopped}
+use Rattle.match_run.specs.Buffered.{IsBuffered}
+use Rattle.match_run.proofs.BufferedLemmas.{way-more, way-all, way-stopped}
 use Rattle.match_run.proofs.pending.Pending.add.Goals as goal
 
 pub returns-in_err-push-clause-err : goal.returns-in_err-push-clause-err
@@ -12,6 +12,6 @@ pub returns-clause-ok : goal.returns-clause-ok
 returns-clause-ok g c before first way =
     let text = before ++ c.args.text.now in
     let all = way-more before c.args.self.now c.args.text.now first (g.O.Sink.written c.args.output.now) way in
-    let pushed = subst (λ (p : List ℕ). IsOnItsWay text p first (g.O.Sink.written c.args.output.now)) (sym c.in_ok-push.ensures) all in
-    subst (λ (p : List ℕ). IsOnItsWay text p first (g.O.Sink.written c.write.new.output)) (sym c.in_ok-write.ensures.ok.0)
+    let pushed = subst (λ (p : List ℕ). IsBuffered text p first (g.O.Sink.written c.args.output.now)) (sym c.in_ok-push.ensures) all in
+    subst (λ (p : List ℕ). IsBuffered text p first (g.O.Sink.written c.write.new.output)) (sym c.in_ok-write.ensures.ok.0)
     (way-all text first (g.O.Sink.written c.write.new.output) (c.in_ok-write.ensures.all text first pushed))

@@ -1,7 +1,7 @@
 use Rattle.std.proofs.Common.{rules}
 use Rattle.flow_edges.specs.Flow.{WritesPrefix}
 use Rattle.match_run.proofs.PendingLemmas.{fails_so}
-use Rattle.match_run.proofs.WayLemmas.{way-cut}
+use Rattle.match_run.proofs.BufferedLemmas.{way-cut}
 use Rattle.match_run.proofs.pending.Pending.write.Goals as goal
 
 pub returns-in_err-write_whole-clause-err : goal.returns-in_err-write_whole-clause-err

@@ -4,13 +4,13 @@ use Rattle.std.specs.Prelude.{slice_index_or}
 use Rattle.std.proofs.lemmas.List.{take_all, get_or_default}
 use Rattle.std.proofs.lemmas.List.Elements.{AllWithin-more, Contains-get_or}
 use Rattle.match_stream.specs.declared.stop.Stop.TheVariants as stop
-use Rattle.match_stream.specs.declared.piece.Piece.{Piece}
-use Rattle.match_stream.specs.PieceTree.{PieceTree}
-use Rattle.match_stream.specs.inner.Pieces.{piece_tree, piece_trees}
+use Rattle.match_stream.specs.declared.partial_match.PartialMatch.{PartialMatch}
+use Rattle.match_stream.specs.PartialMatchTree.{PartialMatchTree}
+use Rattle.match_stream.specs.inner.PartialMatches.{partial_match_tree, partial_match_trees}
 use Rattle.match_stream.specs.inner.Steps.{join_row}
-use Rattle.match_stream.specs.inner.Wanted.{wanted}
-use Rattle.match_stream.specs.inner.Leads.{leads_of}
-use Rattle.match_stream.proofs.SieveLemmas.{row_full, row_grown, up_to_place, up_to_end}
+use Rattle.match_stream.specs.inner.Needed.{needed}
+use Rattle.match_stream.specs.inner.PendingLefts.{pending_lefts_of}
+use Rattle.match_stream.proofs.SkipIndexLemmas.{row_full, row_grown, up_to_place, up_to_end}
 use Rattle.match_stream.proofs.joining.Joining.places.Goals as goal
 use Rattle.match_stream.proofs.joining.Joining.places.Goals.{then-done-place+in_ok-pair, else-done-place}
 
@@ -31,45 +31,45 @@ overflow_add-done c =
     let low : slice_index_or places at 0 < length c.args.seconds.now = c.requires.tried.within (slice_index_or places at 0) (Contains-get_or places at 0 c.loop-place-test.true) in
     search rules
 
-pub returns-in_err-pair-clause-crowded : goal.returns-in_err-pair-clause-crowded
-returns-in_err-pair-clause-crowded c = λ e.
-    let j = c.args.self.now.how in let x = piece_tree c.args.first.now in let ahead = leads_of c.args.self.now.demand.now.leads.now in let seconds = c.args.seconds.now in
+pub returns-in_err-pair-clause-over_limit : goal.returns-in_err-pair-clause-over_limit
+returns-in_err-pair-clause-over_limit c = λ e.
+    let j = c.args.self.now.how in let x = partial_match_tree c.args.first.now in let ahead = pending_lefts_of c.args.self.now.join_filter.now.pending_lefts.now in let seconds = c.args.seconds.now in
     let places = c.args.places.now in let at = c.loop-place.place-index in let place = slice_index_or places at 0 in let item = c.index-seconds-place.result in
     let low = c.requires.tried.within place (Contains-get_or places at 0 c.loop-place-test.true) in
-    let skipped = up_to_place c.args.self.now.demand.now.time ahead c.args.self.now.since.start j x seconds item places at c.loop-place.done place (λ q wants. (c.args.self.now.told q wants).covered) c.requires.tried
+    let skipped = up_to_place c.args.self.now.join_filter.now.time ahead c.args.self.now.earliest_start.start j x seconds item places at c.loop-place.done place (λ q wants. (c.args.self.now.told q wants).covered) c.requires.tried
     c.loop-place-test.true (get_or_default places at 0 place c.loop-place-test.true) c.loop-place.invariant.passed c.if-done-place.true (omega (arith, low)) in
-    let failed : c.pair.result ≡ Err stop.Crowded = search rules in
-    row_full c.args.self.now.demand.now.time ahead j x seconds place item c.args.self.now.demand.now.room c.loop-place.out.items c.args.out.now.items low
-    (subst (λ (z : Piece). c.args.self.now.demand.now.room < length c.loop-place.out.items + length (wanted c.args.self.now.demand.now.time ahead (join_row j x (piece_tree z ∷ [])))) c.index-seconds-place.is (c.pair.ensures.crowded failed))
-    (c.loop-place.invariant.joined ∙ ap (λ (z : List PieceTree). piece_trees c.args.out.now.items ++ z) (sym skipped))
+    let failed : c.pair.result ≡ Err stop.OverLimit = search rules in
+    row_full c.args.self.now.join_filter.now.time ahead j x seconds place item c.args.self.now.join_filter.now.budget c.loop-place.out.items c.args.out.now.items low
+    (subst (λ (z : PartialMatch). c.args.self.now.join_filter.now.budget < length c.loop-place.out.items + length (needed c.args.self.now.join_filter.now.time ahead (join_row j x (partial_match_tree z ∷ [])))) c.index-seconds-place.is (c.pair.ensures.over_limit failed))
+    (c.loop-place.invariant.joined ∙ ap (λ (z : List PartialMatchTree). partial_match_trees c.args.out.now.items ++ z) (sym skipped))
 
 pub loop-place-preserved : goal.loop-place-preserved
 loop-place-preserved c =
-    let j = c.args.self.now.how in let x = piece_tree c.args.first.now in let ahead = leads_of c.args.self.now.demand.now.leads.now in let seconds = c.args.seconds.now in
+    let j = c.args.self.now.how in let x = partial_match_tree c.args.first.now in let ahead = pending_lefts_of c.args.self.now.join_filter.now.pending_lefts.now in let seconds = c.args.seconds.now in
     let places = c.args.places.now in let at = c.loop-place.place-index in let place = slice_index_or places at 0 in
-    let before = c.loop-place.invariant in let old = piece_trees c.args.out.now.items in let in' = c.loop-place-test.true in
+    let before = c.loop-place.invariant in let old = partial_match_trees c.args.out.now.items in let in' = c.loop-place-test.true in
     let low : place < length seconds = c.requires.tried.within place (Contains-get_or places at 0 in') in
     elim c.if-done-place.branch [
       | then-done-place+in_ok-pair w ↦ (
           let item = w.index-seconds-place.result in
-          let skipped = up_to_place c.args.self.now.demand.now.time ahead c.args.self.now.since.start j x seconds item places at c.loop-place.done place (λ q wants. (c.args.self.now.told q wants).covered) c.requires.tried
+          let skipped = up_to_place c.args.self.now.join_filter.now.time ahead c.args.self.now.earliest_start.start j x seconds item places at c.loop-place.done place (λ q wants. (c.args.self.now.told q wants).covered) c.requires.tried
           in' (get_or_default places at 0 place in') before.passed w.if-done-place.true (omega (arith, low)) in
           record {
             joined =
-                ap (λ (v : Vec Piece Global). piece_trees v.items) w.out-is
+                ap (λ (v : Vec PartialMatch Global). partial_match_trees v.items) w.out-is
                 ∙ w.in_ok-pair.ensures.joined
-                ∙ ap (λ (z : Piece). piece_trees c.loop-place.out.items ++ wanted c.args.self.now.demand.now.time ahead (join_row j x (piece_tree z ∷ []))) w.index-seconds-place.is
-                ∙ row_grown c.args.self.now.demand.now.time ahead j x seconds place item old (piece_trees c.loop-place.out.items) low
-                (before.joined ∙ ap (λ (z : List PieceTree). old ++ z) (sym skipped))
-                ∙ ap (λ n. old ++ wanted c.args.self.now.demand.now.time ahead (join_row j x (piece_trees (take n seconds)))) (sym w.done-is);
+                ∙ ap (λ (z : PartialMatch). partial_match_trees c.loop-place.out.items ++ needed c.args.self.now.join_filter.now.time ahead (join_row j x (partial_match_tree z ∷ []))) w.index-seconds-place.is
+                ∙ row_grown c.args.self.now.join_filter.now.time ahead j x seconds place item old (partial_match_trees c.loop-place.out.items) low
+                (before.joined ∙ ap (λ (z : List PartialMatchTree). old ++ z) (sym skipped))
+                ∙ ap (λ n. old ++ needed c.args.self.now.join_filter.now.time ahead (join_row j x (partial_match_trees (take n seconds)))) (sym w.done-is);
             within = omega (arith, w.done-is, low);
             passed = AllWithin-more (λ p. p < c.if-done-place.done) places 0 at
                 (λ k d low high. let under = before.passed k d low high in omega (arith, under, w.done-is, w.if-done-place.true))
                 (λ d. let same = get_or_default places at d 0 in' in omega (arith, same, w.done-is));
           })
       | else-done-place w ↦ record {
-        joined = ap (λ (v : Vec Piece Global). piece_trees v.items) w.out-is ∙ before.joined
-            ∙ ap (λ n. old ++ wanted c.args.self.now.demand.now.time ahead (join_row j x (piece_trees (take n seconds)))) (sym w.done-is);
+        joined = ap (λ (v : Vec PartialMatch Global). partial_match_trees v.items) w.out-is ∙ before.joined
+            ∙ ap (λ n. old ++ needed c.args.self.now.join_filter.now.time ahead (join_row j x (partial_match_trees (take n seconds)))) (sym w.done-is);
         within = omega (arith, w.done-is, before.within);
         passed = AllWithin-more (λ p. p < c.if-done-place.done) places 0 at
             (λ k d low high. let under = before.passed k d low high in omega (arith, under, w.done-is))
@@ -79,11 +79,11 @@ loop-place-preserved c =
 
 pub returns-clause-joined : goal.returns-clause-joined
 returns-clause-joined c =
-    let j = c.args.self.now.how in let x = piece_tree c.args.first.now in let ahead = leads_of c.args.self.now.demand.now.leads.now in let seconds = c.args.seconds.now in
+    let j = c.args.self.now.how in let x = partial_match_tree c.args.first.now in let ahead = pending_lefts_of c.args.self.now.join_filter.now.pending_lefts.now in let seconds = c.args.seconds.now in
     let before = c.loop-place.invariant in
     let over : length c.args.places.now ≤ c.loop-place.place-index = search rules in
-    let rest = up_to_end c.args.self.now.demand.now.time ahead c.args.self.now.since.start j x seconds c.args.first.now c.args.places.now c.loop-place.place-index c.loop-place.done
+    let rest = up_to_end c.args.self.now.join_filter.now.time ahead c.args.self.now.earliest_start.start j x seconds c.args.first.now c.args.places.now c.loop-place.place-index c.loop-place.done
     (λ q wants. (c.args.self.now.told q wants).covered) c.requires.tried over before.passed before.within in
     before.joined
-    ∙ ap (λ (z : List PieceTree). piece_trees c.args.out.now.items ++ z) (sym rest)
-    ∙ ap (λ (z : List Piece). piece_trees c.args.out.now.items ++ wanted c.args.self.now.demand.now.time ahead (join_row j x (piece_trees z))) (take_all (length seconds) seconds (omega arith))
+    ∙ ap (λ (z : List PartialMatchTree). partial_match_trees c.args.out.now.items ++ z) (sym rest)
+    ∙ ap (λ (z : List PartialMatch). partial_match_trees c.args.out.now.items ++ needed c.args.self.now.join_filter.now.time ahead (join_row j x (partial_match_trees z))) (take_all (length seconds) seconds (omega arith))

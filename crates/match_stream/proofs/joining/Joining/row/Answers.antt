@@ -3,5 +3,5 @@ use Rattle.match_stream.proofs.joining.Joining.row.Goals as goal
 
 pub places-requires : goal.places-requires
 places-requires c =
-    let some : 0 < length c.args.sieve.now.keys.items = search rules in
-    record { levels = (c.requires.things some).levels }
+    let some : 0 < length c.args.skip_index.now.keys.items = search rules in
+    record { levels = (c.requires.candidates some).levels }

@@ -1,15 +1,15 @@
--- What is kept without rows is the live part of the empty log.
+-- What is kept without rows is the retained part of the empty log.
 use Rattle.std.proofs.Common.{◌≡◌, [], refl, sym, ◌∙◌, ap, subst}
 use Rattle.match_bindings.specs.declared.bounds.Bounds.{Bounds}
 use Rattle.match_bindings.specs.Bounds.{no_bounds}
 use Rattle.match_bindings.specs.NumberedPattern.{numbered_pattern}
 use Rattle.match_bindings.specs.Log.{observed_in}
-use Rattle.match_stream.specs.LivePart.{IsLivePart, time_of}
+use Rattle.match_stream.specs.RetainedPart.{IsRetainedPart, time_of}
 use Rattle.match_stream.specs.inner.Steps.{State, empty_state, contents_of}
 use Rattle.match_stream.specs.inner.Nodes.{state_of}
 use Rattle.match_stream.specs.inner.Shape.{fits}
 use Rattle.match_stream.proofs.LogLemmas.{empty_stands}
-use Rattle.match_stream.proofs.ShapeLemmas.{live_from, fits_empty}
+use Rattle.match_stream.proofs.ShapeLemmas.{retained_from, fits_empty}
 use Rattle.match_stream.proofs.matcher.Matcher.new.Goals as goal
 
 pub invariant_of-result : goal.invariant_of-result
@@ -18,14 +18,14 @@ invariant_of-result c =
     let e : state_of c.into_inner-node.result ≡ empty_state no_bounds p = ap state_of c.into_inner-node.ensures ∙ c.in_ok-boxed.ensures ∙ ap (λ (w : Bounds). empty_state w p) c.open.ensures in
     ap (fits no_bounds p) e ∙ fits_empty p no_bounds
 
-pub returns-clause-stands : goal.returns-clause-stands
-returns-clause-stands c =
+pub returns-clause-represents : goal.returns-clause-represents
+returns-clause-represents c =
     let p = numbered_pattern c.args.pattern.now in
     let e : state_of c.into_inner-node.result ≡ empty_state no_bounds p = ap state_of c.into_inner-node.ensures ∙ c.in_ok-boxed.ensures ∙ ap (λ (w : Bounds). empty_state w p) c.open.ensures in
     record {
       runs = refl;
       rows = refl;
       last = refl;
-      live = subst (λ (z : State). IsLivePart p [] (contents_of z)) (sym e)
-          (live_from c.test_is_the_rule.ensures (observed_in []) (time_of []) p no_bounds (empty_state no_bounds p) (empty_stands p no_bounds (time_of [])));
+      retained = subst (λ (z : State). IsRetainedPart p [] (contents_of z)) (sym e)
+          (retained_from c.test_is_the_rule.ensures (observed_in []) (time_of []) p no_bounds (empty_state no_bounds p) (empty_stands p no_bounds (time_of [])));
     }

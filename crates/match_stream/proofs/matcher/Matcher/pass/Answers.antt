@@ -1,4 +1,4 @@
--- The law of quiet rows at the log that the matcher stands for.
+-- The law of nonmatching rows at the log that the matcher stands for.
 use Rattle.std.proofs.Common.{ℤ, ◌≡◌, ◌≤◌, List, [], ◌∷◌, ◌++◌, length, sym, ◌∙◌, arith, rules, length-append}
 use Rattle.std.specs.Prelude.{ℕ}
 use Rattle.match_bindings.specs.declared.log_entry.LogEntry.{LogEntry}
@@ -7,16 +7,16 @@ use Rattle.match_bindings.specs.NumberedPattern.{numbered_pattern}
 use Rattle.match_bindings.specs.Log.{observed_in}
 use Rattle.match_stream.specs.declared.matcher.Matcher.TheInside.{Inside}
 use Rattle.match_stream.specs.declared.ending.Ending.TheVariants as ending
-use Rattle.match_stream.specs.LivePart.{time_of}
-use Rattle.match_stream.specs.MatcherState.{StandsFor}
+use Rattle.match_stream.specs.RetainedPart.{time_of}
+use Rattle.match_stream.specs.MatcherState.{Represents}
 use Rattle.match_stream.specs.Answer.{AnswersAfter}
-use Rattle.match_stream.specs.Passing.{GoesOnQuietly, no_answers}
+use Rattle.match_stream.specs.Passing.{ContinuesWithoutMatch, no_answers}
 use Rattle.match_stream.specs.inner.Steps.{expired}
 use Rattle.match_stream.specs.inner.Nodes.{state_of}
 use Rattle.match_stream.specs.inner.Shape.{fits}
-use Rattle.match_stream.specs.inner.Seen.{seen, IsMade}
-use Rattle.match_stream.proofs.ShapeLemmas.{Rule, stands_from, live_from}
-use Rattle.match_stream.proofs.AnswerLemmas.{Rise}
+use Rattle.match_stream.specs.inner.ObservableState.{observable_state, IsMade}
+use Rattle.match_stream.proofs.ShapeLemmas.{Rule, stands_from, retained_from}
+use Rattle.match_stream.proofs.AnswerLemmas.{Ascend}
 use Rattle.match_stream.proofs.StepLemmas.{Stands, all_of}
 use Rattle.match_stream.proofs.TakeLemmas.{runs_fits, stays_made, stopped_same, same_stopped, same_err}
 use Rattle.match_stream.proofs.PassLemmas.{pass_law, last_of_append}
@@ -24,40 +24,40 @@ use Rattle.match_stream.proofs.ArrangedLemmas.{arranged_stands, cleared_fits}
 use Rattle.match_stream.proofs.matcher.Matcher.pass.Goals as goal
 
 -- what the law says, of rows that are no list of cases yet
-law : Rule → Rise → (m : Inside) (log quiet : List LogEntry) (rows : ℕ) (last : ℤ) → 1 ≤ rows → IsMade m → StandsFor (seen m) log → GoesOnQuietly log quiet rows last →
-    Stands (observed_in (log ++ quiet)) (all_of (observed_in (log ++ quiet))) (time_of (log ++ quiet)) no_bounds (numbered_pattern m.pattern.now) (expired last (state_of m.run.node))
-    × AnswersAfter (numbered_pattern m.pattern.now) log quiet (no_answers quiet)
-law rule rise m log [] rows last some made st g = absurd (let none = g.count in omega (arith, some, none))
-law rule rise m log (r ∷ rest) rows last some made st g =
-    pass_law rule rise (numbered_pattern m.pattern.now) log r rest last (state_of m.run.node) g.none_holds g.order g.last_is
+law : Rule → Ascend → (m : Inside) (log nonmatching : List LogEntry) (rows : ℕ) (last : ℤ) → 1 ≤ rows → IsMade m → Represents (observable_state m) log → ContinuesWithoutMatch log nonmatching rows last →
+    Stands (observed_in (log ++ nonmatching)) (all_of (observed_in (log ++ nonmatching))) (time_of (log ++ nonmatching)) no_bounds (numbered_pattern m.pattern.now) (expired last (state_of m.run.node))
+    × AnswersAfter (numbered_pattern m.pattern.now) log nonmatching (no_answers nonmatching)
+law rule sift_up m log [] rows last some made st g = absurd (let none = g.count in omega (arith, some, none))
+law rule sift_up m log (r ∷ rest) rows last some made st g =
+    pass_law rule sift_up (numbered_pattern m.pattern.now) log r rest last (state_of m.run.node) g.none_holds g.order g.last_is
     (stands_from rule (observed_in log) (time_of log) (numbered_pattern m.pattern.now) no_bounds (state_of m.run.node)
-    (runs_fits m.ended (fits no_bounds (numbered_pattern m.pattern.now) (state_of m.run.node)) st.runs made) st.live)
+    (runs_fits m.ended (fits no_bounds (numbered_pattern m.pattern.now) (state_of m.run.node)) st.runs made) st.retained)
 
 pub invariant_of-self : goal.invariant_of-self
 invariant_of-self c =
     let m = c.self.inside in let p = numbered_pattern m.pattern.now in let z = state_of m.run.node in let z' = state_of c.pass.new.self.node in
     stays_made m.ended (fits no_bounds p z) (fits no_bounds p z') (cleared_fits p c.args.last z z' c.in-Ok.ensures.passed.node) c.self.invariant
 
-pub returns-in-Ok-clause-stands : goal.returns-in-Ok-clause-stands
-returns-in-Ok-clause-stands c =
+pub returns-in-Ok-clause-represents : goal.returns-in-Ok-clause-represents
+returns-in-Ok-clause-represents c =
     let m = c.self.inside in let p = numbered_pattern m.pattern.now in
-    rw (← c.self.view_is) (λ log quiet st g.
-    let both = law c.test_is_the_rule.ensures c.sorted_bindings_rise.ensures m log quiet c.args.rows c.args.last c.requires.some c.self.invariant st g in
+    rw (← c.self.view_is) (λ log nonmatching st g.
+    let both = law c.test_is_the_rule.ensures c.sorted_bindings_ascend.ensures m log nonmatching c.args.rows c.args.last c.requires.some c.self.invariant st g in
     let count = g.count in let rows : m.run.rows ≡ length log = st.rows in let taken = c.in-Ok.ensures.passed.rows_are in
     record {
       runs = st.runs;
-      rows = (let e : c.pass.new.self.rows ≡ length (log ++ quiet) = omega (arith, rows, count, taken, length-append log quiet) in e);
-      last = c.in-Ok.ensures.passed.last_is ∙ sym (last_of_append log quiet c.args.last g.last_is);
-      live = live_from c.test_is_the_rule.ensures (observed_in (log ++ quiet)) (time_of (log ++ quiet)) p no_bounds (state_of c.pass.new.self.node)
-          (arranged_stands (observed_in (log ++ quiet)) (all_of (observed_in (log ++ quiet))) (time_of (log ++ quiet)) no_bounds p (expired c.args.last (state_of m.run.node))
+      rows = (let e : c.pass.new.self.rows ≡ length (log ++ nonmatching) = omega (arith, rows, count, taken, length-append log nonmatching) in e);
+      last = c.in-Ok.ensures.passed.last_is ∙ sym (last_of_append log nonmatching c.args.last g.last_is);
+      retained = retained_from c.test_is_the_rule.ensures (observed_in (log ++ nonmatching)) (time_of (log ++ nonmatching)) p no_bounds (state_of c.pass.new.self.node)
+          (arranged_stands (observed_in (log ++ nonmatching)) (all_of (observed_in (log ++ nonmatching))) (time_of (log ++ nonmatching)) no_bounds p (expired c.args.last (state_of m.run.node))
           (state_of c.pass.new.self.node) both.0 c.in-Ok.ensures.passed.node);
     })
 
 pub returns-in-Ok-clause-nothing_ends : goal.returns-in-Ok-clause-nothing_ends
 returns-in-Ok-clause-nothing_ends c =
     let m = c.self.inside in
-    rw (← c.self.view_is) (λ log quiet st g.
-    (law c.test_is_the_rule.ensures c.sorted_bindings_rise.ensures m log quiet c.args.rows c.args.last c.requires.some c.self.invariant st g).1)
+    rw (← c.self.view_is) (λ log nonmatching st g.
+    (law c.test_is_the_rule.ensures c.sorted_bindings_ascend.ensures m log nonmatching c.args.rows c.args.last c.requires.some c.self.invariant st g).1)
 
 pub returns-in-Err-clause-out_of_order : goal.returns-in-Err-clause-out_of_order
 returns-in-Err-clause-out_of_order c = rw (← c.self.view_is) (λ before now. (

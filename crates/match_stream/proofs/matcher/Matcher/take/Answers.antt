@@ -11,30 +11,30 @@ use Rattle.match_bindings.proofs.LogLemmas.{in_order_more}
 use Rattle.match_stream.specs.declared.matcher.Matcher.TheInside.{Inside}
 use Rattle.match_stream.specs.declared.run.Run.{Run}
 use Rattle.match_stream.specs.declared.ending.Ending.TheVariants as ending
-use Rattle.match_stream.specs.LivePart.{IsLivePart}
-use Rattle.match_stream.specs.MatcherState.{StandsFor, with_row, Falls}
+use Rattle.match_stream.specs.RetainedPart.{IsRetainedPart}
+use Rattle.match_stream.specs.MatcherState.{Represents, with_row, Falls}
 use Rattle.match_stream.specs.inner.Steps.{State, contents_of}
 use Rattle.match_stream.specs.inner.Nodes.{state_of}
 use Rattle.match_stream.specs.inner.Shape.{fits}
-use Rattle.match_stream.specs.inner.Runs.{IsCleared, next_row, live_after}
-use Rattle.match_stream.specs.inner.Seen.{seen, IsMade}
+use Rattle.match_stream.specs.inner.Runs.{IsCleared, next_row, retained_after}
+use Rattle.match_stream.specs.inner.ObservableState.{observable_state, IsMade}
 use Rattle.match_stream.proofs.LogLemmas.{not_falls, length_more, last_of_more}
 use Rattle.match_stream.proofs.ShapeLemmas.{Rule, fits_step}
 use Rattle.match_stream.proofs.AdmitLemmas.{admits}
 use Rattle.match_stream.proofs.OverLemmas.{count_over}
 use Rattle.match_stream.proofs.ArrangedLemmas.{cleared_fits}
-use Rattle.match_stream.proofs.TakeLemmas.{entry, runs_fits, stays_made, Goes, cleared_goes, live_then, answer_then, count_then, stopped_same, same_err, err_same, stopped_from}
+use Rattle.match_stream.proofs.TakeLemmas.{entry, runs_fits, stays_made, Goes, cleared_goes, retained_then, answer_then, count_then, stopped_same, same_err, err_same, stopped_from}
 use Rattle.match_stream.proofs.matcher.Matcher.take.Goals as goal
 
 -- what the matcher was, and is once what has expired is taken out
-goes : Rule → (m : Inside) (cleared : Run) (log : List LogEntry) (last : ℤ) → IsMade m → StandsFor (seen m) log → IsInOrder log → IsCleared m.run cleared last
+goes : Rule → (m : Inside) (cleared : Run) (log : List LogEntry) (last : ℤ) → IsMade m → Represents (observable_state m) log → IsInOrder log → IsCleared m.run cleared last
     → Goes (numbered_pattern m.pattern.now) (state_of cleared.node) cleared.rows log last
 goes rule m cleared log last made st order c =
     cleared_goes rule (numbered_pattern m.pattern.now) (state_of m.run.node) (state_of cleared.node) cleared.rows m.run.last log last
-    (runs_fits m.ended (fits no_bounds (numbered_pattern m.pattern.now) (state_of m.run.node)) st.runs made) (c.rows ∙ st.rows) st.last st.live order c.order c.node
+    (runs_fits m.ended (fits no_bounds (numbered_pattern m.pattern.now) (state_of m.run.node)) st.runs made) (c.rows ∙ st.rows) st.last st.retained order c.order c.node
 
 -- the log is in order with the row
-in_order_then : (m : Inside) (log : List LogEntry) (first last : ℤ) (truths : List Bool) → first ≤ℤ last → StandsFor (seen m) log → IsInOrder log → ¬ (Falls m.run.last last)
+in_order_then : (m : Inside) (log : List LogEntry) (first last : ℤ) (truths : List Bool) → first ≤ℤ last → Represents (observable_state m) log → IsInOrder log → ¬ (Falls m.run.last last)
     → IsInOrder (with_row log first last truths)
 in_order_then m log first last truths span st order after =
     in_order_more log (entry first last truths) order span (not_falls log last (λ k. after (subst (λ (t : Option ℤ). Falls t last) (sym st.last) k)))
@@ -58,56 +58,56 @@ returns-in-Ok-clause-answers c =
     let more = length_more log (entry first last truths) in
     let rows : m.run.rows ≡ length log = st.rows in
     let same : cleared.rows ≡ m.run.rows = is.rows in
-    let cap : cleared.cap ≡ m.run.cap = c.clear.ensures.cap in
-    let room : live_after cleared (next_row cleared.rows first last) truths ≤ cleared.cap = c.in-Ok.ensures.took.room in
+    let retained_limit : cleared.retained_limit ≡ m.run.retained_limit = c.clear.ensures.retained_limit in
+    let budget : retained_after cleared (next_row cleared.rows first last) truths ≤ cleared.retained_limit = c.in-Ok.ensures.took.budget in
     record {
-      stands = record {
+      represents = record {
         runs = st.runs;
         rows = c.in-Ok.ensures.took.rows ∙ (let e : cleared.rows + 1 ≡ length (with_row log first last truths) = omega (arith, rows, same, more) in e);
         last = c.in-Ok.ensures.took.last ∙ sym (last_of_more log (entry first last truths));
-        live = subst (λ (z : State). IsLivePart p (with_row log first last truths) (contents_of z)) (sym c.in-Ok.ensures.took.node)
-            (live_then c.test_is_the_rule.ensures p (state_of cleared.node) cleared.rows log first last truths g);
+        retained = subst (λ (z : State). IsRetainedPart p (with_row log first last truths) (contents_of z)) (sym c.in-Ok.ensures.took.node)
+            (retained_then c.test_is_the_rule.ensures p (state_of cleared.node) cleared.rows log first last truths g);
       };
       order = in_order_then m log first last truths c.requires.span st order is.order;
-      answers = answer_then c.test_is_the_rule.ensures c.sorted_bindings_rise.ensures cleared p log first last truths g (map tree_of c.in-Ok.binds) c.in-Ok.ensures.binds;
-      roomy = (
-        live_after cleared (next_row cleared.rows first last) truths,
-        count_then c.test_is_the_rule.ensures c.sorted_bindings_rise.ensures cleared p log first last truths g (map tree_of c.in-Ok.binds) c.in-Ok.ensures.binds,
-        omega (arith, room, cap),
+      answers = answer_then c.test_is_the_rule.ensures c.sorted_bindings_ascend.ensures cleared p log first last truths g (map tree_of c.in-Ok.binds) c.in-Ok.ensures.binds;
+      within_limit = (
+        retained_after cleared (next_row cleared.rows first last) truths,
+        count_then c.test_is_the_rule.ensures c.sorted_bindings_ascend.ensures cleared p log first last truths g (map tree_of c.in-Ok.binds) c.in-Ok.ensures.binds,
+        omega (arith, budget, retained_limit),
       );
     })
 
-pub returns-in-Err-take-clause-crowded : goal.returns-in-Err-take-clause-crowded
-returns-in-Err-take-clause-crowded c =
+pub returns-in-Err-take-clause-over_limit : goal.returns-in-Err-take-clause-over_limit
+returns-in-Err-take-clause-over_limit c =
     let m = c.self.inside in let cleared = c.clear.new.self in
     let first = c.args.first in let last = c.args.last in let truths = c.args.truths.now in
     let is = c.in_default-clear.ensures.cleared in
-    rw (← c.self.view_is) (λ log st order number cap e.
-    let named = stopped_same (List Bind) c.in-Err-take.ending (ending.Crowded number cap) e in
-    let over = c.in-Err-take.ensures.crowded number cap (same_err (List Bind) c.in-Err-take.ending (ending.Crowded number cap) named) in
+    rw (← c.self.view_is) (λ log st order number retained_limit e.
+    let named = stopped_same (List Bind) c.in-Err-take.ending (ending.OverLimit number retained_limit) e in
+    let over = c.in-Err-take.ensures.over_limit number retained_limit (same_err (List Bind) c.in-Err-take.ending (ending.OverLimit number retained_limit) named) in
     let rows : m.run.rows ≡ length log = st.rows in
     let same_rows : cleared.rows ≡ m.run.rows = is.rows in
-    let same_cap : cleared.cap ≡ m.run.cap = c.clear.ensures.cap in
+    let same_retained_limit : cleared.retained_limit ≡ m.run.retained_limit = c.clear.ensures.retained_limit in
     let more = length_more log (entry first last truths) in
     let n : number ≡ cleared.rows + 1 = over.0 in
-    let caps : cap ≡ cleared.cap = over.1 in
+    let caps : retained_limit ≡ cleared.retained_limit = over.1 in
     let g = goes c.test_is_the_rule.ensures m cleared log last c.self.invariant st order is in
-    let more_live = over.2 (admits (next_row cleared.rows first last) truths (numbered_pattern m.pattern.now) no_bounds (state_of cleared.node) g.made).1 in
+    let more_retained = over.2 (admits (next_row cleared.rows first last) truths (numbered_pattern m.pattern.now) no_bounds (state_of cleared.node) g.made).1 in
     record {
       order = in_order_then m log first last truths c.requires.span st order is.order;
       numbered = (let f : number ≡ length (with_row log first last truths) = omega (arith, rows, same_rows, more, n) in f);
-      cap_is = caps ∙ same_cap;
-      crowded = (
-        live_after cleared (next_row cleared.rows first last) truths,
-        count_over c.test_is_the_rule.ensures c.listing_is_by_the_test.ensures c.rising_lists_are_ordered.ensures c.listings_exist.ensures
+      retained_limit_is = caps ∙ same_retained_limit;
+      over_limit = (
+        retained_after cleared (next_row cleared.rows first last) truths,
+        count_over c.test_is_the_rule.ensures c.listing_is_by_the_test.ensures c.ascending_lists_are_ordered.ensures c.listings_exist.ensures
             cleared (numbered_pattern m.pattern.now) log first last truths g,
-        omega (arith, more_live, caps),
+        omega (arith, more_retained, caps),
       );
     })
 
-pub returns-in-Err-clause-crowded : goal.returns-in-Err-clause-crowded
-returns-in-Err-clause-crowded c = λ log st order number cap e.
-    absurd (c.in-Err.ensures.not_crowded number cap (same_err (Unit {0}) c.in-Err.ending (ending.Crowded number cap) (stopped_same (List Bind) c.in-Err.ending (ending.Crowded number cap) e)))
+pub returns-in-Err-clause-over_limit : goal.returns-in-Err-clause-over_limit
+returns-in-Err-clause-over_limit c = λ log st order number retained_limit e.
+    absurd (c.in-Err.ensures.not_over_limit number retained_limit (same_err (Unit {0}) c.in-Err.ending (ending.OverLimit number retained_limit) (stopped_same (List Bind) c.in-Err.ending (ending.OverLimit number retained_limit) e)))
 
 pub returns-in-Err-clause-out_of_order : goal.returns-in-Err-clause-out_of_order
 returns-in-Err-clause-out_of_order c = rw (← c.self.view_is) (λ before now. (

@@ -1,5 +1,5 @@
 use Rattle.std.proofs.Common.{List, subst}
-use Rattle.taxii_rows.specs.StoreState.{dates_of, RiseFrom}
+use Rattle.taxii_rows.specs.StoreState.{dates_of, AscendFrom}
 use Rattle.std.proofs.lemmas.Bool.{not_from_false, false_from_ne_true}
 use Rattle.taxii_rows.specs.declared.stored_row.StoredRow.{StoredRow}
 use Rattle.taxii_index.specs.Hints.{AreTrueOf}
@@ -10,4 +10,4 @@ pub returns : goal.returns
 returns c = λ picked. not_from_false c.knows_later.result (false_from_ne_true c.knows_later.result (λ holds.
     let are = subst (λ (rows : List StoredRow). AreTrueOf rows c.self.inside.hints.hints.items) c.self.view_is c.self.invariant in
     let found = c.knows_later.ensures c.args.self.now are holds in
-    not_last c.args.self.now c.args.row.now found.0 (subst (λ (rows : List StoredRow). RiseFrom 1 (dates_of rows)) c.self.view_is c.as_slice.ensures.rise) c.requires found.1 picked))
+    not_last c.args.self.now c.args.row.now found.0 (subst (λ (rows : List StoredRow). AscendFrom 1 (dates_of rows)) c.self.view_is c.as_slice.ensures.ascend) c.requires found.1 picked))

@@ -17,5 +17,5 @@ invariant_of-self c =
     let within : at < length rows = subst (λ (all : List StoredRow). at < length all) same (ltb-true at (length c.as_slice.result.now) (sym look.0)) in
     let own : c.in-Some.row.now ≡ get_or rows at c.in-Some.row.now = look.1 ∙ ap (λ (all : List StoredRow). get_or all at c.in-Some.row.now) same in
     let are = true_of_kept (λ other. nat_le gone other) rows kept c.self.inside.hints.hints.items
-    (λ row here before. stays_in_front rows at c.in-Some.row.now c.as_slice.ensures.rise within row here (ap (λ (r : StoredRow). nat_le r.date row.date) (sym own) ∙ before)) c.self.invariant in
+    (λ row here before. stays_in_front rows at c.in-Some.row.now c.as_slice.ensures.ascend within row here (ap (λ (r : StoredRow). nat_le r.date row.date) (sym own) ∙ before)) c.self.invariant in
     subst (λ (all : List StoredRow). AreTrueOf all c.forget_from.new.self.hints.items) (sym c.truncate.ensures) (subst (λ (hints : List Hint). AreTrueOf kept hints) (sym c.forget_from.ensures) are)

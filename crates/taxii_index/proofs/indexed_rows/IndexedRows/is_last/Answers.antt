@@ -1,6 +1,6 @@
 use Rattle.std.proofs.Common.{List, subst}
 use Rattle.taxii_rows.specs.declared.stored_row.StoredRow.{StoredRow}
-use Rattle.taxii_rows.specs.StoreState.{dates_of, RiseFrom}
+use Rattle.taxii_rows.specs.StoreState.{dates_of, AscendFrom}
 use Rattle.taxii_rows.specs.Picking.{IsNotBefore}
 use Rattle.taxii_index.specs.Index.{IsBefore, LeadsToThose}
 use Rattle.taxii_index.proofs.LookUpLemmas.{none_keeps, either_way, never_both_ways}
@@ -9,6 +9,6 @@ use Rattle.taxii_index.proofs.indexed_rows.IndexedRows.is_last.Goals as goal
 pub returns : goal.returns
 returns c =
     let row = c.args.row.now in
-    let rise = subst (λ (rows : List StoredRow). RiseFrom 1 (dates_of rows)) c.self.view_is c.self.invariant.0 in
+    let ascend = subst (λ (rows : List StoredRow). AscendFrom 1 (dates_of rows)) c.self.view_is c.self.invariant.0 in
     let leads = subst (λ (rows : List StoredRow). LeadsToThose c.self.inside.index.secret (IsBefore row) row rows c.later.result) c.self.view_is (c.later.ensures c.self.inside.rows.items c.self.invariant.1) in
-    none_keeps c.self.inside.index.secret (IsBefore row) (IsNotBefore row) row c.args.self.now c.later.result c.has_row_among.result rise leads c.has_row_among.ensures (either_way row) (never_both_ways row)
+    none_keeps c.self.inside.index.secret (IsBefore row) (IsNotBefore row) row c.args.self.now c.later.result c.has_row_among.result ascend leads c.has_row_among.ensures (either_way row) (never_both_ways row)

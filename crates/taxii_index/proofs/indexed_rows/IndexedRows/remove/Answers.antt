@@ -1,9 +1,9 @@
 use Rattle.std.proofs.Common.{◌≡◌, List, filter, not, subst, sym, ap, ◌∙◌, rules}
 use Rattle.std.proofs.lemmas.Fn.{filter_same}
 use Rattle.taxii_rows.specs.declared.stored_row.StoredRow.{StoredRow}
-use Rattle.taxii_rows.specs.StoreState.{dates_of, RiseFrom}
+use Rattle.taxii_rows.specs.StoreState.{dates_of, AscendFrom}
 use Rattle.taxii_rows.specs.Keeper.{is_date_in}
-use Rattle.taxii_rows.proofs.RiseLemmas.{rise-filter}
+use Rattle.taxii_rows.proofs.AscendLemmas.{ascend-filter}
 use Rattle.taxii_index.specs.Index.{IsIndexOf}
 use Rattle.taxii_index.proofs.indexed_rows.IndexedRows.remove.Goals as goal
 
@@ -15,7 +15,7 @@ invariant_of-self c =
     let same : c.deref.result.now ≡ rows = c.deref.ensures.value in
     let removed = subst (λ (all : List StoredRow). IsIndexOf (filter test all) c.remove_dates.new.self) same
     (c.remove_dates.ensures (subst (λ (all : List StoredRow). IsIndexOf all c.self.inside.index) (sym same) c.self.invariant.1)) in (
-      subst (λ (rows : List StoredRow). RiseFrom 1 (dates_of rows)) left (rise-filter 1 test rows c.self.invariant.0),
+      subst (λ (rows : List StoredRow). AscendFrom 1 (dates_of rows)) left (ascend-filter 1 test rows c.self.invariant.0),
       subst (λ (rows : List StoredRow). IsIndexOf rows c.remove_dates.new.self) left removed,
     )
 

@@ -3,13 +3,13 @@ use Rattle.http_messages.specs.declared.frame.TheConstants.{MAX_HEAD}
 use Rattle.http_messages.specs.declared.frame.Frame.TheVariants.{More, Refused as Bad}
 use Rattle.http_messages.specs.Frames.{IsFirstFrame}
 use Rattle.taxii_server.specs.declared.connection.TheConstants.{MAX_BODY}
-use Rattle.taxii_server.proofs.TakesLemmas.{fed-falls, receives-pause, receives-refused, taken-more, wanted-more}
+use Rattle.taxii_server.proofs.TakesLemmas.{fed-falls, receives-receive_end, receives-refused, taken-more, wanted-more}
 use Rattle.taxii_server.proofs.receiver.Receiver.receive.Goals as goal
 
 pub loop-request-smaller : goal.loop-request-smaller
 loop-request-smaller g c =
     let more = rw c.in-More.is at c.in_ok-request.ensures.first in
-    let few : length c.self.inside.session.fed < MAX_HEAD + c.self.inside.session.greatest_body = c.few_bytes_want_more.ensures _ _ _ more in
+    let few : length c.self.inside.session.fed < MAX_HEAD + c.self.inside.session.max_body = c.few_bytes_need_more.ensures _ _ _ more in
     let same : c.next_request.new.self.fed ≡ c.loop-request.self = more.1 ∙ c.self.view_is in
     let gives = c.in_ok-take-in-More.ensures.takes.gives in
     fed-falls (MAX_HEAD + MAX_BODY) _ _ _ (omega (arith, few, ap length c.self.view_is, c.self.invariant.0))
@@ -19,7 +19,7 @@ pub returns-in_err-take-in-More-clause-receives : goal.returns-in_err-take-in-Mo
 returns-in_err-take-in-More-clause-receives g c =
     let more = rw c.in-More.is at c.in_ok-request.ensures.first in
     let more_of : IsFirstFrame MAX_BODY c.loop-request.self More c.next_request.new.self.fed = rw (← c.self.view_is, ← c.self.invariant.0) more in
-    receives-pause _ c.loop-request.invariant.taken more_of c.in_err-take-in-More.ensures.takes c.loop-request.invariant.quiet
+    receives-receive_end _ c.loop-request.invariant.taken more_of c.in_err-take-in-More.ensures.takes c.loop-request.invariant.quiet
     c.from_residual-in_err-take-in-More.ensures.1
 
 pub returns-in-Refused-clause-receives : goal.returns-in-Refused-clause-receives

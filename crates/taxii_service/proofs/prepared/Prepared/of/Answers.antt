@@ -28,7 +28,7 @@ status_body-requires c =
     let addition = c.in_ok-planned.ensures.ok in
     let planned = c.in_ok-planned.planned in
     let store = c.args.state.now.library in
-    let many = as_many c.args.collection (first_date store.mark c.args.moment (length planned.rows)) store.rows c.in_ok-posted.posted.objects.items planned.outcomes planned.rows addition.adds in
+    let many = as_many c.args.collection (first_date store.watermark c.args.moment (length planned.rows)) store.rows c.in_ok-posted.posted.objects.items planned.outcomes planned.rows addition.adds in
     let report = c.in_ok-report.ensures in
     omega (arith, many, report.success_count, report.failure_count_is, c.in_ok-posted.ensures.few)
 

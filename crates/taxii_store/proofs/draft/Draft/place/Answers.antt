@@ -10,20 +10,20 @@ use Rattle.taxii_store.proofs.draft.Draft.place.Goals.{in-Some, in-None+in_ok-ou
 use Rattle.taxii_store.proofs.draft.Draft.place.Goals as goal
 
 abbrev of_draft : ℕ → Draft → Type 0
-of_draft mark draft = IsDraft mark draft.outcomes draft.added
+of_draft watermark draft = IsDraft watermark draft.outcomes draft.added
 
 pub returns-clause-draft : goal.returns-clause-draft
 returns-clause-draft c =
-    let Goal = λ (outcomes : List AddOutcome). IsDraft c.args.library.now.mark outcomes c.match-date_of_same.self.added in
-    let mark = ap (λ (state : StoreState). state.mark) c.library.view_is in
-    subst Goal (sym c.in_ok-push.ensures.ok) (elim c.match-date_of_same.branch [
+    let Goal = λ (outcomes : List AddOutcome). IsDraft c.args.library.now.watermark outcomes c.match-date_of_duplicate.self.added in
+    let watermark = ap (λ (state : StoreState). state.watermark) c.library.view_is in
+    subst Goal (sym c.in_ok-push.ensures.ok) (elim c.match-date_of_duplicate.branch [
       | in-Some w ↦
-          let draft = subst (of_draft c.args.library.now.mark) (sym w.self-is) c.requires.draft in
-          outcome_pushed c.args.library.now.mark c.match-date_of_same.self.outcomes c.match-date_of_same.self.added c.match-date_of_same.outcome draft
+          let draft = subst (of_draft c.args.library.now.watermark) (sym w.self-is) c.requires.draft in
+          outcome_pushed c.args.library.now.watermark c.match-date_of_duplicate.self.outcomes c.match-date_of_duplicate.self.added c.match-date_of_duplicate.outcome draft
           (subst (λ (one : AddOutcome). date_in one ≤ LAST_DATE) (sym w.outcome-is) w.in-Some.ensures.known)
       | in-None+in_ok-outcome-in-None w ↦
-          let there = subst (λ (m : ℕ). IsDraft m w.add.new.self.outcomes w.add.new.self.added) mark w.in_ok-outcome-in-None.ensures.draft in
-          let draft = subst (of_draft c.args.library.now.mark) (sym w.self-is) there in
-          outcome_pushed c.args.library.now.mark c.match-date_of_same.self.outcomes c.match-date_of_same.self.added c.match-date_of_same.outcome draft
+          let there = subst (λ (m : ℕ). IsDraft m w.add.new.self.outcomes w.add.new.self.added) watermark w.in_ok-outcome-in-None.ensures.draft in
+          let draft = subst (of_draft c.args.library.now.watermark) (sym w.self-is) there in
+          outcome_pushed c.args.library.now.watermark c.match-date_of_duplicate.self.outcomes c.match-date_of_duplicate.self.added c.match-date_of_duplicate.outcome draft
           (subst (λ (one : AddOutcome). date_in one ≤ LAST_DATE) (sym w.outcome-is) w.in_ok-outcome-in-None.ensures.known)
     ])

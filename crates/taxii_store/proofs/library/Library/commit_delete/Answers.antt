@@ -9,9 +9,9 @@ use Rattle.taxii_store.proofs.library.Library.commit_delete.Goals as goal
 pub returns-then-is_empty-clause-ok : goal.returns-then-is_empty-clause-ok
 returns-then-is_empty-clause-ok g c =
     let none = nil_from_length c.args.dates.now (eqb-true _ _ (sym c.is_empty.ensures ∙ c.if-is_empty.true)) in
-    ap (λ (rows : List StoredRow). record { rows = rows; mark = c.args.self.now.mark }) (none_taken c.args.self.now.rows c.args.dates.now none)
+    ap (λ (rows : List StoredRow). record { rows = rows; watermark = c.args.self.now.watermark }) (none_taken c.args.self.now.rows c.args.dates.now none)
 
 pub invariant_of-self : goal.invariant_of-self
 invariant_of-self g c =
-    subst (λ (rows : List StoredRow). IsSoundState (record { rows = rows; mark = c.self.inside.mark })) (sym c.remove-2.ensures)
-    (c.sound_states.ensures.removed (record { rows = c.self.inside.rows; mark = c.self.inside.mark }) c.args.dates.now c.self.invariant)
+    subst (λ (rows : List StoredRow). IsSoundState (record { rows = rows; watermark = c.self.inside.watermark })) (sym c.remove-2.ensures)
+    (c.sound_states.ensures.removed (record { rows = c.self.inside.rows; watermark = c.self.inside.watermark }) c.args.dates.now c.self.invariant)

@@ -35,7 +35,7 @@ loop-row-preserved c =
     (elim c.if-is_selected.branch [
       | then-is_selected+in_ok-push w ↦
           subst (AreTakenFrom rows collection id picks (take (suc i) walked)) (sym (w.dates-is ∙ w.in_ok-push.ensures.ok))
-          (taken_more rows walked collection id picks i row c.loop-row.dates are.rise here.0 here.1 c.loop-row.invariant
+          (taken_more rows walked collection id picks i row c.loop-row.dates are.ascend here.0 here.1 c.loop-row.invariant
           (record { its = its; picked = selected.0 w.if-is_selected.true }))
       | else-is_selected w ↦
           subst (AreTakenFrom rows collection id picks (take (suc i) walked)) (sym w.dates-is)

@@ -1,5 +1,0 @@
-use Rattle.alert_window.proofs.StayLemmas.{alert_stays}
-use Rattle.alert_window.proofs.laws.alerts_stay.Goals as goal
-
-pub returns : goal.returns
-returns c = alert_stays

@@ -1,0 +1,39 @@
+//! The arguments of the program: `PATTERN N SECONDS`.
+
+ghost use Rattle.std.specs.Prelude.{IfNone, IfSome};
+ghost use Rattle.command_line.specs.CommandLines.{texts};
+ghost use Rattle.command_alerts.specs.Tasks.{AskFor, AskForNothing, IsInRange, task_of};
+
+use command_line::number_in;
+
+/// The greatest number of matches that may be asked for.
+pub const MAX_N: u32 = 10_000;
+
+/// The greatest number of seconds.
+pub const MAX_SECONDS: u32 = 4_294_967_295;
+
+/// What is asked for: the alerts of a pattern, for so many matches within so many seconds.
+#[derive(Clone, Copy)]
+pub(crate) struct AlertRequest<'a> {
+    pub(crate) pattern: &'a str,
+    pub(crate) n: u32,
+    pub(crate) seconds: u32,
+}
+
+/// What the arguments after the program's name ask for, if anything.
+pub(crate) fn read_request<'a>(arguments: &'a [String]) -> Option<AlertRequest<'a>>
+    ensures some { IfSome result (λ request. AskFor (texts arguments.entry.now) (task_of request)) }
+    ensures range { IfSome result (λ request. IsInRange (task_of request)) }
+    ensures none { IfNone result (AskForNothing (texts arguments.entry.now)) }
+{
+    let [pattern, n, seconds] = arguments else {
+        return None;
+    };
+    let n = number_in(n.as_str(), 1, MAX_N)?;
+    let seconds = number_in(seconds.as_str(), 1, MAX_SECONDS)?;
+    Some(AlertRequest {
+        pattern: pattern.as_str(),
+        n,
+        seconds,
+    })
+}

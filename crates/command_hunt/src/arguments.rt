@@ -1,0 +1,119 @@
+//! The arguments of the program: `[--indicators FILE] TIME [CAP]`, the option ahead of the others or behind them.
+
+ghost use Rattle.std.specs.Prelude.{◌≡◌, ◌≢◌, ◌⊎◌, ◌↔◌, ℕ, ℤ, [], List, IfNone, IfSome, IsTrue, codes};
+ghost use Rattle.command_line.specs.CommandLines.{texts, IsNumberOr};
+ghost use Rattle.command_line.specs.declared.numbers.TheConstants.{DEFAULT_RETAINED_LIMIT as usual, MAX_RETAINED_LIMIT as most};
+ghost use Rattle.command_hunt.specs.Tasks.{HuntTask, ArePositions, AreWithOption, OptionBefore, OptionAfter, AskFor, AskForNothing, task_of};
+
+use command_line::{DEFAULT_RETAINED_LIMIT, MAX_RETAINED_LIMIT, number_in};
+use stix_times::laws::one_instant;
+use stix_times::{Instant, read};
+
+/// What is asked for: a hunt for what is to be hunted at a moment, where no more than the retained limit may be live of one pattern. The
+/// indicators are those of a file, where one is named.
+#[derive(Clone, Copy)]
+pub(crate) struct HuntRequest<'a> {
+    pub(crate) file: Option<&'a str>,
+    pub(crate) moment: Instant,
+    pub(crate) retained_limit: u32,
+}
+
+/// What the arguments TIME and Retained limit say.
+#[derive(Clone, Copy)]
+struct Positions {
+    moment: Instant,
+    retained_limit: u32,
+}
+
+/// What the arguments after the program's name ask for, if anything.
+pub(crate) fn read_request<'a>(arguments: &'a [String]) -> Option<HuntRequest<'a>>
+    ensures some { IfSome result (λ request. AskFor (texts arguments.entry.now) (task_of request)) }
+    ensures none { IfNone result (AskForNothing (texts arguments.entry.now)) }
+{
+    if let Some(positions) = read_positions(arguments) {
+        return Some(HuntRequest {
+            file: None,
+            moment: positions.moment,
+            retained_limit: positions.retained_limit,
+        });
+    }
+    let ahead = option_before(arguments);
+    if ahead.is_some() {
+        return ahead;
+    }
+    option_after(arguments)
+}
+
+/// What arguments ask for that begin with the option.
+fn option_before<'a>(arguments: &'a [String]) -> Option<HuntRequest<'a>>
+    ensures some { IfSome result (λ request. OptionBefore (texts arguments.entry.now) (task_of request)) }
+    ensures none { IfNone result ((task : HuntTask) → ¬ OptionBefore (texts arguments.entry.now) task) }
+{
+    let [option, name, others @ ..] = arguments else {
+        return None;
+    };
+    with_option(option.as_str(), name.as_str(), others)
+}
+
+/// What arguments ask for that end with the option.
+fn option_after<'a>(arguments: &'a [String]) -> Option<HuntRequest<'a>>
+    ensures some { IfSome result (λ request. OptionAfter (texts arguments.entry.now) (task_of request)) }
+    ensures none { IfNone result ((task : HuntTask) → ¬ OptionAfter (texts arguments.entry.now) task) }
+{
+    if arguments.len() < 2 {
+        return None;
+    }
+    let (others, last) = arguments.split_at(arguments.len() - 2);
+    let [option, name] = last else {
+        return None;
+    };
+    with_option(option.as_str(), name.as_str(), others)
+}
+
+/// What arguments ask for of which these two are the option and its value, and these the others.
+fn with_option<'a>(option: &str, name: &'a str, others: &[String]) -> Option<HuntRequest<'a>>
+    ensures some { IfSome result (λ request. AreWithOption option.entry.now name.entry.now (texts others.entry.now) (task_of request)) }
+    ensures none { IfNone result ((task : HuntTask) → ¬ AreWithOption option.entry.now name.entry.now (texts others.entry.now) task) }
+{
+    if !is_option(option, name) {
+        return None;
+    }
+    let Positions { moment, retained_limit } = read_positions(others)?;
+    Some(HuntRequest {
+        file: Some(name),
+        moment,
+        retained_limit,
+    })
+}
+
+/// Whether a argument is the option, and the one behind it the name of a file.
+fn is_option(option: &str, name: &str) -> bool
+    ensures { IsTrue result ↔ ((option.now ≡ codes "--indicators") × (name.now ≢ [])) }
+{
+    option == "--indicators" && !name.is_empty()
+}
+
+/// What the arguments TIME and Retained limit say, where they are that.
+fn read_positions(arguments: &[String]) -> Option<Positions>
+    ensures some { IfSome result (λ positions. ArePositions (texts arguments.now) positions.moment positions.retained_limit) }
+    ensures none { IfNone result ((moment : ℤ) (retained_limit : ℕ) → ¬ ArePositions (texts arguments.now) moment retained_limit) }
+{
+    let [time, caps @ ..] = arguments else {
+        return None;
+    };
+    let moment = read(time.as_str()).ok()?;
+    let retained_limit = read_retained_limit(caps)?;
+    Some(Positions { moment, retained_limit })
+}
+
+/// The retained limit that the arguments name, or the usual one where there is no argument.
+fn read_retained_limit(arguments: &[String]) -> Option<u32>
+    ensures some { IfSome result (IsNumberOr usual 1 most (texts arguments.now)) }
+    ensures none { IfNone result ((retained_limit : ℕ) → ¬ IsNumberOr usual 1 most (texts arguments.now) retained_limit) }
+{
+    match arguments {
+        [] => Some(DEFAULT_RETAINED_LIMIT),
+        [retained_limit] => number_in(retained_limit.as_str(), 1, MAX_RETAINED_LIMIT),
+        _ => None,
+    }
+}

@@ -1,0 +1,114 @@
+//! The arguments of the program: `HOST PORT ROOT COLLECTION FILE TRIES [--since TIME]`.
+
+ghost use Rattle.std.specs.Prelude.{◌≡◌, ◌≢◌, ◌↔◌, ℕ, List, Option, [], ◌∷◌, option_map, IfNone, IfOk, IfSome, IsTrue};
+ghost use Rattle.command_line.specs.CommandLines.{texts};
+ghost use Rattle.command_mirror.specs.Arguments.{AskFor, AskForNothing, AreStoreArguments, IsSinceOf, IsTimestamp, copying_of};
+
+use command_peer::{PeerArguments, number_to};
+use flow_values::NoMemory;
+use std::alloc::Global;
+use stix_times::read;
+use taxii_client::Target;
+
+/// How many objects a page is asked to have at most.
+pub const LIMIT: u64 = 100;
+
+/// The most fetches that may be lost before the program ends.
+pub const MAX_TRIES: u32 = 100;
+
+/// What is asked for: a copy of a collection of a peer, or of what was added to it after a time, in the store of a
+/// file. The program ends when so many fetches were lost.
+#[derive(Clone, Copy)]
+pub(crate) struct MirrorRequest<'a> {
+    pub(crate) peer: PeerArguments<'a>,
+    pub(crate) store: StoreArguments<'a>,
+}
+
+/// The store that a collection is copied to, how often a page may be tried for, and the timestamp behind which all is
+/// copied, where there is one.
+#[derive(Clone, Copy)]
+pub(crate) struct StoreArguments<'a> {
+    pub(crate) file: &'a str,
+    pub(crate) tries: u32,
+    pub(crate) since: Option<&'a str>,
+}
+
+impl<'a> MirrorRequest<'a> {
+    /// What is copied.
+    pub(crate) fn target(&self, alloc: Global) -> Result<Target, NoMemory>
+        ensures { IfOk result (λ target. target ≡ (copying_of self.now).target) }
+    {
+        self.peer.target(alloc, LIMIT, self.store.since)
+    }
+}
+
+/// What the arguments after the program's name ask for, if anything.
+pub(crate) fn read_request<'a>(arguments: &'a [String]) -> Option<MirrorRequest<'a>>
+    ensures some { IfSome result (λ request. AskFor (texts arguments.entry.now) (copying_of request)) }
+    ensures none { IfNone result (AskForNothing (texts arguments.entry.now)) }
+{
+    let [host, port, root, collection, more @ ..] = arguments else {
+        return None;
+    };
+    let store = store_of(more)?;
+    let peer = PeerArguments::read(
+        host.as_str(),
+        port.as_str(),
+        root.as_str(),
+        collection.as_str(),
+    )?;
+    Some(MirrorRequest { peer, store })
+}
+
+/// What the arguments behind the first four say.
+fn store_of<'a>(more: &'a [String]) -> Option<StoreArguments<'a>>
+    ensures some { IfSome result (λ store. AreStoreArguments (texts more.entry.now) store.file.now store.tries (option_map (λ time. time.now) store.since)) }
+    ensures none { IfNone result ((file : List ℕ) (tries : ℕ) (since : Option (List ℕ)) → ¬ AreStoreArguments (texts more.entry.now) file tries since) }
+{
+    let [file, tries, last @ ..] = more else {
+        return None;
+    };
+    let since = since_of(last)?;
+    let tries = number_to(tries.as_str(), MAX_TRIES)?;
+    let file = file_of(file.as_str())?;
+    Some(StoreArguments { file, tries, since })
+}
+
+/// The file of that name.
+fn file_of<'a>(text: &'a str) -> Option<&'a str>
+    ensures some { IfSome result (λ file. (file.now ≡ text.entry.now) × (text.entry.now ≢ [])) }
+    ensures none { IfNone result (text.entry.now ≡ []) }
+{
+    if text.is_empty() { None } else { Some(text) }
+}
+
+/// The timestamp that the last arguments say, or that they say none.
+fn since_of<'a>(last: &'a [String]) -> Option<Option<&'a str>>
+    ensures some { IfSome result (λ since. IsSinceOf (texts last.entry.now) (option_map (λ time. time.now) since)) }
+    ensures none { IfNone result ((since : Option (List ℕ)) → ¬ IsSinceOf (texts last.entry.now) since) }
+{
+    match last {
+        [] => Some(None),
+        [flag, time] => time_behind(flag.as_str(), time.as_str()),
+        _ => None,
+    }
+}
+
+/// The timestamp behind its flag.
+fn time_behind<'a>(flag: &str, time: &'a str) -> Option<Option<&'a str>>
+    ensures some { IfSome result (λ since. IsSinceOf (flag.entry.now ∷ time.entry.now ∷ []) (option_map (λ time. time.now) since)) }
+    ensures none { IfNone result ((since : Option (List ℕ)) → ¬ IsSinceOf (flag.entry.now ∷ time.entry.now ∷ []) since) }
+{
+    if flag == "--since" && is_timestamp(time) {
+        Some(Some(time))
+    } else {
+        None
+    }
+}
+
+/// Whether the text is a timestamp.
+fn is_timestamp(text: &str) -> bool
+    ensures { IsTrue result ↔ IsTimestamp text.now }
+{
+    read(text).is_ok()
+}

@@ -1,0 +1,94 @@
+//! The arguments `HOST PORT ROOT COLLECTION`.
+
+ghost use Rattle.std.specs.Prelude.{◌≡◌, ℕ, List, Option, IfNone, IfOk, IfSome, option_map};
+ghost use Rattle.command_line.specs.CommandLines.{IsNumberIn};
+ghost use Rattle.command_line.specs.declared.numbers.TheConstants.{MAX_PORT};
+ghost use Rattle.taxii_client.specs.declared.target.Target.{Target};
+ghost use Rattle.command_peer.specs.Arguments.{IsTargetOf, target_of};
+
+use crate::forms::{is_host, is_root};
+use command_line::{MAX_PORT, number_in};
+use flow_values::{NoMemory, Text};
+use std::alloc::Global;
+use stix_ids::read_uuid;
+use taxii_client::Target;
+
+/// A collection of a peer, as arguments name it.
+#[derive(Clone, Copy)]
+pub struct PeerArguments<'a> {
+    /// The peer's name or address.
+    pub host: &'a str,
+    pub port: u16,
+    /// The path of the API root, with a slash at both ends.
+    pub root: &'a str,
+    /// The number of the collection's UUID.
+    pub collection: u128,
+}
+
+impl<'a> PeerArguments<'a> {
+    /// The collection that the four arguments name, if they name one.
+    pub fn read(
+        host: &'a str,
+        port: &'a str,
+        root: &'a str,
+        collection: &'a str,
+    ) -> Option<PeerArguments<'a>>
+        ensures some { IfSome result (λ peer. (limit : ℕ) (since : Option (List ℕ))
+            → IsTargetOf host.entry.now port.entry.now root.entry.now collection.entry.now (target_of peer limit since)) }
+        ensures none { IfNone result ((target : Target) → ¬ IsTargetOf host.entry.now port.entry.now root.entry.now collection.entry.now target) }
+    {
+        if !is_host(host) || !is_root(root) {
+            return None;
+        }
+        let port = port_of(port)?;
+        let collection = read_uuid(collection)?;
+        Some(PeerArguments {
+            host,
+            port,
+            root,
+            collection,
+        })
+    }
+
+    /// What is asked of the peer: that collection, so many objects a page, and only what was added after that timestamp, where
+    /// there is one.
+    pub fn target(&self, alloc: Global, limit: u64, since: Option<&str>) -> Result<Target, NoMemory>
+        ensures { IfOk result (λ target. target ≡ target_of self.now limit (option_map (λ time. time.now) since.entry)) }
+    {
+        Ok(Target {
+            host: Text::from_text(alloc, self.host)?,
+            port: self.port,
+            root: Text::from_text(alloc, self.root)?,
+            collection: self.collection,
+            limit,
+            since: owned(alloc, since)?,
+        })
+    }
+}
+
+/// A text of its own, where there is one.
+fn owned(alloc: Global, text: Option<&str>) -> Result<Option<Text>, NoMemory>
+    ensures { IfOk result (λ own. own ≡ option_map (λ text. text.now) text.entry) }
+{
+    match text {
+        Some(text) => Ok(Some(Text::from_text(alloc, text)?)),
+        None => Ok(None),
+    }
+}
+
+/// The port that a argument is.
+fn port_of(text: &str) -> Option<u16>
+    ensures some { IfSome result (IsNumberIn 1 MAX_PORT text.now) }
+    ensures none { IfNone result ((port : ℕ) → ¬ IsNumberIn 1 MAX_PORT text.now port) }
+{
+    let number = number_to(text, MAX_PORT)?;
+    Some(number as u16)
+}
+
+/// The number from 1 to `most` that a argument is.
+pub fn number_to(text: &str, most: u32) -> Option<u32>
+    ensures some { IfSome result (IsNumberIn 1 most text.now) }
+    ensures none { IfNone result ((number : ℕ) → ¬ IsNumberIn 1 most text.now number) }
+{
+    number_in(text, 1, most)
+}

@@ -1,0 +1,59 @@
+//! The arguments of the program: `HOST PORT ROOT COLLECTION [LIMIT]`.
+
+ghost use Rattle.std.specs.Prelude.{◌≡◌, ℕ, IfNone, IfOk, IfSome};
+ghost use Rattle.command_line.specs.CommandLines.{texts};
+ghost use Rattle.command_pull.specs.Arguments.{AskFor, AskForNothing, IsLimitOf, target_of};
+
+use command_peer::{PeerArguments, number_to};
+use flow_values::NoMemory;
+use std::alloc::Global;
+use taxii_client::Target;
+
+/// The greatest number of objects that a page may be asked to have, and the usual one.
+pub const MAX_LIMIT: u32 = 100;
+
+/// What is asked for: the objects of a collection of a peer, so many at a time.
+#[derive(Clone, Copy)]
+pub(crate) struct PullRequest<'a> {
+    pub(crate) peer: PeerArguments<'a>,
+    pub(crate) limit: u32,
+}
+
+impl<'a> PullRequest<'a> {
+    /// The target of the request.
+    pub(crate) fn target(&self, alloc: Global) -> Result<Target, NoMemory>
+        ensures { IfOk result (λ target. target ≡ target_of self.now) }
+    {
+        self.peer.target(alloc, u64::from(self.limit), None)
+    }
+}
+
+/// What the arguments after the program's name ask for, if anything.
+pub(crate) fn read_request<'a>(arguments: &'a [String]) -> Option<PullRequest<'a>>
+    ensures some { IfSome result (λ request. AskFor (texts arguments.entry.now) (target_of request)) }
+    ensures none { IfNone result (AskForNothing (texts arguments.entry.now)) }
+{
+    let [host, port, root, collection, more @ ..] = arguments else {
+        return None;
+    };
+    let limit = limit_of(more)?;
+    let peer = PeerArguments::read(
+        host.as_str(),
+        port.as_str(),
+        root.as_str(),
+        collection.as_str(),
+    )?;
+    Some(PullRequest { peer, limit })
+}
+
+/// The limit that the arguments behind the first four say.
+fn limit_of(more: &[String]) -> Option<u32>
+    ensures some { IfSome result (IsLimitOf (texts more.now)) }
+    ensures none { IfNone result ((limit : ℕ) → ¬ IsLimitOf (texts more.now) limit) }
+{
+    match more {
+        [] => Some(MAX_LIMIT),
+        [limit] => number_to(limit.as_str(), MAX_LIMIT),
+        _ => None,
+    }
+}

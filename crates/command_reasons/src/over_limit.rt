@@ -1,0 +1,38 @@
+ghost use Rattle.std.specs.Prelude.{◌++◌, codes, IsErr};
+ghost use Rattle.flow_edges.specs.Faults.{Counted};
+ghost use Rattle.flow_edges.specs.Flow.{WritesWhole};
+ghost use Rattle.command_reasons.specs.Reasons.{over_limit_reason};
+
+use flow_edges::{Sink, write_all_vectored};
+use flow_values::Fault;
+use itoa::Buffer;
+
+/// Writes at which observation more was live than the retained limit allows, as `over_limit at observation 7: retained_limit 9` and a line feed.
+pub fn write_over_limit<S: Sink>(number: u64, retained_limit: u64, reasons: &mut S) -> Result<(), Fault>
+    ensures text { WritesWhole (over_limit_reason number retained_limit) (S.written reasons.old) (S.written reasons.new) result }
+    ensures causes { Counted (IsErr result) (S.faults reasons.old) (S.faults reasons.new) }
+{
+    let mut buffer = Buffer::new();
+    let number = buffer.format(number);
+    let mut buffer = Buffer::new();
+    let retained_limit = buffer.format(retained_limit);
+    write_numbers(number, retained_limit, reasons)
+}
+
+/// The same, of the texts of both numbers.
+fn write_numbers<'a, S: Sink>(number: &'a str, retained_limit: &'a str, reasons: &mut S) -> Result<(), Fault>
+    ensures text { WritesWhole (codes "crowded at observation " ++ (number.now ++ (codes ": cap " ++ (retained_limit.now ++ codes "\n"))))
+        (S.written reasons.old) (S.written reasons.new) result }
+    ensures causes { Counted (IsErr result) (S.faults reasons.old) (S.faults reasons.new) }
+{
+    write_all_vectored(
+        reasons,
+        &[
+            b"crowded at observation ",
+            number.as_bytes(),
+            b": cap ",
+            retained_limit.as_bytes(),
+            b"\n",
+        ],
+    )
+}

@@ -1,0 +1,111 @@
+ghost use Rattle.std.specs.Prelude.{◌≡◌, IfOk, OnErr};
+ghost use Rattle.std.specs.Io.{ReadsAtMost, WritesAtMost};
+ghost use Rattle.std.specs.Io.KnownBytes.{Keeps, ReadConsumes, WriteAppends};
+ghost use Rattle.std.specs.declared.time.Instant.{Instant as Moment};
+ghost use Rattle.flow_links.specs.Phase.{after_read, after_write};
+ghost use Rattle.flow_links.specs.declared.system.phase.Phase.TheVariants.{Waiting};
+
+use super::{Deadline, DeadlineStream, Phase};
+use std::io;
+use std::io::{Read, Write};
+use std::marker::Model;
+use std::net::{OpenStream, Shutdown};
+use std::time::{Clock as Timer, Duration, Instant};
+
+/// How many seconds the bytes of a caller are dropped for at the end.
+const CLOSING_TIME: u64 = 2;
+
+/// The most bytes that are dropped then: twice the largest body that a server takes.
+const CLOSING_BYTES: u64 = 16_777_216;
+
+/// A stream of the system whose caller has to keep a phase: a read or a write waits no longer than its `Phase`
+/// leaves time, and is an error where it leaves none. Contracts see what the stream has left and holds,
+/// where it tells that, and the phase.
+#[derive(Drop)]
+pub struct TimedStream<'r, S: Read + Write + OpenStream, C: Timer> {
+    stream: S,
+    clock: &'r C,
+    phase: Phase,
+}
+
+impl<'r, S: Read + Write + OpenStream, C: Timer> Model for TimedStream<'r, S, C> {
+    ghost use Rattle.flow_links.specs.System.{TimedState};
+
+    ghost Value = { TimedState };
+
+    ghost view = { λ timed. record {
+      remaining = S.remaining timed.stream;
+      contents = S.contents timed.stream;
+      phase = timed.phase;
+    } };
+}
+
+impl<'r, S: Read + Write + OpenStream + Drop, C: Timer> TimedStream<'r, S, C> {
+    /// This stream, whose caller has sent nothing yet.
+    pub fn new(stream: S, clock: &'r C) -> TimedStream<'r, S, C>
+        ensures { result ≡ record { remaining = S.remaining stream; contents = S.contents stream; phase = Waiting } }
+    {
+        TimedStream {
+            stream,
+            clock,
+            phase: Phase::Waiting,
+        }
+    }
+
+    /// Ends what is written, and drops what still comes, for 2 seconds and 16,777,216 bytes at most. A system
+    /// that closes a stream before takes back what the caller hasn't read yet.
+    pub(super) fn close(self) -> io::Result<()> {
+        self.stream.shutdown(Shutdown::Write)?;
+        let deadline = Deadline::after(self.clock, Duration::from_secs(CLOSING_TIME))?;
+        let rest = DeadlineStream::new(self.stream, deadline);
+        io::copy(&mut rest.take(CLOSING_BYTES), &mut io::sink())?;
+        Ok(())
+    }
+}
+
+impl<'r, S: Read + Write + OpenStream, C: Timer> Read for TimedStream<'r, S, C> {
+    ghost remaining = { λ timed. timed.remaining };
+
+    fn read(&mut self, buf: &mut [u8]) -> io::Result<usize>
+        ensures bound { ReadsAtMost result buf.new }
+        ensures bytes { ReadConsumes self.old.remaining self.new.remaining result buf.new }
+
+        ensures ok { IfOk result (λ count. (now : Moment) × (self.new.phase ≡ after_read self.old.phase now count)) }
+        ensures err { OnErr result (self.new.phase ≡ self.old.phase) }
+    {
+        let begun = Instant::now(self.clock)?;
+        let time = self.phase.time_to_read(begun)?;
+        self.stream.set_read_timeout(Some(time))?;
+        let count = self.stream.read(buf)?;
+        let ended = Instant::now(self.clock).unwrap_or(begun);
+        self.phase = self.phase.after_read(ended, count as u64);
+        Ok(count)
+    }
+}
+
+impl<'r, S: Read + Write + OpenStream, C: Timer> Write for TimedStream<'r, S, C> {
+    ghost contents = { λ timed. timed.contents };
+
+    fn write(&mut self, buf: &[u8]) -> io::Result<usize>
+        ensures bound { WritesAtMost result buf.now }
+        ensures bytes { WriteAppends self.old.contents self.new.contents result buf.now }
+
+        ensures ok { IfOk result (λ _. (now : Moment) × (self.new.phase ≡ after_write self.old.phase now)) }
+        ensures err { OnErr result (self.new.phase ≡ self.old.phase) }
+    {
+        let begun = Instant::now(self.clock)?;
+        let time = self.phase.time_to_write(begun)?;
+        self.stream.set_write_timeout(Some(time))?;
+        let count = self.stream.write(buf)?;
+        self.phase = self.phase.after_write(begun);
+        Ok(count)
+    }
+
+    fn flush(&mut self) -> io::Result<()>
+        ensures bytes { Keeps self.old.contents self.new.contents }
+
+        ensures stays { self.new.phase ≡ self.old.phase }
+    {
+        self.stream.flush()
+    }
+}

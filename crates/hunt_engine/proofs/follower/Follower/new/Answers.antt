@@ -1,7 +1,0 @@
--- What was made for the pattern follows the empty log.
-use Rattle.std.specs.Option.{option_map}
-use Rattle.hunt_engine.proofs.FollowLemmas.{follows_first}
-use Rattle.hunt_engine.proofs.follower.Follower.new.Goals as goal
-
-pub returns : goal.returns
-returns c = follows_first c.test_is_the_rule.ensures c.args.pattern.now c.args.cap (option_map (λ held. held.value) c.in_ok-matcher.matcher) c.in_ok-matcher.ensures

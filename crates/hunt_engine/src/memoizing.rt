@@ -1,0 +1,116 @@
+//! What holds at roots that aren't known yet.
+
+ghost use Rattle.std.specs.Prelude.{◌≡◌, ◌↔◌, ◌∷◌, [], IsTrue, All, map, IfOk, OnOk};
+ghost use Rattle.stix_bundles.specs.Objects.{data_in};
+ghost use Rattle.pattern_types.specs.PlainLeaf.{plain_leaf};
+ghost use Rattle.pattern_types.specs.Soundness.{IsSoundLeaf};
+ghost use Rattle.match_comparisons.specs.Tests.{LeafHolds, HoldsAt};
+ghost use Rattle.hunt_index.specs.Definite.{IsDefinite};
+ghost use Rattle.hunt_engine.specs.Memo.{AreHeld, IsSoundMemo};
+ghost use Rattle.hunt_engine.specs.inner.Memos.{IsMemoized, InsertsEmpty};
+
+use crate::Memo;
+use crate::bracket_tests::test_brackets;
+use crate::brackets::Brackets;
+use crate::holding::holds_at;
+use crate::root_batch::RootBatch;
+use flow_values::{Items, NoMemory};
+use pattern_types::Leaf;
+use std::alloc::Global;
+use stix_bundles::Bundle;
+use hunt_index::{Index, is_definite};
+
+/// Where fewer roots come than so many, each is asked by itself: a bracket of one root costs least so.
+const FEW: usize = 8;
+
+/// Makes a root known, and with it those that come next and aren't known.
+pub(crate) fn memoize(
+    alloc: Global,
+    brackets: &Brackets<'_>,
+    index: &Index<'_>,
+    root: u32,
+    bundle: &Bundle,
+    memo: &mut Memo,
+) -> Result<(), NoMemory>
+    requires sound { All IsSoundLeaf (map plain_leaf (map (λ leaf. leaf.now) brackets.now.leaves.items)) }
+    requires index { index.now ≡ map (λ leaf. leaf.now) brackets.now.leaves.items }
+    requires right { IsSoundMemo (data_in bundle.now) (map plain_leaf (map (λ leaf. leaf.now) brackets.now.leaves.items)) memo.old }
+    ensures memo { OnOk result (IsMemoized memo.new root) }
+    ensures right { OnOk result (IsSoundMemo (data_in bundle.now) (map plain_leaf (map (λ leaf. leaf.now) brackets.now.leaves.items)) memo.new) }
+{
+    if memo.has(root) {
+        return Ok(());
+    }
+    memo.evict_if_full();
+    if memo.upcoming().len() < FEW {
+        let positions = matching_at(alloc, brackets, index, root, bundle)?;
+        return memo.add(root, positions);
+    }
+    memoize_batch(alloc, brackets, index, root, bundle, memo)
+}
+
+/// The same, where many come: each bracket is asked of all of them at once.
+fn memoize_batch(
+    alloc: Global,
+    brackets: &Brackets<'_>,
+    index: &Index<'_>,
+    root: u32,
+    bundle: &Bundle,
+    memo: &mut Memo,
+) -> Result<(), NoMemory>
+    requires sound { All IsSoundLeaf (map plain_leaf (map (λ leaf. leaf.now) brackets.now.leaves.items)) }
+    requires index { index.now ≡ map (λ leaf. leaf.now) brackets.now.leaves.items }
+    requires right { IsSoundMemo (data_in bundle.now) (map plain_leaf (map (λ leaf. leaf.now) brackets.now.leaves.items)) memo.old }
+    ensures memo { OnOk result (IsMemoized memo.new root) }
+    ensures right { OnOk result (IsSoundMemo (data_in bundle.now) (map plain_leaf (map (λ leaf. leaf.now) brackets.now.leaves.items)) memo.new) }
+{
+    let root_batch = RootBatch::of(alloc, index, root, bundle, memo)?;
+    insert_empty(alloc, root_batch.roots.as_slice(), memo)?;
+    test_brackets(alloc, brackets, root_batch.pairs.as_slice(), bundle, memo)?;
+    Ok(())
+}
+
+/// Adds roots, with no positions yet.
+fn insert_empty(alloc: Global, roots: &[u32], memo: &mut Memo) -> Result<(), NoMemory>
+    ensures { OnOk result (InsertsEmpty roots.now memo.old memo.new) }
+{
+    for root in roots {
+        memo.add(*root, Items::new(alloc))?;
+    }
+    Ok(())
+}
+
+/// The positions of the brackets that hold at a root. Only the candidates are asked: all that hold are among
+/// them, and those that are exact hold.
+fn matching_at(
+    alloc: Global,
+    brackets: &Brackets<'_>,
+    index: &Index<'_>,
+    root: u32,
+    bundle: &Bundle,
+) -> Result<Items<u32>, NoMemory>
+    requires sound { All IsSoundLeaf (map plain_leaf (map (λ leaf. leaf.now) brackets.now.leaves.items)) }
+    requires index { index.now ≡ map (λ leaf. leaf.now) brackets.now.leaves.items }
+    ensures { IfOk result (AreHeld (data_in bundle.now) (map plain_leaf (map (λ leaf. leaf.now) brackets.now.leaves.items)) root) }
+{
+    let candidates = index.candidates(&[root], bundle)?;
+    let mut matching = Vec::new(alloc);
+    for position in candidates.as_slice() {
+        if candidate_holds(alloc, brackets.leaves[*position as usize], bundle, root)? {
+            matching.push(*position)?;
+        }
+    }
+    Ok(Items::from_vec(matching))
+}
+
+/// Whether a candidate holds at a root. One that is exact isn't asked: the index found what it asks for.
+fn candidate_holds(alloc: Global, leaf: &Leaf, bundle: &Bundle, root: u32) -> Result<bool, NoMemory>
+    requires sound { IsSoundLeaf (plain_leaf leaf.now) }
+    requires certain { IsDefinite (plain_leaf leaf.now) → LeafHolds (data_in bundle.now) (root ∷ []) (plain_leaf leaf.now) }
+    ensures { IfOk result (λ met. IsTrue met ↔ HoldsAt (data_in bundle.now) root (plain_leaf leaf.now)) }
+{
+    if is_definite(leaf) {
+        return Ok(true);
+    }
+    holds_at(alloc, leaf, bundle, root)
+}

@@ -1,0 +1,177 @@
+//! Index keys: of each bracket, what a root has to say so that it can hold.
+
+ghost use Rattle.std.specs.Prelude.{◌≡◌, ◌⊎◌, ◌++◌, List, IfOk, Contains};
+ghost use Rattle.pattern_types.specs.declared.constant.Constant.{Constant};
+ghost use Rattle.pattern_types.specs.PlainLeaf.{plain_leaf, listed};
+ghost use Rattle.pattern_types.specs.declared.path.Step.{Step};
+ghost use Rattle.match_comparisons.specs.Tests.{TestHolds, HoldsAt, AllHold, SomeHold};
+ghost use Rattle.hunt_index.specs.Definite.{IsDefinite, AreDefinite, IsDefiniteTest, ArePlain};
+ghost use Rattle.hunt_index.specs.inner.IndexKeys.{AreIndexKeys, IndexKeys, AreSufficient, Sufficient, HasIndexKey, AreBy, Represents, AnswersSome};
+
+use crate::index_key::IndexKey;
+use crate::key::{Key, key_of};
+use flow_values::{Items, NoMemory};
+use pattern_types::{Check, Constant, Leaf, Step, Test};
+use std::alloc::Global;
+
+/// The index keys of a bracket. None where it can hold whatever a root says.
+#[cycle(leaves)]
+pub(crate) fn index_keys_of<'p>(
+    alloc: Global,
+    leaf: &'p Leaf,
+) -> Result<Option<Items<IndexKey<'p>>>, NoMemory>
+    ensures needed { IfOk result (IndexKeys (λ objects root. HoldsAt objects root (plain_leaf leaf.now))) }
+    ensures sufficient { IfOk result (λ found. IsDefinite (plain_leaf leaf.now) → Sufficient (λ objects root. HoldsAt objects root (plain_leaf leaf.now)) found) }
+{
+    match leaf {
+        Leaf::Test(test) => {
+            let index_keys = index_keys_of_test(alloc, test)?;
+            Ok(Some(index_keys))
+        }
+        Leaf::All(parts) => index_keys_of_all(alloc, parts.as_slice()),
+        Leaf::Any(parts) => index_keys_of_some(alloc, parts.as_slice()),
+    }
+}
+
+/// The index keys of parts that all have to hold: those of one of them will do, and the fewest are taken.
+#[cycle(leaves)]
+fn index_keys_of_all<'p>(alloc: Global, parts: &'p [Leaf]) -> Result<Option<Items<IndexKey<'p>>>, NoMemory>
+    ensures { IfOk result (IndexKeys (λ objects root. AllHold objects root (listed parts.now))) }
+{
+    let mut fewest = None;
+    for part in parts {
+        let own = index_keys_of(alloc, part)?;
+        fewest = more_selective(fewest, own);
+    }
+    Ok(fewest)
+}
+
+/// The index keys of parts of which one has to hold: those of all of them together.
+#[cycle(leaves)]
+fn index_keys_of_some<'p>(
+    alloc: Global,
+    parts: &'p [Leaf],
+) -> Result<Option<Items<IndexKey<'p>>>, NoMemory>
+    ensures needed { IfOk result (IndexKeys (λ objects root. SomeHold objects root (listed parts.now))) }
+    ensures sufficient { IfOk result (λ found. AreDefinite (listed parts.now) → Sufficient (λ objects root. SomeHold objects root (listed parts.now)) found) }
+{
+    let mut index_keys = Vec::new(alloc);
+    for part in parts {
+        match index_keys_of(alloc, part) {
+            Ok(Some(own)) => index_keys.extend_from_slice(own.as_slice())?,
+            Ok(None) => return Ok(None),
+            Err(error) => return Err(error),
+        }
+    }
+    Ok(Some(Items::from_vec(index_keys)))
+}
+
+/// Those of two lists of index keys that fewer roots meet, as far as can be told: by how many of them leave
+/// the value open, and then by how many there are.
+fn more_selective<'p>(
+    one: Option<Items<IndexKey<'p>>>,
+    other: Option<Items<IndexKey<'p>>>,
+) -> Option<Items<IndexKey<'p>>>
+    ensures { (result ≡ one.entry) ⊎ (result ≡ other.entry) }
+{
+    match (&one, &other) {
+        (None, _) => other,
+        (Some(_), None) => one,
+        (Some(index_keys), Some(others)) => {
+            if selectivity(index_keys.as_slice()) <= selectivity(others.as_slice()) {
+                one
+            } else {
+                other
+            }
+        }
+    }
+}
+
+/// How much it costs to have such index keys: how many of them leave the value open, and how many there are.
+fn selectivity(index_keys: &[IndexKey<'_>]) -> (usize, usize) {
+    let open = index_keys
+        .iter()
+        .filter(|index_key| matches!(index_key.key, Key::Any))
+        .count();
+    (open, index_keys.len())
+}
+
+/// The index keys of a test. Of a negated test only the type of the root is one, since other values don't
+/// meet it; behind a `[*]` the values are many, so that the steps before it are one.
+fn index_keys_of_test<'p>(alloc: Global, test: &'p Test) -> Result<Items<IndexKey<'p>>, NoMemory>
+    ensures needed { IfOk result (AreIndexKeys (λ objects root. TestHolds objects root test.now)) }
+    ensures sufficient { IfOk result (λ index_keys. IsDefiniteTest test.now → AreSufficient (λ objects root. TestHolds objects root test.now) index_keys) }
+{
+    let kind = test.path.kind.as_str();
+    let steps = test.path.steps.as_slice();
+    if test.negated {
+        return one_index_key(alloc, kind, &[], Key::Any);
+    }
+    let front = plain_prefix(steps);
+    if front.len() < steps.len() {
+        return one_index_key(alloc, kind, front, Key::Any);
+    }
+    match &test.check {
+        Check::Equal(constant) => one_index_key(alloc, kind, front, key_of(constant)),
+        Check::Among(constants) => index_keys_by_value(alloc, kind, front, constants.as_slice()),
+        Check::Differ(_)
+        | Check::Less(_)
+        | Check::LessEqual(_)
+        | Check::Greater(_)
+        | Check::GreaterEqual(_)
+        | Check::Like(_)
+        | Check::Subset(_)
+        | Check::Superset(_)
+        | Check::Exists => one_index_key(alloc, kind, front, Key::Any),
+    }
+}
+
+/// One index key.
+fn one_index_key<'p>(
+    alloc: Global,
+    kind: &'p str,
+    steps: &'p [Step],
+    key: Key<'p>,
+) -> Result<Items<IndexKey<'p>>, NoMemory>
+    ensures has { IfOk result (HasIndexKey kind.now steps.now (λ own. own ≡ key.entry)) }
+    ensures by { IfOk result (AreBy kind.now steps.now (λ own. own ≡ key.entry)) }
+{
+    let mut index_keys = Items::new(alloc);
+    index_keys.push(IndexKey { kind, steps, key })?;
+    Ok(index_keys)
+}
+
+/// A index key for each constant that the value may equal.
+fn index_keys_by_value<'p>(
+    alloc: Global,
+    kind: &'p str,
+    steps: &'p [Step],
+    constants: &'p [Constant],
+) -> Result<Items<IndexKey<'p>>, NoMemory>
+    ensures has { IfOk result (λ index_keys. (constant : Constant) → Contains constants.now constant → HasIndexKey kind.now steps.now (Represents constant) index_keys) }
+    ensures by { IfOk result (AreBy kind.now steps.now (AnswersSome constants.now)) }
+{
+    let mut index_keys = Items::with_capacity(alloc, constants.len())?;
+    for constant in constants {
+        index_keys.push(IndexKey {
+            kind,
+            steps,
+            key: key_of(constant),
+        })?;
+    }
+    Ok(index_keys)
+}
+
+/// The steps before the first `[*]`.
+fn plain_prefix(steps: &[Step]) -> &[Step]
+    ensures plain { ArePlain result.now }
+    ensures front { (rest : List Step) × (steps.now ≡ result.now ++ rest) }
+    ensures whole { ArePlain steps.now → result.now ≡ steps.now }
+{
+    for (at, step) in steps.iter().enumerate() {
+        if matches!(step, Step::Each) {
+            return &steps[..at];
+        }
+    }
+    steps
+}

@@ -1,0 +1,74 @@
+-- For private clauses: what a hunter reports of some observations.
+use Rattle.std.specs.Prelude.{◌≡◌, ◌⊎◌, ⊤, ℕ, ◌<◌, List, [], ◌∷◌, ◌++◌, length, All, Option, Result, Err}
+use Rattle.serde_json.specs.Data.{Data}
+use Rattle.flow_edges.specs.Flow.{WritesPrefix}
+use Rattle.stix_bundles.specs.declared.observation.Observation.{Observation}
+use Rattle.match_run.specs.declared.see_end.SeeEnd.{SeeEnd}
+use Rattle.match_run.specs.declared.see_end.SeeEnd.TheVariants.{Stopped, WriteFault, NoMemory}
+use Rattle.match_run.specs.Buffered.{IsBuffered}
+use Rattle.hunt_engine.specs.declared.found.Hit.{Hit}
+use Rattle.hunt_engine.specs.declared.refusal.EngineRefusal.{EngineRefusal}
+use Rattle.hunt_engine.specs.declared.refusal.EngineRefusal.TheVariants as refusal
+use Rattle.hunt_engine.specs.EngineLog.{Row}
+use Rattle.hunt_engine.specs.EngineAnswer.{IsFirstOverLimit}
+use Rattle.hunt_report.specs.declared.over_limit.OverLimit.{OverLimit}
+use Rattle.hunt_report.specs.Rows.{rows_over}
+use Rattle.hunt_report.specs.Hunting.{HunterState, HuntsOver, patterns_of, TakesRows, TakesFirst, TakesUpTo}
+
+-- ---- one row
+
+-- behind whatever rows, it hunted over one more, at which these hits end, each of an indicator
+pub record TakesRow (row : Row) (before after : HunterState) (own : List Hit) : Type 0 where
+  pub hunted : after.hunted ≡ before.hunted
+  pub retained_limit : after.engine.retained_limit ≡ before.engine.retained_limit
+  pub takes : (earlier : List Row) (hits : List Hit) → HuntsOver before earlier hits → HuntsOver after (earlier ++ row ∷ []) (hits ++ own)
+  pub inside : All (λ hit. hit.hunted < length before.hunted) own
+
+-- behind whatever rows, a pattern is over limit at this one, the first such place
+abbrev pub IsOverLimitAt : Row → HunterState → OverLimit → Type 0
+IsOverLimitAt row before why = (earlier : List Row) (hits : List Hit) → HuntsOver before earlier hits
+    → IsFirstOverLimit (patterns_of before.hunted) before.engine.retained_limit (earlier ++ row ∷ []) why.hunted why.number why.retained_limit
+
+-- how a hunter ends where its engine does
+abbrev pub end_of_engine : EngineRefusal → SeeEnd OverLimit
+end_of_engine (refusal.OverLimit hunted number retained_limit) = Stopped (record { hunted = hunted; number = number; retained_limit = retained_limit })
+end_of_engine refusal.Ended = NoMemory
+end_of_engine refusal.NoMemory = NoMemory
+
+-- what an end at a row says
+abbrev pub EndsAtRow : Row → HunterState → SeeEnd OverLimit → Type 0
+EndsAtRow row before (Stopped why) = IsOverLimitAt row before why
+EndsAtRow row before WriteFault = ⊥
+EndsAtRow row before NoMemory = ⊤
+
+-- ---- the observations of a bundle
+
+-- of what is told of them so much is written, and the rest is pending
+pub record TakesSoFar (objects : List Data) (observations : List Observation) (before after : HunterState) (pending : List ℕ)
+    (written written_now : Option (List ℕ)) : Type 0 where
+  pub text : List ℕ
+  pub takes : TakesRows (rows_over objects observations) before after text
+  pub way : IsBuffered text pending written written_now
+
+-- of what is told of those ahead of a over limit one so much is written, and the rest is pending
+pub record StopsSoFar (objects : List Data) (observations : List Observation) (before : HunterState) (why : OverLimit) (pending : List ℕ)
+    (written written_now : Option (List ℕ)) : Type 0 where
+  pub text : List ℕ
+  pub stops : TakesUpTo objects observations before why text
+  pub way : IsBuffered text pending written written_now
+
+-- of what is told of the first of them a prefix is written
+pub record TakesPart (objects : List Data) (observations : List Observation) (before : HunterState) (written written_now : Option (List ℕ)) : Type 0 where
+  pub text : List ℕ
+  pub takes : TakesFirst objects observations before text
+  pub prefix : WritesPrefix text written written_now
+
+-- what an end among them says
+abbrev pub EndsAmong : List Data → List Observation → HunterState → List ℕ → Option (List ℕ) → Option (List ℕ) → SeeEnd OverLimit → Type 0
+EndsAmong objects observations before pending written written_now (Stopped why) = StopsSoFar objects observations before why pending written written_now
+EndsAmong objects observations before pending written written_now WriteFault = TakesPart objects observations before written written_now
+EndsAmong objects observations before pending written written_now NoMemory = TakesPart objects observations before written written_now
+
+-- such an end came in the middle of lines
+abbrev pub HasCutLines : Result (Unit {0}) (SeeEnd OverLimit) → Type 0
+HasCutLines ended = (ended ≡ Err NoMemory) ⊎ (ended ≡ Err WriteFault)

@@ -1,5 +1,0 @@
-use Rattle.match_bindings.proofs.FlatLemmas.{flats_tell}
-use Rattle.match_bindings.proofs.laws.flat_lists_tell.Goals as goal
-
-pub returns : goal.returns
-returns c = flats_tell

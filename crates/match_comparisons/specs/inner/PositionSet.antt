@@ -1,0 +1,13 @@
+-- For private clauses: a set of positions.
+use Rattle.std.specs.Prelude.{◌↔◌, ℕ, IsTrue, List, Contains}
+use Rattle.std.specs.BTreeSet.{contains}
+use Rattle.std.specs.Ordering.{nat_cmp}
+use Rattle.match_comparisons.specs.declared.position_set.PositionSet.{PositionSet}
+
+-- the position is among them
+abbrev pub IsIn : PositionSet → ℕ → Type 0
+IsIn position_set at = IsTrue (contains nat_cmp position_set.set at)
+
+-- they are those of the list
+abbrev pub AreOf : List ℕ → PositionSet → Type 0
+AreOf list position_set = (at : ℕ) → IsIn position_set at ↔ Contains list at

@@ -1,0 +1,40 @@
+ghost use Rattle.std.specs.Prelude.{◌≡◌, ◌↔◌, ◌⊎◌, ℕ, IsTrue, OnOk};
+ghost use Rattle.match_comparisons.specs.inner.VisitSet.{Has};
+
+use flow_values::NoMemory;
+use std::alloc::Global;
+use std::collections::BTreeSet;
+
+/// Objects that a search went to by a reference: of each its position, and how many steps stood behind the
+/// name that led on from there.
+#[derive(Drop)]
+pub(crate) struct VisitSet {
+    pairs: BTreeSet<(usize, u32)>,
+}
+
+impl VisitSet {
+    /// No places.
+    pub(crate) fn new(alloc: Global) -> VisitSet
+        ensures { (left at : ℕ) → ¬ Has result left at }
+    {
+        VisitSet {
+            pairs: BTreeSet::new(alloc),
+        }
+    }
+
+    /// Whether the object at a position is one, with so many steps left.
+    pub(crate) fn has(&self, left: usize, at: u32) -> bool
+        ensures { IsTrue result ↔ Has self.now left at }
+    {
+        self.pairs.contains(&(left, at))
+    }
+
+    /// Adds one.
+    pub(crate) fn add(&mut self, left: usize, at: u32) -> Result<(), NoMemory>
+        ensures { OnOk result ((count place : ℕ) → Has self.new count place
+            ↔ (Has self.old count place ⊎ ((count ≡ left) × (place ≡ at)))) }
+    {
+        self.pairs.insert((left, at))?;
+        Ok(())
+    }
+}

@@ -1,8 +1,0 @@
-use Rattle.match_run.proofs.WayLemmas.{way-none, way-stopped}
-use Rattle.match_run.proofs.watch_laws.parts_on_their_way.Goals as goal
-
-pub returns-clause-none : goal.returns-clause-none
-returns-clause-none c = way-none
-
-pub returns-clause-prefix : goal.returns-clause-prefix
-returns-clause-prefix c = way-stopped

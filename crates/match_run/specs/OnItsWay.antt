@@ -1,9 +1,0 @@
--- A text on its way to an output.
-use Rattle.std.specs.Prelude.{◌≡◌, ℕ, List, ◌++◌, Option}
-use Rattle.flow_edges.specs.Flow.{written_with}
-
--- of a text a first part is written, and the rest is pending
-pub record IsOnItsWay (text pending : List ℕ) (before now : Option (List ℕ)) : Type 0 where
-  pub sent : List ℕ
-  pub text_is : text ≡ sent ++ pending
-  pub now_is : now ≡ written_with sent before

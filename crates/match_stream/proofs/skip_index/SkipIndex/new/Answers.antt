@@ -1,0 +1,10 @@
+use Rattle.std.proofs.Common.{List, subst}
+use Rattle.match_stream.specs.declared.key.Key.{Key}
+use Rattle.match_stream.specs.inner.Sieves.{AreLevelsOf}
+use Rattle.match_stream.proofs.skip_index.SkipIndex.new.Goals as goal
+
+pub returns : goal.returns
+returns c = λ _. record {
+  keys = c.in_ok-keys.ensures;
+  levels = subst (λ (z : List Key). AreLevelsOf z c.in_ok-levels.levels.items) c.deref.ensures.value c.in_ok-levels.ensures;
+}

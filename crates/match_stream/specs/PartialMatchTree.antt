@@ -1,0 +1,17 @@
+-- What a store of a matcher holds: binds, each with its earliest and latest time.
+use Rattle.std.specs.Prelude.{ℤ, List, map}
+use Rattle.match_bindings.specs.BindTree.{BindTree}
+use Rattle.match_bindings.specs.Log.{Observed}
+use Rattle.match_bindings.specs.Span.{earliest, latest}
+
+pub record PartialMatchTree : Type 0 where
+  pub tree : BindTree
+  pub earliest : ℤ
+  pub latest : ℤ
+
+-- a tree with its times in a log
+abbrev pub hold : Observed → BindTree → PartialMatchTree
+hold o x = record { tree = x; earliest = earliest o.first x; latest = latest o.last x }
+
+abbrev pub trees_in : List PartialMatchTree → List BindTree
+trees_in held = map (λ h. h.tree) held

@@ -1,0 +1,24 @@
+-- What contracts see of a matcher, and what is true of each.
+use Rattle.std.specs.Prelude.{◌≡◌, true, ◌||◌, is_some}
+use Rattle.match_bindings.specs.Bounds.{no_bounds}
+use Rattle.match_bindings.specs.NumberedPattern.{numbered_pattern}
+use Rattle.match_stream.specs.declared.matcher.Matcher.TheInside.{Inside}
+use Rattle.match_stream.specs.MatcherState.{MatcherState}
+use Rattle.match_stream.specs.inner.Steps.{contents_of}
+use Rattle.match_stream.specs.inner.Nodes.{state_of}
+use Rattle.match_stream.specs.inner.Shape.{fits}
+
+-- a matcher without where it lies in memory
+abbrev pub observable_state : Inside → MatcherState
+observable_state matcher = record {
+  pattern = matcher.pattern.now;
+  retained_limit = matcher.run.retained_limit;
+  ended = matcher.ended;
+  rows = matcher.run.rows;
+  last = matcher.run.last;
+  contents = contents_of (state_of matcher.run.node);
+}
+
+-- it has ended, or what it keeps is made for its pattern
+abbrev pub IsMade : Inside → Type 0
+IsMade matcher = (is_some matcher.ended || fits no_bounds (numbered_pattern matcher.pattern.now) (state_of matcher.run.node)) ≡ true

@@ -1,0 +1,95 @@
+ghost use Rattle.std.specs.Prelude.{◌≡◌, ◌≤◌, ◌<◌, length, IfOk, IfSome};
+ghost use Rattle.std.specs.List.{Contains};
+ghost use Rattle.match_stream.specs.declared.key.Key.{Key};
+ghost use Rattle.match_stream.specs.inner.Sieves.{IsCommonTo, IsBlockOf, AreBlocksOf};
+
+use crate::key::Key;
+use flow_values::NoMemory;
+use std::alloc::Global;
+use stix_times::Instant;
+
+/// The keys from one place on up to another one, and what all of them have.
+#[derive(Drop)]
+pub(crate) struct Block {
+    pub start: usize,
+    pub end: usize,
+    /// Numbers of each of them.
+    pub common: Vec<u64>,
+    /// None of them begins later.
+    pub begin: Instant,
+}
+
+impl Block {
+    /// That of the keys from one place on up to another one.
+    fn new(alloc: Global, keys: &[Key], start: usize, end: usize) -> Result<Block, NoMemory>
+        requires { (start < end) × (end ≤ length keys.now) }
+        ensures start { IfOk result (λ block. block.start ≡ start) }
+        ensures keys { IfOk result (λ block. IsBlockOf keys.now block) }
+    {
+        let first = &keys[start];
+        let mut common = Vec::new(alloc);
+        common.extend_from_slice(&first.numbers)?;
+        let mut block = Block {
+            start,
+            end,
+            common,
+            begin: first.begin,
+        };
+        'places: for place in start..end {
+            block.add(&keys[place]);
+        }
+        Ok(block)
+    }
+
+    /// The same over one key more.
+    fn add(&mut self, key: &Key)
+        ensures kept { (other : Key) → IsCommonTo self.old other → IsCommonTo self.new other }
+        ensures added { IsCommonTo self.new key.now }
+        ensures places { (self.new.start ≡ self.old.start) × (self.new.end ≡ self.old.end) }
+    {
+        self.common.retain(|number| key.numbers.contains(number));
+        if self.begin < key.begin {
+            self.begin = key.begin;
+        }
+    }
+}
+
+/// The blocks of one size, one after the other.
+#[derive(Drop)]
+pub(crate) struct Blocks {
+    pub size: usize,
+    pub blocks: Vec<Block>,
+}
+
+impl Blocks {
+    /// The blocks of this size of some keys.
+    pub fn new(alloc: Global, keys: &[Key], size: usize) -> Result<Blocks, NoMemory>
+        requires { 0 < size }
+        ensures { IfOk result (λ blocks. AreBlocksOf keys.now blocks) }
+    {
+        let mut blocks = Vec::new(alloc);
+        let mut start = 0;
+        'blocks: while start < keys.len() {
+            let end = start.saturating_add(size).min(keys.len());
+            let block = Block::new(alloc, keys, start, end)?;
+            blocks.push(block)?;
+            start = end;
+        }
+        Ok(Blocks { size, blocks })
+    }
+
+    /// The block that begins at a place, if one does.
+    pub fn at(&self, place: usize) -> Option<&Block>
+        ensures { IfSome result (λ block. Contains self.now.blocks.items block.now × (block.now.start ≡ place) × (place < block.now.end)) }
+    {
+        if place.checked_rem(self.size)? != 0 {
+            return None;
+        }
+        let block = self.blocks.get(place.checked_div(self.size)?)?;
+        if block.start == place && place < block.end {
+            Some(block)
+        } else {
+            None
+        }
+    }
+}

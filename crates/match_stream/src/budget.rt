@@ -1,0 +1,59 @@
+ghost use Rattle.std.specs.Prelude.{◌≡◌, ◌+◌, ◌<◌, ◌^◌, OnOk, Err, length};
+ghost use Rattle.match_stream.specs.declared.stop.Stop.TheVariants as stop;
+ghost use Rattle.match_stream.specs.inner.PartialMatches.{partial_match_trees};
+ghost use Rattle.match_stream.specs.inner.Steps.{kept};
+
+use crate::partial_match::PartialMatch;
+use crate::stop::Stop;
+use crate::store::is_retained;
+use match_pruning::Window;
+use stix_times::Instant;
+
+/// What the retained limit leaves for partial matches that aren't counted yet.
+#[derive(Drop)]
+pub(crate) struct Budget {
+    pub left: u64,
+}
+
+impl Budget {
+    /// Counts so many partial matches.
+    pub fn take(&mut self, partial_matches: usize) -> Result<(), Stop>
+        ensures taken { OnOk result (self.new.left + partial_matches ≡ self.old.left) }
+        ensures over_limit { result ≡ Err stop.OverLimit → self.old.left < partial_matches }
+    {
+        match self.left.checked_sub(partial_matches as u64) {
+            Some(left) => {
+                self.left = left;
+                Ok(())
+            }
+            None => Err(Stop::OverLimit),
+        }
+    }
+
+    /// Counts those of some new partial matches that retained in a window.
+    #[inline(never)]
+    pub fn take_admitted(
+        &mut self,
+        new: &[PartialMatch],
+        window: &Window,
+        now: Instant,
+    ) -> Result<(), Stop>
+        ensures taken { OnOk result (self.new.left + length (kept window.now now (partial_match_trees new.now)) ≡ self.old.left) }
+        ensures over_limit { result ≡ Err stop.OverLimit → self.old.left < length (kept window.now now (partial_match_trees new.now)) }
+    {
+        for partial_match in new {
+            if is_retained(window, partial_match.earliest, now) {
+                self.take(1)?;
+            }
+        }
+        Ok(())
+    }
+
+    /// Counts so many partial matches no longer.
+    pub fn give_back(&mut self, partial_matches: usize)
+        requires { self.old.left + partial_matches < 2 ^ 64 }
+        ensures { self.new.left ≡ self.old.left + partial_matches }
+    {
+        self.left += partial_matches as u64;
+    }
+}

@@ -1,0 +1,182 @@
+ghost use Rattle.std.specs.Prelude.{◌≡◌, ◌≤ℤ◌, ℕ, ℤ, true, false, Some, None, IfSome};
+ghost use Rattle.std.specs.List.{Contains};
+ghost use Rattle.match_bindings.specs.BindTree.{tree_of, has};
+ghost use Rattle.match_stream.specs.PartialMatchTree.{PartialMatchTree};
+ghost use Rattle.match_stream.specs.inner.PartialMatches.{partial_match_tree, partial_match_trees};
+ghost use Rattle.match_stream.specs.inner.CompletionBounds.{covers, MayBegin, MayEnd};
+ghost use Rattle.match_stream.specs.inner.Needed.{is_needed};
+ghost use Rattle.match_stream.specs.inner.PendingLefts.{pending_lefts_of};
+
+use crate::pending_left::PendingLeft;
+use crate::partial_match::PartialMatch;
+use match_bindings::{Bind, are_disjoint, greatest_number};
+use stix_times::Instant;
+
+/// Earliest start when a new thing must begin to be needed, by what is held on the left sides ahead of it: found at
+/// one look at each, so that what begins too early is never made.
+#[derive(Clone, Copy)]
+pub(crate) struct EarliestStart {
+    /// `None` where a thing may begin at any time.
+    pub start: Option<Instant>,
+    /// A number that no such thing binds which begins right then, if there is one.
+    pub taken: Option<u64>,
+}
+
+impl EarliestStart {
+    /// That of all pending lefts, of which the innermost is the last.
+    pub fn new(now: Instant, pending_lefts: &[PendingLeft]) -> EarliestStart
+        ensures { (partial_match : PartialMatchTree) → is_needed now (pending_lefts_of pending_lefts.now) partial_match ≡ true → MayBegin result partial_match }
+    {
+        let mut earliest_start = EarliestStart {
+            start: None,
+            taken: None,
+        };
+        for pending_left in pending_lefts {
+            earliest_start = earliest_start.under(now, pending_left);
+        }
+        earliest_start
+    }
+
+    /// The same of one pending left more, where what is joined on its left must begin earliest start this: the store on its
+    /// right keeps what begins now or later; else it takes something on its left, which ends no later than
+    /// the thing begins.
+    fn under(&self, now: Instant, pending_left: &PendingLeft) -> EarliestStart
+        ensures held { pending_left.now.window.after_left ≡ true → (left : PartialMatchTree) → Contains (partial_match_trees pending_left.now.left.held.items) left
+            → MayBegin self.now left → MayEnd result left }
+        ensures now { pending_left.now.window.after_left ≡ true → covers result.start now ≡ true }
+        ensures free { pending_left.now.window.after_left ≡ true → result.start ≡ Some now → result.taken ≡ None }
+        ensures any { pending_left.now.window.after_left ≡ false → result.start ≡ None }
+    {
+        if !pending_left.window.after_left {
+            return EarliestStart {
+                start: None,
+                taken: None,
+            };
+        }
+        let end = self.first_end(now, &pending_left.left.held);
+        EarliestStart {
+            start: Some(end.time),
+            taken: end.number,
+        }
+    }
+
+    /// The first end, up to this time, of what may begin so.
+    fn first_end(&self, now: Instant, held: &[PartialMatch]) -> End
+        ensures now { result.time ≤ℤ now }
+        ensures free { result.time ≡ now → result.number ≡ None }
+        ensures held { (left : PartialMatchTree) → Contains (partial_match_trees held.now) left → MayBegin self.now left → result.time ≤ℤ left.latest }
+        ensures number { (left : PartialMatchTree) → Contains (partial_match_trees held.now) left → MayBegin self.now left
+            → (n : ℕ) → result.number ≡ Some n → result.time ≡ left.latest → has n left.tree ≡ true }
+    {
+        let mut end = End {
+            time: now,
+            number: None,
+        };
+        if self.is_now(now) {
+            return end;
+        }
+        for left in held {
+            if self.may_begin(left) {
+                end = end.with(left);
+            }
+        }
+        end
+    }
+
+    /// Whether a thing may begin so.
+    pub fn may_begin(&self, partial_match: &PartialMatch) -> bool
+        ensures { MayBegin self.now (partial_match_tree partial_match.now) → result ≡ true }
+    {
+        let Some(taken) = self.taken else {
+            return self.covers(partial_match.earliest);
+        };
+        match self.start {
+            Some(start) if partial_match.earliest == start => !binds(&partial_match.bind, taken),
+            _ => self.covers(partial_match.earliest),
+        }
+    }
+
+    /// Whether it is this time or later. What begins then ends no sooner, so there is nothing to look for.
+    fn is_now(&self, now: Instant) -> bool
+        ensures { result ≡ true → (time : ℤ) → covers self.now.start time ≡ true → now ≤ℤ time }
+    {
+        match self.start {
+            Some(start) => now <= start,
+            None => false,
+        }
+    }
+
+    /// Whether a time isn't before it.
+    pub fn covers(&self, time: Instant) -> bool
+        ensures { result ≡ covers self.now.start time }
+    {
+        match self.start {
+            Some(start) => start <= time,
+            None => true,
+        }
+    }
+}
+
+/// The first end of some things, and a number that all bind which end then, if there is one.
+#[derive(Clone, Copy)]
+struct End {
+    time: Instant,
+    number: Option<u64>,
+}
+
+impl End {
+    /// That of one thing more.
+    fn with(&self, partial_match: &PartialMatch) -> End
+        ensures before { result.time ≤ℤ self.now.time }
+        ensures first { result.time ≤ℤ partial_match.now.latest }
+        ensures kept { (n : ℕ) → result.number ≡ Some n → result.time ≡ self.now.time → self.now.number ≡ Some n }
+        ensures bound { (n : ℕ) → result.number ≡ Some n → result.time ≡ partial_match.now.latest → has n (tree_of partial_match.now.bind) ≡ true }
+    {
+        if partial_match.latest < self.time {
+            return End {
+                time: partial_match.latest,
+                number: a_number(&partial_match.bind),
+            };
+        }
+        if self.time < partial_match.latest {
+            return End {
+                time: self.time,
+                number: self.number,
+            };
+        }
+        End {
+            time: self.time,
+            number: self.common(&partial_match.bind),
+        }
+    }
+
+    /// Its number, where a bind binds it, too.
+    fn common(&self, bind: &Bind) -> Option<u64>
+        ensures { (n : ℕ) → result ≡ Some n → (self.now.number ≡ Some n) × (has n (tree_of bind.now) ≡ true) }
+    {
+        match self.number {
+            Some(number) if binds(bind, number) => Some(number),
+            _ => None,
+        }
+    }
+}
+
+/// Whether a bind binds a number.
+fn binds(bind: &Bind, number: u64) -> bool
+    ensures { result ≡ has number (tree_of bind.now) }
+{
+    !are_disjoint(&Bind::One(number), bind)
+}
+
+/// One of the numbers that a bind binds: that of the observation that came last, so that what can't begin when
+/// the bind ends is seen. It is looked up, earliest start nothing says that a bind has any.
+fn a_number(bind: &Bind) -> Option<u64>
+    ensures { IfSome result (λ number. has number (tree_of bind.now) ≡ true) }
+{
+    let number = greatest_number(bind);
+    if binds(bind, number) {
+        Some(number)
+    } else {
+        None
+    }
+}

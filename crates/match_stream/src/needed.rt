@@ -1,0 +1,54 @@
+ghost use Rattle.std.specs.Prelude.{◌≡◌, IfOk};
+ghost use Rattle.match_stream.specs.inner.PartialMatches.{partial_match_tree};
+ghost use Rattle.match_stream.specs.inner.Needed.{is_needed};
+ghost use Rattle.match_stream.specs.inner.PendingLefts.{pending_lefts_of};
+
+use crate::join::Join;
+use crate::pending_left::PendingLeft;
+use crate::partial_match::PartialMatch;
+use crate::completion_bound::CompletionBound;
+use crate::greedy_completion::GreedyCompletion;
+use crate::store::is_retained;
+use flow_values::NoMemory;
+use std::alloc::Global;
+use stix_times::Instant;
+
+/// Whether a new thing is needed: on the right of a `FOLLOWEDBY` only where the store there keeps it, or
+/// something on the left is joined with it to what is needed above. The innermost pending left is the last. Where
+/// more pending lefts are above it, to try all that is held could take long, so what is seen at once is seen first.
+pub(crate) fn is_needed(
+    alloc: Global,
+    partial_match: &PartialMatch,
+    now: Instant,
+    pending_lefts: &[PendingLeft],
+) -> Result<bool, NoMemory>
+    ensures { IfOk result (λ needed. needed ≡ is_needed now (pending_lefts_of pending_lefts.now) (partial_match_tree partial_match.now)) }
+{
+    let Some((innermost, above)) = pending_lefts.split_last() else {
+        return Ok(true);
+    };
+    if is_retained(&innermost.window, partial_match.earliest, now) {
+        return Ok(true);
+    }
+    if !above.is_empty() {
+        if GreedyCompletion::new(alloc, partial_match)?.continues(now, pending_lefts)? {
+            return Ok(true);
+        }
+        if !CompletionBound::new(alloc, partial_match).may_continue(alloc, partial_match, now, pending_lefts)? {
+            return Ok(false);
+        }
+    }
+    let mut lefts = innermost.left.held.as_slice();
+    while let Some((left, earlier)) = lefts.split_last() {
+        if Join::Then.may_join(left, partial_match) {
+            let longer = Join::Then.joined(alloc, left, partial_match)?;
+            let is = is_needed(alloc, &longer, now, above);
+            drop(longer);
+            if is? {
+                return Ok(true);
+            }
+        }
+        lefts = earlier;
+    }
+    Ok(false)
+}

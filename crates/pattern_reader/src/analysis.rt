@@ -1,0 +1,187 @@
+ghost use Rattle.std.specs.Prelude.{◌≡◌, ◌↔◌, List, ℕ, IfOk};
+ghost use Rattle.pattern_grammar.specs.Tree.{Comparison, test, all, any, compared, conjunction, operand};
+ghost use Rattle.pattern_reader.specs.LeafMeaning.{IsNoAll, IsNoAny};
+ghost use Rattle.pattern_reader.specs.Refusals.{HasRoot, first_of, IsRootless};
+ghost use Rattle.pattern_reader.specs.Roots.{Has};
+ghost use Rattle.pattern_reader.specs.inner.Analysis.{IsOutcome, IsAnalysis};
+ghost use Rattle.pattern_reader.specs.inner.Analysis.{IsChain, AreAll, AreAny};
+
+use crate::ValueRefusal;
+use crate::checks::test_of;
+use crate::outcomes::{both, with_next};
+use crate::roots::{common, either, is_none, of_name};
+use flow_values::{Items, NoMemory};
+use pattern_grammar::{ComparisonTree, Conjunction, Operand, TestTree};
+use pattern_lexer::text_of;
+use pattern_types::Leaf;
+use std::alloc::Global;
+use std::collections::BTreeSet;
+
+/// What a comparison is judged by, worked out once for each of its parts.
+#[derive(Drop)]
+pub(crate) struct Analysis<'a> {
+    /// The place of its first token.
+    pub(crate) at: usize,
+    /// Its root kinds.
+    pub(crate) roots: BTreeSet<&'a str>,
+    /// The leaf that it means, or its first refusal.
+    pub(crate) leaf: Result<Leaf, ValueRefusal>,
+}
+
+/// What the parts of a chain so far are judged by.
+#[derive(Drop)]
+struct Chain<'a> {
+    /// The place of the first token.
+    at: usize,
+    /// The root kinds.
+    roots: BTreeSet<&'a str>,
+    /// The leaves that the parts mean, or the first refusal.
+    parts: Result<Items<Leaf>, ValueRefusal>,
+}
+
+/// Judges a test.
+fn analyze_test<'a>(alloc: Global, text: &'a str, tree: &TestTree) -> Result<Analysis<'a>, NoMemory>
+    ensures { IfOk result (IsAnalysis text.now (test tree.now)) }
+{
+    let roots = of_name(alloc, text_of(text, tree.path.root))?;
+    let leaf = test_of(alloc, text, tree)?.map(|test| Leaf::Test(test));
+    Ok(Analysis {
+        at: tree.first.from,
+        roots,
+        leaf,
+    })
+}
+
+/// A chain of one part.
+fn chain_of<'a>(alloc: Global, first: Analysis<'a>) -> Result<Chain<'a>, NoMemory>
+    ensures all { IfOk result (λ chain. (text : List ℕ) (c : Comparison) → IsNoAll c → IsAnalysis text c first.entry → IsChain AreAll text c chain) }
+    ensures any { IfOk result (λ chain. (text : List ℕ) (c : Comparison) → IsNoAny c → IsAnalysis text c first.entry → IsChain AreAny text c chain) }
+{
+    let none = Ok(Items::new(alloc));
+    let parts = with_next(none, first.leaf)?;
+    Ok(Chain {
+        at: first.at,
+        roots: first.roots,
+        parts,
+    })
+}
+
+/// Whether two comparisons that begin here and have these root kinds in common may be joined by `AND`.
+fn rooted(at: usize, roots: &BTreeSet<&str>) -> Result<(), ValueRefusal>
+    ensures { (text : List ℕ) (c d : Comparison) → at ≡ (first_of c).from
+        → ((root : List ℕ) → Has roots.now root ↔ (HasRoot text c root × HasRoot text d root))
+        → IsOutcome (λ _. (root : List ℕ) × (HasRoot text c root × HasRoot text d root)) (IsRootless text c d) result }
+{
+    if is_none(roots) {
+        return Err(ValueRefusal::NoCommonRoot { at });
+    }
+    Ok(())
+}
+
+/// The chain and one part more, joined by `AND`: they are to have a root kind in common.
+fn with_all<'a>(alloc: Global, chain: Chain<'a>, next: Analysis<'a>) -> Result<Chain<'a>, NoMemory>
+    ensures { IfOk result (λ more. (text : List ℕ) (c d : Comparison) → IsChain AreAll text c chain.entry
+        → IsAnalysis text d next.entry → IsChain AreAll text (all c d) more) }
+{
+    let at = chain.at;
+    let parts = with_next(chain.parts, next.leaf)?;
+    let roots = common(alloc, &chain.roots, &next.roots)?;
+    let parts = both(rooted(at, &roots), parts).map(|(_, parts)| parts);
+    Ok(Chain { at, roots, parts })
+}
+
+/// The chain and one part more, joined by `OR`.
+fn with_any<'a>(chain: Chain<'a>, next: Analysis<'a>) -> Result<Chain<'a>, NoMemory>
+    ensures { IfOk result (λ more. (text : List ℕ) (c d : Comparison) → IsChain AreAny text c chain.entry
+        → IsAnalysis text d next.entry → IsChain AreAny text (any c d) more) }
+{
+    let at = chain.at;
+    let parts = with_next(chain.parts, next.leaf)?;
+    let roots = either(chain.roots, next.roots)?;
+    Ok(Chain { at, roots, parts })
+}
+
+/// All of a chain of two parts or more.
+fn all_of<'a>(chain: Chain<'a>) -> Analysis<'a>
+    ensures { (text : List ℕ) (c d : Comparison) → IsChain AreAll text (all c d) chain.entry → IsAnalysis text (all c d) result }
+{
+    Analysis {
+        at: chain.at,
+        roots: chain.roots,
+        leaf: chain.parts.map(|parts| Leaf::All(parts)),
+    }
+}
+
+/// Any of a chain of two parts or more.
+fn any_of<'a>(chain: Chain<'a>) -> Analysis<'a>
+    ensures { (text : List ℕ) (c d : Comparison) → IsChain AreAny text (any c d) chain.entry → IsAnalysis text (any c d) result }
+{
+    Analysis {
+        at: chain.at,
+        roots: chain.roots,
+        leaf: chain.parts.map(|parts| Leaf::Any(parts)),
+    }
+}
+
+/// Judges an operand.
+#[cycle(analyze)]
+fn analyze_operand<'a>(
+    alloc: Global,
+    text: &'a str,
+    tree: &Operand,
+) -> Result<Analysis<'a>, NoMemory>
+    ensures { IfOk result (IsAnalysis text.now (operand tree.now)) }
+{
+    match tree {
+        Operand::Test(test) => analyze_test(alloc, text, test),
+        Operand::Group(round, inside) => {
+            let analysis = analyze(alloc, text, inside)?;
+            Ok(Analysis {
+                at: round.from,
+                ..analysis
+            })
+        }
+    }
+}
+
+/// Judges a conjunction: its one operand, or all of its operands.
+#[cycle(analyze)]
+fn analyze_conjunction<'a>(
+    alloc: Global,
+    text: &'a str,
+    tree: &Conjunction,
+) -> Result<Analysis<'a>, NoMemory>
+    ensures { IfOk result (IsAnalysis text.now (conjunction tree.now)) }
+{
+    let first = analyze_operand(alloc, text, &tree.first)?;
+    if tree.others.is_empty() {
+        return Ok(first);
+    }
+    let mut chain = chain_of(alloc, first)?;
+    for other in tree.others.as_slice() {
+        let next = analyze_operand(alloc, text, other)?;
+        chain = with_all(alloc, chain, next)?;
+    }
+    Ok(all_of(chain))
+}
+
+/// Judges a comparison: its one conjunction, or any of its conjunctions.
+#[cycle(analyze)]
+pub(crate) fn analyze<'a>(
+    alloc: Global,
+    text: &'a str,
+    tree: &ComparisonTree,
+) -> Result<Analysis<'a>, NoMemory>
+    ensures { IfOk result (IsAnalysis text.now (compared tree.now)) }
+{
+    let first = analyze_conjunction(alloc, text, &tree.first)?;
+    if tree.others.is_empty() {
+        return Ok(first);
+    }
+    let mut chain = chain_of(alloc, first)?;
+    for other in tree.others.as_slice() {
+        let next = analyze_conjunction(alloc, text, other)?;
+        chain = with_any(chain, next)?;
+    }
+    Ok(any_of(chain))
+}

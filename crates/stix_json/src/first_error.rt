@@ -1,0 +1,85 @@
+ghost use Rattle.std.specs.Prelude.{◌≡◌, ℕ, List, if◌then◌else◌, Some, IfOk, option_map};
+ghost use Rattle.stix_json.specs.Walk.{index_part};
+ghost use Rattle.stix_json.specs.inner.FirstErrors.{first_error_under, first_of, refusal_of_first_error};
+ghost use Rattle.stix_json.specs.declared.first_error.FirstError.TheVariants.{InvalidValue};
+ghost use Rattle.stix_json.specs.declared.location.Location.TheVariants.{Here as AtTop};
+
+use crate::JsonRefusal;
+use crate::value_error::{ValueError, Reason};
+use crate::location::Location;
+use flow_values::NoMemory;
+use std::alloc::Global;
+
+/// What stands first against a value.
+#[derive(Debug, Drop)]
+pub(crate) enum FirstError {
+    /// A list or an object past the last level. It counts before what `Json` doesn't hold.
+    TooDeep(Location),
+    /// A value that `Json` doesn't hold.
+    InvalidValue(ValueError),
+}
+
+impl FirstError {
+    /// What stands against a value that itself is none that `Json` holds.
+    pub fn here(reason: Reason) -> FirstError
+        ensures { result ≡ InvalidValue (record { reason = reason; location = AtTop }) }
+    {
+        FirstError::InvalidValue(ValueError {
+            reason,
+            location: Location::Here,
+        })
+    }
+
+    /// Whether this, under a part of a list or an object, counts there, where that stands before it.
+    pub fn overrides(&self, found: &Option<FirstError>) -> bool
+        ensures { (part : List ℕ) → first_of found.now (Some (first_error_under part self.now))
+            ≡ (if result then Some (first_error_under part self.now) else found.now) }
+    {
+        match (self, found) {
+            (_, None) => true,
+            (FirstError::TooDeep(_), Some(FirstError::InvalidValue(_))) => true,
+            (FirstError::TooDeep(_), Some(FirstError::TooDeep(_))) => false,
+            (FirstError::InvalidValue(_), Some(_)) => false,
+        }
+    }
+
+    /// The same, of an object that has the value under a name.
+    pub fn below(self, alloc: Global, name: &str) -> Result<FirstError, NoMemory>
+        ensures { IfOk result (λ first_error. first_error ≡ first_error_under name.now self) }
+    {
+        match self {
+            FirstError::TooDeep(location) => Ok(FirstError::TooDeep(location.below(alloc, name)?)),
+            FirstError::InvalidValue(ValueError { reason, location }) => {
+                let location = location.below(alloc, name)?;
+                Ok(FirstError::InvalidValue(ValueError { reason, location }))
+            }
+        }
+    }
+
+    /// The same, of a list that has the value as its item.
+    pub fn below_item(self, alloc: Global, at: usize) -> Result<FirstError, NoMemory>
+        ensures { IfOk result (λ first_error. first_error ≡ first_error_under (index_part at) self) }
+    {
+        let part = format!(in alloc; "[{at}]")?;
+        self.below(alloc, part.as_str())
+    }
+
+    /// The refusal of the whole value.
+    pub fn into_refusal(self, alloc: Global) -> JsonRefusal
+        ensures { result ≡ refusal_of_first_error self }
+    {
+        match self {
+            FirstError::TooDeep(location) => JsonRefusal::TooDeep {
+                path: location.into_path(alloc),
+            },
+            FirstError::InvalidValue(ValueError { reason, location }) => {
+                let path = location.into_path(alloc);
+                match reason {
+                    Reason::NotWhole => JsonRefusal::NotWhole { path },
+                    Reason::Null => JsonRefusal::Null { path },
+                    Reason::OutOfRange => JsonRefusal::OutOfRange { path },
+                }
+            }
+        }
+    }
+}

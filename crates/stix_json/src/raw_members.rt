@@ -1,0 +1,106 @@
+//! The members of an object: gathered as they come, and then insert in the order of their names.
+
+ghost use Rattle.std.specs.Prelude.{◌≡◌, [], ◌∷◌, ◌++◌, IsTrue, IfOk, OnOk};
+ghost use Rattle.stix_json.specs.inner.Insertion.{insert_all, ends_with, NamesAscend, NamesAreSorted};
+ghost use Rattle.stix_json.specs.inner.Checking.{name_of};
+
+use crate::checked::Checked;
+use flow_values::NoMemory;
+use std::alloc::Global;
+use flow_values::Name;
+
+/// A member of an object as it came: its name, and its value checked.
+#[derive(Drop)]
+pub(crate) struct RawMember {
+    pub name: Name,
+    pub checked: Checked,
+}
+
+/// Objects seldom have more members: so many are gathered in memory that isn't moved.
+const USUAL_MEMBERS: usize = 12;
+
+/// No members yet.
+pub(crate) fn no_members_yet(alloc: Global) -> Result<Vec<RawMember>, NoMemory>
+    ensures { IfOk result (λ members. members.items ≡ []) }
+{
+    Ok(Vec::with_capacity(alloc, USUAL_MEMBERS)?)
+}
+
+/// Adds a member behind the others.
+pub(crate) fn push_member(
+    members: &mut Vec<RawMember>,
+    name: Name,
+    checked: Checked,
+) -> Result<(), NoMemory>
+    ensures { OnOk result (members.new.items ≡ members.old.items ++ record { name = name; checked = checked } ∷ []) }
+{
+    members.push(RawMember { name, checked })?;
+    Ok(())
+}
+
+/// The members in the order of their names; of those that have one name the last that came.
+pub(crate) fn order_members(
+    alloc: Global,
+    members: Vec<RawMember>,
+) -> Result<Vec<RawMember>, NoMemory>
+    ensures { IfOk result (λ ordered. ordered.items ≡ insert_all name_of members.items []) }
+{
+    if names_ascend(&members) {
+        return Ok(members);
+    }
+    let mut members = members;
+    sort_by_name(&mut members)?;
+    if names_ascend(&members) {
+        return Ok(members);
+    }
+    keep_last(alloc, members)
+}
+
+/// Puts members in the order of their names. Those that have one name stay in the order that they came in.
+fn sort_by_name(members: &mut Vec<RawMember>) -> Result<(), NoMemory>
+    ensures ascends { OnOk result (NamesAreSorted name_of members.new.items) }
+    ensures same { insert_all name_of members.new.items [] ≡ insert_all name_of members.old.items [] }
+{
+    members.sort_by(|one, other| one.name.as_str().cmp(other.name.as_str()))?;
+    Ok(())
+}
+
+/// Whether each name is before the next.
+fn names_ascend(members: &[RawMember]) -> bool
+    ensures { IsTrue result → NamesAscend name_of members.now }
+{
+    members.is_sorted_by(|one, next| one.name.as_str() < next.name.as_str())
+}
+
+/// Members whose names don't fall; of those that have one name the last.
+fn keep_last(alloc: Global, members: Vec<RawMember>) -> Result<Vec<RawMember>, NoMemory>
+    requires { NamesAreSorted name_of members.items }
+    ensures { IfOk result (λ kept. kept.items ≡ insert_all name_of members.items []) }
+{
+    let mut kept = Vec::new(alloc);
+    for member in members {
+        if ends_with_name(&kept, &member) {
+            drop(kept.pop());
+        }
+        push(&mut kept, member)?;
+    }
+    Ok(kept)
+}
+
+/// Whether the last of these has the name of that one.
+fn ends_with_name(members: &[RawMember], next: &RawMember) -> bool
+    ensures { result ≡ ends_with name_of next.now.name members.now }
+{
+    match members.last() {
+        Some(last) => last.name.as_str() == next.name.as_str(),
+        None => false,
+    }
+}
+
+/// Adds a member behind the others.
+fn push(members: &mut Vec<RawMember>, member: RawMember) -> Result<(), NoMemory>
+    ensures { OnOk result (members.new.items ≡ members.old.items ++ member ∷ []) }
+{
+    members.push(member)?;
+    Ok(())
+}

@@ -1,6 +1,0 @@
-use Rattle.std.proofs.Common.{◌≡◌, drop}
-use Rattle.stix_times.specs.Places.{fitting_end}
-use Rattle.stix_times.proofs.places.first_misfit.Given as goal
-
-abbrev pub invariant-loop-at : goal.invariant-loop-at
-invariant-loop-at l = fitting_end l.at l.before (drop l.at l.bytes) ≡ fitting_end 0 0 l.bytes

@@ -1,5 +1,0 @@
-use Rattle.taxii_client.proofs.MirroredLemmas.{one_more}
-use Rattle.taxii_client.proofs.mirror_laws.pages_go_on.Goals as goal
-
-pub returns-clause-next : goal.returns-clause-next
-returns-clause-next c = one_more

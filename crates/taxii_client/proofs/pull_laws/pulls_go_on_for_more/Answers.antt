@@ -1,5 +1,0 @@
-use Rattle.taxii_client.proofs.PullLemmas.{all_have_more}
-use Rattle.taxii_client.proofs.pull_laws.pulls_go_on_for_more.Goals as goal
-
-pub returns : goal.returns
-returns g c = all_have_more

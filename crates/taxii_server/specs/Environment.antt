@@ -1,0 +1,38 @@
+-- What stands environment of a server: links, the clock, and the keeper's count of faults.
+use Rattle.std.specs.Prelude.{◌≡◌, ℕ, ◌+◌, ◌-◌, ◌^◌, ◌≤◌, List, ◌++◌, length, min, slice_get, Option, Some, None, IfSome, MatchOption}
+
+-- what a link tells, among it what was left when its last read began, and how many of its reads and writes failed
+pub record LinkView : Type 0 where
+  pub left : Option (List ℕ)
+  pub began : Option (List ℕ)
+  pub written : Option (List ℕ)
+  pub read_faults : ℕ
+  pub write_faults : ℕ
+
+-- the same, from what each of its two sides tells
+abbrev pub link_view : {L : Type 0} → (L → Option (List ℕ)) → (L → Option (List ℕ)) → (L → Option (List ℕ)) → (L → ℕ) → (L → ℕ) → L → LinkView
+link_view left began written read_faults write_faults link = record {
+  left = left link;
+  began = began link;
+  written = written link;
+  read_faults = read_faults link;
+  write_faults = write_faults link;
+}
+
+-- the moments that the clock will give, and how many calls of the keeper failed
+pub record Environment : Type 0 where
+  pub moments : ℕ → Option ℕ
+  pub faults : ℕ
+
+-- these bytes were taken from those that were left, as far as the link tells
+abbrev pub Takes : List ℕ → Option (List ℕ) → Option (List ℕ) → Type 0
+Takes taken before now = MatchOption before (now ≡ None) (λ bytes. (left : List ℕ) × (bytes ≡ taken ++ left) × (now ≡ Some left))
+
+-- these moments are the next ones of a clock, as far as it tells, and the clock goes on behind them
+pub record GivesMoments (moments : List ℕ) (before now : ℕ → Option ℕ) : Type 0 where
+  pub given : (n moment : ℕ) → slice_get moments n ≡ Some moment → IfSome (before n) (λ observable. moment ≡ observable)
+  pub continues : (n : ℕ) → now n ≡ before (n + length moments)
+
+-- a count rose by so many at least; a count that stands at its end counts as risen
+abbrev pub HasIncreasedBy : ℕ → ℕ → ℕ → Type 0
+HasIncreasedBy many before now = min (before + many) (2 ^ 64 - 1) ≤ now
