@@ -7,19 +7,19 @@ ghost use Rattle.match_run.specs.Reading.{MayFollow};
 ghost use Rattle.command_alerts.specs.inner.Seeing.{IsReady, TakesRows, SeesBundle, BeginsBundle, SeesSoFar, SeesPart, row_of};
 
 use crate::alert_line::line_of;
+use alert_window::laws::alerts_persist;
+use alert_window::{Watch, WatchRefusal};
 use flow_edges::Sink;
 use flow_values::NoMemory;
-use match_input::Batch;
 use match_comparisons::leaf_truths;
+use match_input::Batch;
+use match_run::watch_laws::parts_are_buffered;
+use match_run::{CutShort, Pending, SeeEnd, Watcher};
 use pattern_types::Pattern;
 use std::alloc::Global;
 use std::convert::Infallible;
 use std::marker::Model;
 use stix_bundles::Observation;
-use alert_window::laws::alerts_persist;
-use alert_window::{Watch, WatchRefusal};
-use match_run::watch_laws::parts_are_buffered;
-use match_run::{CutShort, Pending, SeeEnd, Watcher};
 
 /// Who reports the alerts of a log: a pattern, which is one bracket, and the watch over the rows at which it holds.
 #[derive(Drop)]

@@ -5,9 +5,9 @@ use command_reasons::{write_no_memory, write_pattern_reason, write_read_fault, w
 use flow_edges::{Sink, write_whole};
 use flow_values::Fault;
 use match_input::write_input_refusal;
+use match_run::WatchEnd;
 use pattern_reader::PatternRefusal;
 use std::convert::Infallible;
-use match_run::WatchEnd;
 
 /// How the program ends.
 #[derive(Debug, Drop)]

@@ -4,9 +4,9 @@
 
 mod alert_line;
 mod alerter;
+mod arguments;
 mod ending;
 mod run;
-mod arguments;
 
 pub use ending::AlertEnding;
 pub use run::run_alerts;

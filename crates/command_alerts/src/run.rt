@@ -10,20 +10,20 @@ ghost use Rattle.command_alerts.specs.Endings.{EndsTask, EndsAlerts, alert_statu
 ghost use Rattle.command_alerts.specs.Runs.{Ends, ReportsRefusals, ReportsInput};
 
 use crate::alerter::Alerter;
-use crate::ending::AlertEnding;
 use crate::arguments::{AlertRequest, read_request};
+use crate::ending::AlertEnding;
+use alert_window::Watch;
+use alert_window::laws::alerts_persist;
 use flow_edges::{Sink, Source};
 use flow_values::NoMemory;
 use match_input::{Mode, Reader};
+use match_run::watch_laws::begins_with_none;
+use match_run::{WatchEnd, follow};
 use pattern_reader::reader_laws::{none_refused, one_pattern};
 use pattern_reader::{PatternRefusal, read_pattern};
 use pattern_types::Pattern;
 use std::alloc::Global;
 use std::convert::Infallible;
-use alert_window::Watch;
-use alert_window::laws::alerts_persist;
-use match_run::watch_laws::begins_with_none;
-use match_run::{WatchEnd, follow};
 
 /// Reports the alerts of an input for a pattern that is one bracket.
 fn watch_input<I: Source, O: Sink>(

@@ -3,8 +3,8 @@
 #![tactic(auto)]
 
 mod checking;
-mod validating;
 pub mod laws;
+mod validating;
 mod verdict;
 mod verdict_text;
 

@@ -78,7 +78,10 @@ fn with_option<'a>(option: &str, name: &'a str, others: &[String]) -> Option<Hun
     if !is_option(option, name) {
         return None;
     }
-    let Positions { moment, retained_limit } = read_positions(others)?;
+    let Positions {
+        moment,
+        retained_limit,
+    } = read_positions(others)?;
     Some(HuntRequest {
         file: Some(name),
         moment,
@@ -103,7 +106,10 @@ fn read_positions(arguments: &[String]) -> Option<Positions>
     };
     let moment = read(time.as_str()).ok()?;
     let retained_limit = read_retained_limit(caps)?;
-    Some(Positions { moment, retained_limit })
+    Some(Positions {
+        moment,
+        retained_limit,
+    })
 }
 
 /// The retained limit that the arguments name, or the usual one where there is no argument.

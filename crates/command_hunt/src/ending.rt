@@ -4,12 +4,12 @@ ghost use Rattle.flow_edges.specs.Flow.{WritesWhole};
 ghost use Rattle.command_hunt.specs.declared.ending.HuntEnding.TheVariants.{Unfed};
 ghost use Rattle.command_hunt.specs.Endings.{hunt_status, IsHuntReason};
 
-use command_reasons::{write_over_limit, write_no_memory, write_read_fault, write_write_fault};
+use command_reasons::{write_no_memory, write_over_limit, write_read_fault, write_write_fault};
 use flow_edges::{Sink, write_whole};
 use flow_values::Fault;
-use match_input::write_input_refusal;
 use hunt_feed::{FeedEnd, write_feed_refusal};
 use hunt_report::OverLimit;
+use match_input::write_input_refusal;
 use match_run::WatchEnd;
 
 /// How the program ends.
@@ -60,7 +60,9 @@ impl HuntEnding {
             HuntEnding::Ended(WatchEnd::ReadFault) => write_read_fault(reasons),
             HuntEnding::Ended(WatchEnd::WriteFault) => write_write_fault(reasons),
             HuntEnding::Ended(WatchEnd::Stopped(why)) => write_over_limit(
-                why.number, why.retained_limit, reasons,
+                why.number,
+                why.retained_limit,
+                reasons,
             ),
             HuntEnding::Ended(WatchEnd::NoMemory) => write_no_memory(reasons),
         }

@@ -2,9 +2,9 @@
 //! hit is reported before the next line is read, and at the end what was seen of each.
 #![tactic(auto)]
 
+mod arguments;
 mod ending;
 mod run;
-mod arguments;
 
 pub use ending::HuntEnding;
 pub use run::run_hunt;

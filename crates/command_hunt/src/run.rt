@@ -23,20 +23,18 @@ ghost use Rattle.command_hunt.specs.Endings.{AskSo, EndsTask, EndsHunt, hunt_sta
 ghost use Rattle.command_hunt.specs.Runs.{Ends, HuntsOrRefuses, HuntsToLimit, AskForFile};
 ghost use Rattle.command_hunt.specs.inner.Begun.{IsUnread, IsBegun, HasSkipped, Reports};
 
-use crate::ending::HuntEnding;
 use crate::arguments::{HuntRequest, read_request};
-use flow_edges::{Sink, Source};
-use flow_edges::Files;
+use crate::ending::HuntEnding;
+use flow_edges::{Files, Sink, Source};
 use flow_values::{Fault, NoMemory};
+use hunt_feed::{FeedEnd, Gathering, Hunt, Hunted, gather, hunt};
+use hunt_report::hit_laws::{answers_are_the_hits, hunted_are_huntable, skipped_have_lines};
+use hunt_report::{Hunter, OverLimit, write_report, write_skipped};
+use match_run::watch_laws::{begins_with_none, read_bundles_come_first};
+use match_run::{Batch, CutShort, Mode, Reader, WatchEnd, Watcher, follow, next_bundle};
 use std::alloc::Global;
 use stix_bundles::Bundle;
 use stix_times::Instant;
-use hunt_feed::{FeedEnd, gather};
-use hunt_report::hit_laws::{answers_are_the_hits, hunted_are_huntable, skipped_have_lines};
-use hunt_report::{OverLimit, Hunter, write_report, write_skipped};
-use hunt_feed::{Gathering, Hunt, Hunted, hunt};
-use match_run::watch_laws::{begins_with_none, read_bundles_come_first};
-use match_run::{Batch, CutShort, Mode, Reader, WatchEnd, Watcher, follow, next_bundle};
 
 /// The hunt of a bundle: each indicator of it can be hunted and reported.
 fn hunt_of(alloc: Global, bundle: &Bundle, moment: Instant) -> Result<Hunt, NoMemory>

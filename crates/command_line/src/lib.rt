@@ -9,6 +9,7 @@
 //! most 7 may be live; with another `--retained_limit` they ask for nothing.
 #![tactic(auto)]
 
+mod arguments;
 mod base;
 mod collections;
 pub mod laws;
@@ -17,11 +18,12 @@ mod parser;
 mod read;
 mod request;
 mod serve;
-mod arguments;
 
+pub use arguments::program_arguments;
 pub use base::MAX_BASE;
 pub use collections::{MAX_COLLECTIONS, MAX_TITLE};
-pub use numbers::{DEFAULT_RETAINED_LIMIT, MAX_RETAINED_LIMIT, MAX_CONNECTIONS, MAX_PORT, number_in};
+pub use numbers::{
+    DEFAULT_RETAINED_LIMIT, MAX_CONNECTIONS, MAX_PORT, MAX_RETAINED_LIMIT, number_in,
+};
 pub use read::read_arguments;
-pub use request::{CollectionRequest, MatchRequest, Request, ServeRequest, ArgumentsRefusal};
-pub use arguments::program_arguments;
+pub use request::{ArgumentsRefusal, CollectionRequest, MatchRequest, Request, ServeRequest};

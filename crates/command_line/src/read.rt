@@ -9,7 +9,7 @@ ghost use Rattle.command_line.specs.inner.Rows.{IsAskedIn, IsRetainedLimitText, 
 
 use crate::numbers::{DEFAULT_RETAINED_LIMIT, MAX_RETAINED_LIMIT, number_in};
 use crate::parser::parse;
-use crate::request::{MatchRequest, Request, ArgumentsRefusal};
+use crate::request::{ArgumentsRefusal, MatchRequest, Request};
 use crate::serve::serve_in;
 use clap::error::ErrorKind;
 use clap::{ArgMatches, Error};
@@ -18,7 +18,10 @@ use match_generator::{MAX_COUNT, MAX_SEED};
 use std::alloc::Global;
 
 /// What the arguments after the program's name ask for.
-pub fn read_arguments<'a>(alloc: Global, arguments: &'a [String]) -> Result<Request<'a>, ArgumentsRefusal>
+pub fn read_arguments<'a>(
+    alloc: Global,
+    arguments: &'a [String],
+) -> Result<Request<'a>, ArgumentsRefusal>
     ensures ok { IfOk result
         (λ request. IsCommandLine (texts arguments.entry.now) (plain_request request)) }
     ensures no_line { IfErr result (λ refusal. refusal ≡ ArgumentsRefusal.NoLine

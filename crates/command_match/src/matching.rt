@@ -9,7 +9,7 @@ ghost use Rattle.command_match.specs.MatchEndings.{EndsMatch, match_status};
 
 use command_line::MatchRequest;
 use command_reasons::{
-    write_over_limit, write_no_memory, write_pattern_reason, write_read_fault, write_write_fault,
+    write_no_memory, write_over_limit, write_pattern_reason, write_read_fault, write_write_fault,
 };
 use flow_edges::{Sink, Source, write_whole};
 use flow_values::{Fault, NoMemory};
@@ -63,9 +63,12 @@ impl MatchEnding {
             }
             MatchEnding::Ended(MatchEnd::ReadFault) => write_read_fault(reasons),
             MatchEnding::Ended(MatchEnd::WriteFault) => write_write_fault(reasons),
-            MatchEnding::Ended(MatchEnd::OverLimit { number, retained_limit }) => {
-                write_over_limit(*number, *retained_limit, reasons)
-            }
+            MatchEnding::Ended(
+                MatchEnd::OverLimit {
+                    number,
+                    retained_limit,
+                },
+            ) => { write_over_limit(*number, *retained_limit, reasons) }
             MatchEnding::Ended(MatchEnd::NoMemory) | MatchEnding::NoMemory => {
                 write_no_memory(reasons)
             }

@@ -7,8 +7,7 @@ use command_peer::write_refusal;
 use command_reasons::{write_bad_row, write_no_memory, write_store_fault, write_write_fault};
 use flow_edges::{Sink, write_whole};
 use flow_values::Fault;
-use taxii_client::{CopyStop, FetchStop};
-use taxii_client::StoreRefusal;
+use taxii_client::{CopyStop, FetchStop, StoreRefusal};
 use taxii_rows::FaultCause;
 use taxii_store::LoadRefusal;
 

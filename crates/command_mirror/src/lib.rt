@@ -2,10 +2,10 @@
 //! is lost on its way is asked for again, and none is absorbed twice.
 #![tactic(auto)]
 
+mod arguments;
 mod ending;
 mod run;
 mod summary;
-mod arguments;
 
 pub use ending::MirrorEnding;
 pub use run::run_mirror;

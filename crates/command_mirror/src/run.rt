@@ -9,9 +9,9 @@ ghost use Rattle.taxii_client.specs.Filling.{environment};
 ghost use Rattle.command_mirror.specs.Endings.{AskSo, Concludes, EndsMirror, EndsArguments, mirror_status, reason_of};
 ghost use Rattle.command_mirror.specs.Runs.{Ends, CopiesAll, LosesAll, HoldsMirrored};
 
+use crate::arguments::{MirrorRequest, read_request};
 use crate::ending::MirrorEnding;
 use crate::summary::write_summary;
-use crate::arguments::{MirrorRequest, read_request};
 use flow_edges::Sink;
 use flow_links::{Clock, Dial};
 use flow_values::NoMemory;

@@ -2,10 +2,10 @@
 //! told of a reply that is refused.
 #![tactic(auto)]
 
+mod arguments;
 mod forms;
 mod refusal;
-mod arguments;
 
+pub use arguments::{PeerArguments, number_to};
 pub use forms::MAX_ROOT;
 pub use refusal::write_refusal;
-pub use arguments::{PeerArguments, number_to};

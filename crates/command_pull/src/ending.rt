@@ -8,8 +8,8 @@ use command_reasons::{write_no_memory, write_write_fault};
 use flow_edges::{Sink, write_all_vectored, write_whole};
 use flow_values::Fault;
 use itoa::Buffer;
-use taxii_client::PageEnd;
 use match_run::CutShort;
+use taxii_client::PageEnd;
 
 /// How the program ends.
 #[derive(Debug, Drop)]

@@ -2,10 +2,10 @@
 //! page before the next one is asked for.
 #![tactic(auto)]
 
+mod arguments;
 mod ending;
 mod pulling;
 mod run;
-mod arguments;
 mod writing;
 
 pub use ending::PullEnding;

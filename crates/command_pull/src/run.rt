@@ -9,9 +9,9 @@ ghost use Rattle.command_pull.specs.Pulling.{environment};
 ghost use Rattle.command_pull.specs.Endings.{EndsPull, EndsArguments, pull_status, end_reason};
 ghost use Rattle.command_pull.specs.Runs.{Ends, PullsAll, CountsDial};
 
+use crate::arguments::{PullRequest, read_request};
 use crate::ending::{PullEnd, PullEnding};
 use crate::pulling::pull_all;
-use crate::arguments::{PullRequest, read_request};
 use flow_edges::Sink;
 use flow_links::Dial;
 use flow_values::NoMemory;
@@ -37,7 +37,12 @@ fn answer<D: Dial, O: Sink>(
 }
 
 /// Does what the arguments ask for.
-fn execute<D: Dial, O: Sink>(alloc: Global, arguments: &[String], dial: &mut D, output: &mut O) -> PullEnd
+fn execute<D: Dial, O: Sink>(
+    alloc: Global,
+    arguments: &[String],
+    dial: &mut D,
+    output: &mut O,
+) -> PullEnd
     ensures end { EndsArguments (link_view D.Link.left D.Link.written D.Link.Source.faults D.Link.Sink.faults) (texts arguments.now)
         (environment (D.observable dial.old) (D.faults dial.old) (O.written output.old)) (environment (D.observable dial.new) (D.faults dial.new) (O.written output.new)) result }
     ensures untouched { pull_status result.ending ≡ 2 → (dial.new ≡ dial.old) × (output.new ≡ output.old) }

@@ -6,10 +6,10 @@ ghost use Rattle.taxii_client.specs.Telling.{line_of, told_of, bad_in, IsWritabl
 
 use flow_edges::Sink;
 use flow_values::{NoMemory, Text};
-use std::alloc::Global;
-use stix_json::{Entry, write_json};
 use match_run::watch_laws::parts_are_buffered;
 use match_run::{CutShort, Pending};
+use std::alloc::Global;
+use stix_json::{Entry, write_json};
 
 /// How many of a page's entries are bad.
 pub(crate) fn count_bad(entries: &[Entry]) -> usize

@@ -1,11 +1,11 @@
 ghost use Rattle.flow_edges.specs.Faults.{Counted};
 ghost use Rattle.flow_edges.specs.Flow.{WritesWhole};
 
+use crate::ServeEnding;
 use command_check::CheckEnding;
 use command_make::MakeEnding;
 use command_match::MatchEnding;
 use command_reasons::write_no_memory;
-use crate::ServeEnding;
 use command_show::ShowEnding;
 use flow_edges::{Sink, write_whole};
 use flow_values::Fault;

@@ -9,12 +9,11 @@ use command_line::{CollectionRequest, ServeRequest};
 use flow_values::{Items, NoMemory, Text};
 use std::alloc::Global;
 use taxii_bodies::CollectionInfo;
-use taxii_exchange::Config;
+use taxii_exchange::{Config, Statuses};
 use taxii_routes::Routes;
 use taxii_rows::Keeper;
 use taxii_server::Server;
 use taxii_service::State;
-use taxii_exchange::Statuses;
 use taxii_store::{Library, LoadRefusal};
 
 /// The server that is asked for, with the rows of the keeper. The keeper's rows and its watermark stay.

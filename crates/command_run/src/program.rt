@@ -8,12 +8,12 @@ ghost use Rattle.command_run.specs.RunEndings.{status_of, IsReasonOf, EndsRun, S
 ghost use Rattle.taxii_server.specs.Environment.{link_view};
 
 use crate::ending::Ending;
+use crate::serve;
 use command_check::check;
 use command_line::laws::one_request;
-use command_line::{Request, ArgumentsRefusal, read_arguments};
+use command_line::{ArgumentsRefusal, Request, read_arguments};
 use command_make::make;
 use command_match::match_bindings;
-use crate::serve;
 use command_show::show;
 use flow_edges::{Sink, Source};
 use flow_links::{Clock, Door};

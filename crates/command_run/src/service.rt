@@ -5,17 +5,17 @@ ghost use Rattle.taxii_server.specs.Environment.{link_view};
 ghost use Rattle.command_line.specs.Request.{plain_service};
 ghost use Rattle.command_run.specs.ServeEndings.{EndsServe, IsEarly, IsStoreFault, Concludes};
 
-use crate::serve_ending::ServeEnding;
 use crate::opening::open;
+use crate::serve_ending::ServeEnding;
 use crate::summary::write_summary;
 use command_line::ServeRequest;
 use flow_edges::Sink;
 use flow_links::{Clock, Door};
 use std::alloc::Global;
-use taxii_service::history_laws::walks_among_requests_skip_no_row;
 use taxii_rows::Keeper;
 use taxii_server::laws::clients_make_history;
 use taxii_server::{Served, serve_door};
+use taxii_service::history_laws::walks_among_requests_skip_no_row;
 
 /// Reads the keeper's rows, serves the clients of the door, one after the other, and writes at the end
 /// how many there were, and how many requests.

@@ -1,7 +1,6 @@
 ghost use Rattle.std.specs.Prelude.{◌≡◌, None};
 
-use crate::Files;
-use crate::{Source, counted_fault};
+use crate::{Files, Source, counted_fault};
 use flow_values::Fault;
 use std::io::Read;
 use std::marker::Model;

@@ -3,9 +3,9 @@ ghost use Rattle.flow_edges.specs.Faults.{Counted};
 ghost use Rattle.flow_lines.specs.Lines.{AnswersLine, HoldsLine, LosesNone, StopsInLine, LacksLine, NoLineFeed, is_blank};
 ghost use Rattle.flow_lines.specs.inner.Reading.{IsBetweenLines, ReadsOrEnds, StopsReading, lines_state};
 
-use crate::read_buffer::ReadBuffer;
 use crate::line::{Line, is_blank_line, strip_return};
 use crate::raw_line::{LineStart, read_line};
+use crate::read_buffer::ReadBuffer;
 use crate::refusal::LineRefusal;
 use flow_edges::Source;
 use flow_values::{Items, NoMemory};

@@ -5,12 +5,12 @@
 //! 67,108,864 of them, and takes at most one read more.
 #![tactic(auto)]
 
-mod read_buffer;
 mod cursor;
 pub mod laws;
 mod line;
 mod lines;
 mod raw_line;
+mod read_buffer;
 mod refusal;
 mod whole_input;
 

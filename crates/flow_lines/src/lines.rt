@@ -2,9 +2,9 @@ ghost use Rattle.std.specs.Prelude.{◌≡◌, ◌≢◌, ℕ, ◌≤◌, [], No
 ghost use Rattle.std.specs.Result.{result_err};
 ghost use Rattle.flow_edges.specs.Faults.{Counted};
 
-use crate::read_buffer::ReadBuffer;
 use crate::cursor::Cursor;
 use crate::line::Line;
+use crate::read_buffer::ReadBuffer;
 use crate::refusal::LineRefusal;
 use flow_edges::Source;
 use flow_values::NoMemory;

@@ -17,5 +17,5 @@ pub use dial::{Dial, MAX_HOST};
 pub use door::Door;
 pub use link::Link;
 pub use system::{
-    Deadline, DeadlineStream, Phase, TimedStream, SystemClock, TcpDial, TcpDoor, TcpLink,
+    Deadline, DeadlineStream, Phase, SystemClock, TcpDial, TcpDoor, TcpLink, TimedStream,
 };

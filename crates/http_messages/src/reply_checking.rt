@@ -5,9 +5,8 @@ ghost use Rattle.http_messages.specs.inner.Reading.{ChecksHead, refusal_or_lengt
 
 use crate::reply_grammar::{MAX_FIELDS, parse};
 use crate::reply_head::Head;
-use crate::{HeadRefusal, MAX_REPLY};
+use crate::{HeadRefusal, MAX_REPLY, all_state, first_length};
 use flow_values::NoMemory;
-use crate::{all_state, first_length};
 use httparse::spans::EMPTY_HEADER_SPAN;
 use std::alloc::Global;
 

@@ -3,8 +3,8 @@ ghost use Rattle.http_messages.specs.Fields.{values_among};
 ghost use Rattle.http_messages.specs.ReplyHeads.{IsReadAs};
 ghost use Rattle.http_messages.specs.inner.ReplyParsing.{IsParsed};
 
-use flow_values::NoMemory;
 use crate::same_name;
+use flow_values::NoMemory;
 use httparse::spans::{HeaderSpan, ResponseSpans};
 use std::alloc::Global;
 use std::marker::Model;

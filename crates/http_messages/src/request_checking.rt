@@ -7,9 +7,9 @@ ghost use Rattle.http_messages.specs.inner.Searching.{IsFound};
 
 use crate::buffer::Buffer;
 use crate::close::any_asks_to_close;
+use crate::length::{all_state, first_length};
 use crate::request_grammar::parse;
 use crate::request_head::Head;
-use crate::length::{all_state, first_length};
 use crate::texts::{are_texts, first_text, joined, text_of};
 use crate::{Body, Method, Refusal, Request};
 use flow_values::{NoMemory, Text};

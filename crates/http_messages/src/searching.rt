@@ -4,9 +4,8 @@ ghost use Rattle.flow_edges.specs.Faults.{Counted};
 ghost use Rattle.http_messages.specs.ReplyHeads.{HoldNoHead};
 ghost use Rattle.http_messages.specs.inner.Reading.{ReadsHead};
 
-use crate::{HeadRefusal, ReplyEnd};
+use crate::{HeadRefusal, MAX_HEAD, ReplyEnd, last_line_end};
 use flow_edges::Source;
-use crate::{MAX_HEAD, last_line_end};
 
 /// Reads a head into the front of the buffer, and answers how long it is. Each read asks for no more
 /// bytes than the head must still have, so that none past it is taken.

@@ -3,8 +3,8 @@ ghost use Rattle.http_messages.specs.Frames.{SessionState, IsFirstFrame};
 
 use crate::buffer::Buffer;
 use crate::finding::find_frame;
-use crate::request_grammar::MAX_FIELDS;
 use crate::request_checking::Found;
+use crate::request_grammar::MAX_FIELDS;
 use crate::search::HeadSearch;
 use crate::{Body, Frame};
 use flow_values::NoMemory;

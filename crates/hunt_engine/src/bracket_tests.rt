@@ -10,10 +10,10 @@ ghost use Rattle.hunt_engine.specs.inner.RootBatches.{IsMet, IsCertain, AreCerta
 use crate::Memo;
 use crate::brackets::Brackets;
 use flow_values::NoMemory;
+use hunt_index::is_definite;
 use match_comparisons::leaf_roots;
 use std::alloc::Global;
 use stix_bundles::Bundle;
-use hunt_index::is_definite;
 
 /// Adds to what is known of the roots of some pairs the positions of the brackets that hold there. Each bracket whose
 /// pairs stand together is asked once: it costs at most the size of the bundle for each of its steps.

@@ -15,19 +15,19 @@ ghost use Rattle.hunt_engine.specs.EngineState.{EngineRepresents, IsReady};
 ghost use Rattle.hunt_engine.specs.EngineAnswer.{ReportsRow, IsFirstOverLimit};
 
 use crate::brackets::Brackets;
+use crate::evaluation::{clear, evaluate};
 use crate::lazy_matcher::LazyMatcher;
 use crate::lazy_matchers::{sweep, take_all};
-use crate::evaluation::{clear, evaluate};
 use crate::next_row::NextRow;
 use crate::{EngineRefusal, Hit, Memo};
 use flow_values::{Items, NoMemory};
+use hunt_feed::Hunted;
+use hunt_index::Index;
 use match_bindings::laws::test_is_the_rule;
 use std::alloc::Global;
 use std::marker::Model;
 use stix_bundles::{Bundle, Observation};
 use stix_times::Instant;
-use hunt_index::Index;
-use hunt_feed::Hunted;
 
 /// Many patterns over one log. Contracts see the patterns of the hunted list, how much may be retained of each, how
 /// many rows it took, the last time of the last of them, whether it has ended, and who follows the log for each
@@ -80,7 +80,11 @@ impl<'p> Model for Engine<'p> {
 impl<'p> Engine<'p> {
     /// An engine for the patterns of a hunted list, that took no row yet. More than `retained_limit` may never be retained of
     /// one pattern. So many brackets as a u32 doesn't count take more memory than there is.
-    pub fn new(alloc: Global, hunted: &'p [Hunted], retained_limit: u64) -> Result<Engine<'p>, NoMemory>
+    pub fn new(
+        alloc: Global,
+        hunted: &'p [Hunted],
+        retained_limit: u64,
+    ) -> Result<Engine<'p>, NoMemory>
         requires few { length hunted.now < 2 ^ 32 }
         requires sound { All (λ h. IsSoundPattern (plain_pattern h.pattern)) hunted.now }
         requires narrow { All (λ h. leaves h.pattern < 2 ^ 32) hunted.now }
@@ -151,7 +155,13 @@ impl<'p> Engine<'p> {
             last: observation.last,
         };
         let lazy_matchers = self.lazy_matchers.as_mut_slice();
-        self.sweep_position = sweep(lazy_matchers, self.sweep_order.as_slice(), self.sweep_position, &row, self.retained_limit)?;
+        self.sweep_position = sweep(
+            lazy_matchers,
+            self.sweep_order.as_slice(),
+            self.sweep_position,
+            &row,
+            self.retained_limit,
+        )?;
         let row_brackets = evaluate(
             self.alloc,
             &self.brackets,

@@ -12,9 +12,9 @@ use crate::Memo;
 use crate::brackets::Brackets;
 use crate::memoizing::memoize;
 use flow_values::NoMemory;
+use hunt_index::Index;
 use std::alloc::Global;
 use stix_bundles::Bundle;
-use hunt_index::Index;
 
 /// What holds at a row.
 #[derive(Drop)]

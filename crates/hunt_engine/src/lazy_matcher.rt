@@ -148,7 +148,11 @@ fn matcher_of(
 }
 
 /// A matcher that saw no row yet.
-fn boxed_matcher(alloc: Global, pattern: &Pattern, retained_limit: u64) -> Result<Box<Matcher<'_>>, NoMemory>
+fn boxed_matcher(
+    alloc: Global,
+    pattern: &Pattern,
+    retained_limit: u64,
+) -> Result<Box<Matcher<'_>>, NoMemory>
     requires { leaves pattern.now < 2 ^ 32 }
     ensures { IfOk result (λ matcher. MatchesFor pattern.now retained_limit [] 0 (Some matcher.value)) }
 {

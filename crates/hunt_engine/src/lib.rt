@@ -11,17 +11,17 @@
 mod bracket_tests;
 mod brackets;
 mod engine;
-mod lazy_matcher;
-mod lazy_matchers;
+mod evaluation;
 mod found;
 mod holding;
-mod evaluation;
-mod memo;
 pub mod laws;
+mod lazy_matcher;
+mod lazy_matchers;
+mod memo;
 mod memoizing;
 mod next_row;
-mod root_batch;
 mod refusal;
+mod root_batch;
 
 pub use engine::Engine;
 pub use found::Hit;

@@ -15,10 +15,10 @@ use crate::brackets::Brackets;
 use crate::holding::holds_at;
 use crate::root_batch::RootBatch;
 use flow_values::{Items, NoMemory};
+use hunt_index::{Index, is_definite};
 use pattern_types::Leaf;
 use std::alloc::Global;
 use stix_bundles::Bundle;
-use hunt_index::{Index, is_definite};
 
 /// Where fewer roots come than so many, each is asked by itself: a bracket of one root costs least so.
 const FEW: usize = 8;

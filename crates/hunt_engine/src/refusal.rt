@@ -7,7 +7,11 @@ pub enum EngineRefusal {
     /// More of a pattern is retained after the row of this number than the retained limit allows: the first such pattern,
     /// by its position in the hunted list.
     #[error("more than {retained_limit} are live of pattern {hunted} after row {number}")]
-    OverLimit { hunted: u32, number: u64, retained_limit: u64 },
+    OverLimit {
+        hunted: u32,
+        number: u64,
+        retained_limit: u64,
+    },
     /// The engine had ended before.
     #[error("the engine has ended")]
     Ended,

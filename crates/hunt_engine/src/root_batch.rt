@@ -8,10 +8,10 @@ ghost use Rattle.hunt_engine.specs.inner.RootBatches.{IsRootBatch};
 use crate::Memo;
 use crate::memo::MAX_POSITIONS;
 use flow_values::NoMemory;
+use hunt_index::Index;
 use std::alloc::Global;
 use std::collections::BTreeSet;
 use stix_bundles::Bundle;
-use hunt_index::Index;
 
 /// Some roots, and which brackets may hold there.
 #[derive(Drop)]

@@ -12,14 +12,13 @@ ghost use Rattle.hunt_feed.specs.declared.end.FeedEnd.TheVariants as end;
 ghost use Rattle.hunt_feed.specs.Feeds.{Refused, ReadsFeed, GathersFeed};
 ghost use Rattle.hunt_feed.specs.inner.Ends.{AnswersObject, MovesOn};
 
-use crate::FeedEnd;
 use crate::feed_object::read_object;
+use crate::{FeedEnd, Gathering};
 use flow_edges::Source;
 use flow_lines::Lines;
 use flow_values::NoMemory;
 use std::alloc::Global;
 use stix_json::Json;
-use crate::Gathering;
 
 /// Reads a feed to its end, an object a line, and keeps of it what a hunt asks of its indicators: of an object that isn't
 /// hunted, at most what is known of its versions. A feed of more objects than a u32 counts takes more memory than there is.

@@ -8,8 +8,8 @@ ghost use Rattle.hunt_feed.specs.inner.Adding.{IsIndicator, Puts, AddsIndicator}
 
 use crate::Hunt;
 use crate::candidates::hunt_among;
-use crate::kept::Kept;
 use crate::indicator_object::{is_indicator, number_of, to_keep, version_at};
+use crate::kept::Kept;
 use crate::version::{Version, with_version};
 use flow_values::NoMemory;
 use std::alloc::Global;

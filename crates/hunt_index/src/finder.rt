@@ -68,7 +68,11 @@ impl<'p> Finder<'p> {
     }
 
     /// Adds the places of the brackets that have a index key by one of the look-ups.
-    fn add_found(&self, lookups: &[Lookup<'_>], brackets_found: &mut Vec<u32>) -> Result<(), NoMemory>
+    fn add_found(
+        &self,
+        lookups: &[Lookup<'_>],
+        brackets_found: &mut Vec<u32>,
+    ) -> Result<(), NoMemory>
         ensures { OnOk result (AddsFound self.now.brackets_found.entries.items lookups.now brackets_found.old.items brackets_found.new.items) }
     {
         for lookup in lookups {
@@ -178,7 +182,10 @@ fn dedup_lookups(mut lookups: Vec<Lookup<'_>>) -> Vec<Lookup<'_>>
 }
 
 /// Adds the places of some entries.
-fn add_brackets(entries: &[(Lookup<'_>, u32)], brackets_found: &mut Vec<u32>) -> Result<(), NoMemory>
+fn add_brackets(
+    entries: &[(Lookup<'_>, u32)],
+    brackets_found: &mut Vec<u32>,
+) -> Result<(), NoMemory>
     ensures { OnOk result (brackets_found.new.items ≡ brackets_found.old.items ++ map (λ entry. entry.1) entries.now) }
 {
     for (_, bracket) in entries {

@@ -35,7 +35,10 @@ pub(crate) fn index_keys_of<'p>(
 
 /// The index keys of parts that all have to hold: those of one of them will do, and the fewest are taken.
 #[cycle(leaves)]
-fn index_keys_of_all<'p>(alloc: Global, parts: &'p [Leaf]) -> Result<Option<Items<IndexKey<'p>>>, NoMemory>
+fn index_keys_of_all<'p>(
+    alloc: Global,
+    parts: &'p [Leaf],
+) -> Result<Option<Items<IndexKey<'p>>>, NoMemory>
     ensures { IfOk result (IndexKeys (λ objects root. AllHold objects root (listed parts.now))) }
 {
     let mut fewest = None;

@@ -7,10 +7,10 @@
 
 mod definite;
 mod finder;
-mod index_key;
-mod key_selection;
 mod index;
+mod index_key;
 mod key;
+mod key_selection;
 mod paths;
 mod postings;
 mod sorting;

@@ -29,7 +29,10 @@ pub(crate) struct PathTable<'p> {
 
 /// Files postings by their paths. Those of one path are brought together first, so that each path has one
 /// number.
-pub(crate) fn group_by_path<'p>(alloc: Global, mut postings: Vec<Posting<'p>>) -> Result<PathTable<'p>, NoMemory>
+pub(crate) fn group_by_path<'p>(
+    alloc: Global,
+    mut postings: Vec<Posting<'p>>,
+) -> Result<PathTable<'p>, NoMemory>
     ensures { IfOk result (AreAllGrouped postings.entry.items) }
 {
     postings.sort_unstable_by(|one, other| path_order(&one.index_key, &other.index_key));

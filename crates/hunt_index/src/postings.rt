@@ -24,7 +24,10 @@ pub(crate) struct Postings<'p> {
 }
 
 /// The postings of these brackets.
-pub(crate) fn postings_of<'p>(alloc: Global, brackets: &[&'p Leaf]) -> Result<Postings<'p>, NoMemory>
+pub(crate) fn postings_of<'p>(
+    alloc: Global,
+    brackets: &[&'p Leaf],
+) -> Result<Postings<'p>, NoMemory>
     requires { length brackets.now < 2 ^ 32 }
     ensures { IfOk result (ArePostingsOf (map (λ leaf. leaf.now) brackets.now) (length brackets.now)) }
 {

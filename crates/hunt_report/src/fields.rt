@@ -11,11 +11,10 @@ ghost use Rattle.hunt_report.specs.Sightings.{IsVersionText, text_member};
 ghost use Rattle.hunt_report.specs.inner.Adding.{AddsText};
 
 use crate::times::{time_text, version_text};
-use flow_values::{Items, NoMemory, Text};
+use flow_values::{Items, Name, NoMemory, Text};
 use std::alloc::Global;
 use stix_ids::{Id, write_id};
 use stix_json::{Field, Json, JsonText};
-use flow_values::Name;
 use stix_times::Instant;
 
 /// Fields that come one by one.

@@ -12,11 +12,11 @@ ghost use Rattle.hunt_engine.specs.EngineLog.{Row};
 ghost use Rattle.hunt_report.specs.Hits.{AnswerRows, AreHits};
 ghost use Rattle.hunt_report.specs.Hunting.{IsHuntable};
 
+use hunt_engine::laws::one_log;
 use match_stream::laws::answers_are_the_listing;
 use pattern_types::leaf_laws::leaves_are_brackets;
 use stix_objects::laws::{no_breaks, one_id};
 use stix_times::laws::millis_are_whole;
-use hunt_engine::laws::one_log;
 
 /// The answers to the rows of a log, one after another, are its hits.
 pub fn answers_are_the_hits()

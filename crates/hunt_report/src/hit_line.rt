@@ -11,13 +11,13 @@ ghost use Rattle.hunt_report.specs.Lines.{line_for, hit_line, hits_text};
 
 use flow_edges::Sink;
 use flow_values::NoMemory;
-use match_bindings::{Bind, line_of};
-use std::alloc::Global;
-use stix_ids::write_id;
 use hunt_engine::Hit;
 use hunt_feed::Hunted;
+use match_bindings::{Bind, line_of};
 use match_run::watch_laws::parts_are_buffered;
 use match_run::{CutShort, Pending};
+use std::alloc::Global;
+use stix_ids::write_id;
 
 /// Adds the line of each hit to what is pending.
 pub(crate) fn add_hits<O: Sink>(

@@ -1,8 +1,8 @@
 ghost use Rattle.std.specs.Prelude.{◌≡◌};
 ghost use Rattle.hunt_report.specs.inner.Noting.{hit_summary_after};
 
-use stix_times::Instant;
 use crate::MAX_COUNT;
+use stix_times::Instant;
 
 /// What was seen of an indicator: its bindings so far.
 #[derive(Clone, Copy, Debug)]

@@ -12,19 +12,19 @@ ghost use Rattle.hunt_report.specs.inner.HitReporting.{TakesRow, end_of_engine, 
 
 use crate::hit_line::add_hits;
 use crate::hit_summary::hit_summary_after;
-use crate::{OverLimit, HitSummary};
+use crate::{HitSummary, OverLimit};
 use flow_edges::Sink;
 use flow_values::{Items, NoMemory};
+use hunt_engine::laws::one_log;
+use hunt_engine::{Engine, EngineRefusal, Hit, Memo};
+use hunt_feed::Hunted;
 use match_input::Batch;
+use match_run::watch_laws::parts_are_buffered;
+use match_run::{Pending, SeeEnd, Watcher};
 use std::alloc::Global;
 use std::marker::Model;
 use stix_bundles::{Bundle, Observation};
 use stix_times::Instant;
-use hunt_engine::laws::one_log;
-use hunt_engine::{Engine, EngineRefusal, Hit, Memo};
-use hunt_feed::Hunted;
-use match_run::watch_laws::parts_are_buffered;
-use match_run::{Pending, SeeEnd, Watcher};
 
 /// No log has an observation of such a number.
 const TOO_MANY: u64 = 1 << 63;
@@ -58,7 +58,11 @@ impl<'p> Model for Hunter<'p> {
 
 impl<'p> Hunter<'p> {
     /// One for the indicators of a hunt, that hunted over nothing yet. More than `retained_limit` may never be live of one pattern.
-    pub fn new(alloc: Global, hunted: &'p [Hunted], retained_limit: u64) -> Result<Hunter<'p>, NoMemory>
+    pub fn new(
+        alloc: Global,
+        hunted: &'p [Hunted],
+        retained_limit: u64,
+    ) -> Result<Hunter<'p>, NoMemory>
         requires { All IsHuntable hunted.now }
         ensures hunts { IfOk result (λ hunter. HuntsOver hunter [] []) }
         ensures hunted { IfOk result (λ hunter. hunter.hunted ≡ hunted.now) }

@@ -12,24 +12,24 @@
 //! (STIX 2.1, section 5.2). `write_skipped` reports the indicators whose patterns aren't read.
 #![tactic(auto)]
 
-mod over_limit;
 mod fields;
 pub mod hit_laws;
 mod hit_line;
+mod hit_summary;
 mod hunter;
 mod moment;
 mod object;
+mod over_limit;
 mod report;
 mod seen;
-mod hit_summary;
 pub mod sighting_laws;
 mod skipped;
 mod times;
 
-pub use over_limit::OverLimit;
+pub use hit_summary::HitSummary;
 pub use hunter::Hunter;
 pub use object::{sighting, sighting_text};
+pub use over_limit::OverLimit;
 pub use report::write_report;
 pub use seen::{MAX_COUNT, SightingInput};
-pub use hit_summary::HitSummary;
 pub use skipped::write_skipped;

@@ -8,12 +8,11 @@ ghost use Rattle.hunt_report.specs.Sightings.{IsSeen, IsSightingOf, IsSightingTe
 use crate::fields::Fields;
 use crate::moment::modified_at;
 use crate::{MAX_COUNT, SightingInput};
-use flow_values::{NoMemory, Text};
+use flow_values::{Name, NoMemory, Text};
 use std::alloc::Global;
 use stix_ids::Id;
 use stix_ids::laws::written_reads_back as written_ids;
 use stix_json::{Json, write_json};
-use flow_values::Name;
 use stix_times::Instant;
 use stix_times::laws::{one_instant, written_reads_back};
 
@@ -62,7 +61,11 @@ fn count_of(seen: &SightingInput<'_>) -> u32
 }
 
 /// Its text as compact JSON.
-pub fn sighting_text(alloc: Global, moment: Instant, seen: &SightingInput<'_>) -> Result<Text, NoMemory>
+pub fn sighting_text(
+    alloc: Global,
+    moment: Instant,
+    seen: &SightingInput<'_>,
+) -> Result<Text, NoMemory>
     requires { IsSeen seen.now }
     ensures { IfOk result (IsSightingText moment seen.now) }
 {

@@ -9,16 +9,15 @@ ghost use Rattle.hunt_report.specs.Hunting.{IsHuntable, HuntsOver};
 ghost use Rattle.hunt_report.specs.HitSummaries.{IsReport, IsReportText, begun_by};
 ghost use Rattle.hunt_report.specs.inner.Reporting.{IsTextOf, ReportsSoFar, ReportsPart, AddsHitSummary, BreaksAtHitSummary, is_begun, mark_of, end_of, IsHitSummaryInOrder};
 
-use crate::{Hunter, HitSummary};
+use crate::sighting_laws::one_text_more;
+use crate::{HitSummary, Hunter, SightingInput, sighting_text};
 use flow_edges::Sink;
 use flow_values::{NoMemory, Text};
-use std::alloc::Global;
-use stix_times::Instant;
 use hunt_feed::Hunted;
 use match_run::watch_laws::parts_are_buffered;
 use match_run::{CutShort, Pending};
-use crate::sighting_laws::one_text_more;
-use crate::{SightingInput, sighting_text};
+use std::alloc::Global;
+use stix_times::Instant;
 
 /// Writes the line that reports, at a moment, what was seen of the hunted indicators: an envelope of their sightings. Where there is
 /// no hit, nothing is written. After an `Err` a prefix of the line was.

@@ -8,11 +8,11 @@ ghost use Rattle.hunt_report.specs.Lines.{skipped_line, skipped_text};
 
 use flow_edges::Sink;
 use flow_values::NoMemory;
-use std::alloc::Global;
-use stix_ids::write_id;
 use hunt_feed::Skipped;
 use match_run::watch_laws::parts_are_buffered;
 use match_run::{CutShort, Pending};
+use std::alloc::Global;
+use stix_ids::write_id;
 
 /// Writes a line for each indicator that is skipped: its identifier, and why its pattern isn't read. After an `Err` a prefix of
 /// the lines was written.

@@ -4,6 +4,7 @@
 //! binding of a pattern over a log, each once.
 #![tactic(auto)]
 
+mod ascending;
 mod bind;
 mod bindings;
 mod bounds;
@@ -18,7 +19,6 @@ mod log_entry;
 mod numbers;
 mod order;
 mod ranked;
-mod ascending;
 mod span;
 mod spanned_bind;
 

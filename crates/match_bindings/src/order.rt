@@ -6,10 +6,10 @@ ghost use Rattle.match_bindings.specs.Flat.{comes_before};
 ghost use Rattle.match_bindings.specs.Ranks.{ranked_trees};
 
 use crate::Bind;
+use crate::ascending::are_ascending;
 use crate::flat_list::push_flat;
 use crate::numbers::greatest_number;
 use crate::ranked::Ranked;
-use crate::ascending::are_ascending;
 use flow_values::NoMemory;
 use std::alloc::Global;
 

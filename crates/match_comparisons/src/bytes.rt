@@ -6,11 +6,11 @@ ghost use Rattle.stix_json.specs.DataOf.{data_of};
 ghost use Rattle.match_comparisons.specs.Tests.{IsBytesOf};
 ghost use Rattle.match_comparisons.specs.inner.Bytes.{Represents};
 
+use crate::ends_in;
 use base64::DecodeAllocError;
 use base64::engine::general_purpose::STANDARD;
 use flow_values::{Items, NoMemory};
 use hex::FromHexError;
-use crate::ends_in;
 use std::alloc::Global;
 use stix_json::{Json, text_of};
 

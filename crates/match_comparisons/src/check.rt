@@ -9,8 +9,8 @@ ghost use Rattle.match_comparisons.specs.inner.Bytes.{Represents};
 use crate::block::{holds_block, lies_in};
 use crate::bytes::bytes_in;
 use crate::compare::compared;
-use flow_values::{Items, NoMemory};
 use crate::like;
+use flow_values::{Items, NoMemory};
 use pattern_types::{Check, Constant};
 use std::alloc::Global;
 use std::cmp::Ordering;
@@ -40,9 +40,21 @@ fn meets(alloc: Global, last: Option<&str>, value: &Json, check: &Check) -> Resu
         Check::Equal(constant) => compares(alloc, last, value, constant, Ordering::Equal),
         Check::Differ(constant) => Ok(!compares(alloc, last, value, constant, Ordering::Equal)?),
         Check::Less(constant) => compares(alloc, last, value, constant, Ordering::Less),
-        Check::LessEqual(constant) => compares_or_equals(alloc, last, value, constant, Ordering::Less),
+        Check::LessEqual(constant) => compares_or_equals(
+            alloc,
+            last,
+            value,
+            constant,
+            Ordering::Less,
+        ),
         Check::Greater(constant) => compares(alloc, last, value, constant, Ordering::Greater),
-        Check::GreaterEqual(constant) => compares_or_equals(alloc, last, value, constant, Ordering::Greater),
+        Check::GreaterEqual(constant) => compares_or_equals(
+            alloc,
+            last,
+            value,
+            constant,
+            Ordering::Greater,
+        ),
         Check::Among(constants) => equals_some(alloc, last, value, constants.as_slice()),
         Check::Like(pattern) => Ok(is_like(value, pattern.as_str())),
         Check::Subset(address) => Ok(lies_in(value, &address.block)),
@@ -66,7 +78,12 @@ fn compares(
 }
 
 /// The same, where the value stands for those bytes.
-fn compares_so(value: &Json, own: &Option<Items<u8>>, constant: &Constant, expected: Ordering) -> bool
+fn compares_so(
+    value: &Json,
+    own: &Option<Items<u8>>,
+    constant: &Constant,
+    expected: Ordering,
+) -> bool
     ensures { (last : Option (List ℕ)) → Represents last (data_of value.now) own.now
         → IsTrue result ↔ Compares last (data_of value.now) constant.now expected }
 {

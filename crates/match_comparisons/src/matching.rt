@@ -3,7 +3,7 @@ ghost use Rattle.std.specs.Prelude.{◌↔◌, ◌∷◌, IsTrue};
 ghost use Rattle.std.specs.Str.{chars};
 ghost use Rattle.match_comparisons.specs.Like.{any_run, IsLike};
 
-use crate::segment::{after_first_match, strip_front, has_end, is_like_segment};
+use crate::segment::{after_first_match, has_end, is_like_segment, strip_front};
 use crate::wildcards::split_at_run;
 
 /// Whether the whole text is like the pattern: `%` stands for any run of characters, also an empty

@@ -9,9 +9,9 @@ ghost use Rattle.match_comparisons.specs.Tests.{TestHolds, NegatedIf, Meets, las
 ghost use Rattle.match_comparisons.specs.inner.Search.{IsSoundMemo, IsSearchOf};
 
 use crate::memo::SearchMemo;
+use crate::root_of;
 use crate::search::{Search, finds, is_absence};
 use flow_values::NoMemory;
-use crate::root_of;
 use pattern_types::Test;
 use std::alloc::Global;
 use stix_bundles::Bundle;

@@ -7,11 +7,11 @@ ghost use Rattle.match_comparisons.specs.Tests.{IsAbsence};
 ghost use Rattle.match_comparisons.specs.inner.Search.{name_of, Finds, SomeFinds, FindsAt, IsSoundMemo, IsSearchState, IsSearchOf};
 
 use crate::check::meets_unless_negated;
-use crate::memo::SearchMemo;
 use crate::last::last_name;
-use flow_values::NoMemory;
 use crate::laws::same_lead;
+use crate::memo::SearchMemo;
 use crate::{name_after, object_at, reference, selected};
+use flow_values::NoMemory;
 use pattern_types::{Check, Step, Test};
 use std::alloc::Global;
 use stix_bundles::Bundle;

@@ -108,7 +108,10 @@ fn in_order(
 }
 
 /// The last time before and that of the first observation, where this one is earlier.
-fn decreasing_time(last: Option<Instant>, observations: &[Observation]) -> Option<(Instant, Instant)>
+fn decreasing_time(
+    last: Option<Instant>,
+    observations: &[Observation],
+) -> Option<(Instant, Instant)>
     ensures some { IfSome result (λ (before, now). Decreases last observations.now before now) }
     ensures none { IfNone result (IsInOrder last observations.now) }
 {

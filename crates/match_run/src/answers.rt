@@ -50,7 +50,15 @@ fn end_of(refusal: MatchRefusal) -> MatchEnd
     ensures unwritten { result ≢ MatchEnd.WriteFault }
 {
     match refusal {
-        MatchRefusal::Stopped(Ending::OverLimit { number, retained_limit }) => MatchEnd::OverLimit { number, retained_limit },
+        MatchRefusal::Stopped(
+            Ending::OverLimit {
+                number,
+                retained_limit,
+            },
+        ) => MatchEnd::OverLimit {
+            number,
+            retained_limit,
+        },
         MatchRefusal::Stopped(Ending::NoMemory) => MatchEnd::NoMemory,
         MatchRefusal::Stopped(Ending::OutOfOrder { .. }) | MatchRefusal::Ended(_) => unreachable!(),
     }

@@ -11,9 +11,9 @@ use crate::answers::answer;
 use crate::lines::{add_lines, write_pending};
 use crate::tally::Tally;
 use flow_edges::Sink;
+use match_comparisons::leaf_truths;
 use match_input::Batch;
 use match_stream::Matcher;
-use match_comparisons::leaf_truths;
 use std::alloc::Global;
 
 /// Gives the observations of a bundle to the matcher, and writes the lines of the bindings that end there, in pieces: where too

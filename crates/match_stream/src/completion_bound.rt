@@ -17,9 +17,9 @@ ghost use Rattle.match_stream.specs.inner.PendingLefts.{pending_lefts_of};
 ghost use Rattle.match_stream.specs.inner.CompletionBounds.{may_precede, IsInCandidateSet, IsReached};
 
 use crate::matching::Matching;
-use crate::pending_left::PendingLeft;
 use crate::numbers::{push_numbers, sort_dedup};
 use crate::partial_match::PartialMatch;
+use crate::pending_left::PendingLeft;
 use crate::store::is_retained;
 use flow_values::NoMemory;
 use match_bindings::are_disjoint;
@@ -96,7 +96,12 @@ impl CompletionBound {
 
     /// Takes one more thing into each greedy completion, of those held on the next left side: whether there may be one.
     /// It lies wholly where the sequences begin, unless there are too few numbers for that.
-    fn take(&mut self, alloc: Global, partial_match: &PartialMatch, held: &[PartialMatch]) -> Result<bool, NoMemory>
+    fn take(
+        &mut self,
+        alloc: Global,
+        partial_match: &PartialMatch,
+        held: &[PartialMatch],
+    ) -> Result<bool, NoMemory>
         ensures { IfOk result (λ may. (greedy_completion left : PartialMatchTree) → IsReached (partial_match_tree partial_match.now) self.old greedy_completion
             → Contains (partial_match_trees held.now) left → may_join join.Then left greedy_completion ≡ true
             → (may ≡ true) × IsReached (partial_match_tree partial_match.now) self.new (joined join.Then left greedy_completion)) }
@@ -151,7 +156,14 @@ impl CompletionBound {
             if self.matching.list.len() >= MAX_CHOICES {
                 return Ok(true);
             }
-            let numbers = match candidate_set_at(alloc, place, self.earliest, bound, partial_match, held)? {
+            let numbers = match candidate_set_at(
+                alloc,
+                place,
+                self.earliest,
+                bound,
+                partial_match,
+                held,
+            )? {
                 CandidateSet::Few(numbers) => numbers,
                 CandidateSet::Many => continue,
                 CandidateSet::Short => return Ok(true),
@@ -216,7 +228,11 @@ fn are_many(numbers: &mut Vec<u64>) -> bool
 /// The latest time before this one at which something begins that may go before a greedy completion, which itself
 /// begins at this time at the latest. What came last is looked at first, and whether it binds something of
 /// the new thing only where it is later than all so far.
-fn latest_before(bound: Instant, partial_match: &PartialMatch, held: &[PartialMatch]) -> Option<Instant>
+fn latest_before(
+    bound: Instant,
+    partial_match: &PartialMatch,
+    held: &[PartialMatch],
+) -> Option<Instant>
     ensures { (left : PartialMatchTree) → Contains (partial_match_trees held.now) left → may_precede left bound (partial_match_tree partial_match.now) ≡ true
         → left.earliest <ℤ bound → (time : ℤ) × (result ≡ Some time) × (left.earliest ≤ℤ time) }
 {

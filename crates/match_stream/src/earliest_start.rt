@@ -7,8 +7,8 @@ ghost use Rattle.match_stream.specs.inner.CompletionBounds.{covers, MayBegin, Ma
 ghost use Rattle.match_stream.specs.inner.Needed.{is_needed};
 ghost use Rattle.match_stream.specs.inner.PendingLefts.{pending_lefts_of};
 
-use crate::pending_left::PendingLeft;
 use crate::partial_match::PartialMatch;
+use crate::pending_left::PendingLeft;
 use match_bindings::{Bind, are_disjoint, greatest_number};
 use stix_times::Instant;
 

@@ -34,7 +34,10 @@ impl Ending {
         ensures { result ≡ self.now }
     {
         match self {
-            Ending::OverLimit { number, retained_limit } => Ending::OverLimit {
+            Ending::OverLimit {
+                number,
+                retained_limit,
+            } => Ending::OverLimit {
                 number: *number,
                 retained_limit: *retained_limit,
             },

@@ -9,9 +9,9 @@ ghost use Rattle.match_stream.specs.inner.Needed.{is_needed};
 ghost use Rattle.match_stream.specs.inner.PendingLefts.{pending_lefts_of};
 ghost use Rattle.match_stream.specs.inner.CompletionBounds.{IsGreedyCompletion};
 
-use crate::pending_left::PendingLeft;
 use crate::numbers::{numbers_of, push_numbers, share_number};
 use crate::partial_match::PartialMatch;
+use crate::pending_left::PendingLeft;
 use crate::store::is_retained;
 use flow_values::NoMemory;
 use match_bindings::Bind;
@@ -40,7 +40,11 @@ impl GreedyCompletion {
 
     /// Whether it goes on to what is needed above, by what was held last on each left side. The innermost
     /// pending left is the last.
-    pub fn continues(&mut self, now: Instant, pending_lefts: &[PendingLeft]) -> Result<bool, NoMemory>
+    pub fn continues(
+        &mut self,
+        now: Instant,
+        pending_lefts: &[PendingLeft],
+    ) -> Result<bool, NoMemory>
         ensures { IfOk result (λ on. on ≡ true → (partial_match : PartialMatchTree) → IsGreedyCompletion self.old partial_match
             → is_needed now (pending_lefts_of pending_lefts.now) partial_match ≡ true) }
     {

@@ -52,7 +52,12 @@ impl Join {
     }
 
     /// Two things as one, which share no observation.
-    pub fn joined(self, alloc: Global, first: &PartialMatch, second: &PartialMatch) -> Result<PartialMatch, NoMemory>
+    pub fn joined(
+        self,
+        alloc: Global,
+        first: &PartialMatch,
+        second: &PartialMatch,
+    ) -> Result<PartialMatch, NoMemory>
         requires { disjoint (tree_of first.now.bind) (tree_of second.now.bind) ≡ true }
         ensures { IfOk result (λ held. partial_match_tree held ≡ joined self (partial_match_tree first.now) (partial_match_tree second.now)) }
     {

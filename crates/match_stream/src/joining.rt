@@ -11,13 +11,13 @@ ghost use Rattle.match_stream.specs.inner.Steps.{join_row, joins};
 ghost use Rattle.match_stream.specs.inner.Needed.{is_needed};
 ghost use Rattle.match_stream.specs.declared.stop.Stop.TheVariants as stop;
 
-use crate::join_filter::JoinFilter;
+use crate::earliest_start::EarliestStart;
 use crate::join::Join;
+use crate::join_filter::JoinFilter;
+use crate::needed::is_needed;
 use crate::partial_match::PartialMatch;
 use crate::skip_index::SkipIndex;
-use crate::earliest_start::EarliestStart;
 use crate::stop::Stop;
-use crate::needed::is_needed;
 use std::alloc::Global;
 
 /// How things are joined, and what is asked of what they are joined to.
@@ -144,7 +144,12 @@ impl<'a> Joining<'a> {
     }
 
     /// Adds a new thing where it is needed, unless there is no budget for it.
-    fn push(&self, alloc: Global, partial_match: PartialMatch, out: &mut Vec<PartialMatch>) -> Result<(), Stop>
+    fn push(
+        &self,
+        alloc: Global,
+        partial_match: PartialMatch,
+        out: &mut Vec<PartialMatch>,
+    ) -> Result<(), Stop>
         ensures pushed { OnOk result (AreAdded self.now.join_filter.now (partial_match_tree partial_match ∷ []) out.old.items out.new.items) }
         ensures over_limit { result ≡ Err stop.OverLimit → AreTooMany self.now.join_filter.now (partial_match_tree partial_match ∷ []) out.old.items }
     {
@@ -165,7 +170,12 @@ impl<'a> Joining<'a> {
     }
 
     /// Whether a new thing is needed; it stops where there is no budget for it beside others.
-    fn takes(&self, alloc: Global, partial_match: &PartialMatch, others: &[PartialMatch]) -> Result<bool, Stop>
+    fn takes(
+        &self,
+        alloc: Global,
+        partial_match: &PartialMatch,
+        others: &[PartialMatch],
+    ) -> Result<bool, Stop>
         ensures taken { IfOk result (λ taken. taken ≡ is_needed self.now.join_filter.now.time (pending_lefts_of self.now.join_filter.now.pending_lefts.now) (partial_match_tree partial_match.now)) }
         ensures over_limit { result ≡ Err stop.OverLimit
             → (is_needed self.now.join_filter.now.time (pending_lefts_of self.now.join_filter.now.pending_lefts.now) (partial_match_tree partial_match.now) ≡ true) × (self.now.join_filter.now.budget ≤ length others.now) }
@@ -173,7 +183,12 @@ impl<'a> Joining<'a> {
         if !self.earliest_start.may_begin(partial_match) {
             return Ok(false);
         }
-        let is = is_needed(alloc, partial_match, self.join_filter.time, self.join_filter.pending_lefts)?;
+        let is = is_needed(
+            alloc,
+            partial_match,
+            self.join_filter.time,
+            self.join_filter.pending_lefts,
+        )?;
         if is && others.len() as u64 >= self.join_filter.budget {
             return Err(Stop::OverLimit);
         }

@@ -10,11 +10,11 @@ ghost use Rattle.match_stream.specs.inner.Needed.{is_needed, needed};
 ghost use Rattle.match_stream.specs.inner.PendingLefts.{pending_lefts_of};
 ghost use Rattle.match_stream.specs.inner.Numbers.{numbers};
 
-use crate::pending_left::PendingLeft;
+use crate::needed::is_needed;
 use crate::partial_match::PartialMatch;
+use crate::pending_left::PendingLeft;
 use crate::row::Row;
 use crate::store::is_retained;
-use crate::needed::is_needed;
 use flow_values::NoMemory;
 use match_bindings::Bind;
 use match_pruning::Window;
@@ -123,7 +123,12 @@ impl Leaves {
 
     /// What is new at one of them.
     #[tactic(auto, using(crate::proofs::PicksLemmas::once_one))]
-    fn all_new(&self, alloc: Global, row: &Row, truths: &[bool]) -> Result<Vec<PartialMatch>, NoMemory>
+    fn all_new(
+        &self,
+        alloc: Global,
+        row: &Row,
+        truths: &[bool],
+    ) -> Result<Vec<PartialMatch>, NoMemory>
         requires span { row.now.first ≤ℤ row.now.last }
         requires retained { retains self.now.window row.now.first row.now.last ≡ true }
         ensures { IfOk result (λ new. partial_match_trees new.items ≡ step_new row.now truths.now (leaves_of self.now)) }
@@ -158,7 +163,11 @@ fn singleton(row: &Row) -> PartialMatch
 }
 
 /// Whether a row alone is needed.
-fn alone_is_needed(alloc: Global, row: &Row, pending_lefts: &[PendingLeft]) -> Result<bool, NoMemory>
+fn alone_is_needed(
+    alloc: Global,
+    row: &Row,
+    pending_lefts: &[PendingLeft],
+) -> Result<bool, NoMemory>
     requires span { row.now.first ≤ℤ row.now.last }
     ensures { IfOk result (λ is. is ≡ is_needed row.now.last (pending_lefts_of pending_lefts.now) (row_alone row.now)) }
 {
@@ -183,7 +192,12 @@ fn partial_match(bind: Bind, row: &Row) -> PartialMatch
 
 /// Adds a row alone, under a `Second` and so many `First`s.
 #[tactic(auto, using(crate::proofs::PicksLemmas::once_second, crate::proofs::PicksLemmas::once_one))]
-fn push_second(alloc: Global, above: u32, row: &Row, new: &mut Vec<PartialMatch>) -> Result<(), NoMemory>
+fn push_second(
+    alloc: Global,
+    above: u32,
+    row: &Row,
+    new: &mut Vec<PartialMatch>,
+) -> Result<(), NoMemory>
     requires span { row.now.first ≤ℤ row.now.last }
     ensures { OnOk result (partial_match_trees new.new.items ≡ partial_match_trees new.old.items ++ held_with (firsts above) (held_with Second (row_alone row.now)) ∷ []) }
 {

@@ -12,12 +12,12 @@ ghost use Rattle.match_stream.specs.inner.PendingLefts.{pending_lefts_of};
 ghost use Rattle.match_stream.specs.inner.Totals.{AdmitLevels};
 ghost use Rattle.match_stream.specs.inner.Nodes.{store_list, store_lists};
 
-use crate::join_filter::JoinFilter;
+use crate::budget::Budget;
 use crate::join::Join;
-use crate::pending_left::PendingLeft;
+use crate::join_filter::JoinFilter;
 use crate::levels::Levels;
 use crate::partial_match::PartialMatch;
-use crate::budget::Budget;
+use crate::pending_left::PendingLeft;
 use crate::stop::Stop;
 use crate::store::Store;
 use flow_values::NoMemory;
@@ -97,7 +97,16 @@ impl Levels {
             + length (needed now (pending_lefts_of pending_lefts.now) (joins join.Repeats (kept self.old.window now (store_list level)) (partial_match_trees new.now))) }
     {
         let mut store = level;
-        let answer = step_level(alloc, &mut store, &self.window, now, sets, new, pending_lefts, budget)?;
+        let answer = step_level(
+            alloc,
+            &mut store,
+            &self.window,
+            now,
+            sets,
+            new,
+            pending_lefts,
+            budget,
+        )?;
         self.stores.push(store)?;
         Ok(answer)
     }

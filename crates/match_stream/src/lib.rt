@@ -8,37 +8,37 @@
 //! that the answers of the rows of a log, one after another, are the listing of `match_bindings`.
 #![tactic(auto)]
 
-mod matching;
 mod block;
-mod join_filter;
+mod budget;
+mod completion_bound;
+mod earliest_start;
 mod ending;
 mod expired;
+mod greedy_completion;
 mod heap;
 mod join;
+mod join_filter;
 mod joining;
 mod key;
 pub mod laws;
-mod pending_left;
 mod leaves;
 mod level_step;
 mod levels;
 mod matcher;
+mod matching;
+mod needed;
 mod node;
 mod numbers;
 mod partial_match;
+mod pending_left;
 mod query;
-mod completion_bound;
-mod budget;
 mod row;
 mod row_numbers;
 mod run;
-mod greedy_completion;
 mod sides;
 mod skip_index;
-mod earliest_start;
 mod stop;
 mod store;
-mod needed;
 
 pub use ending::{Ending, MatchRefusal};
 pub use matcher::Matcher;

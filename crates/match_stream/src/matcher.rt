@@ -52,7 +52,11 @@ impl<'p> Model for Matcher<'p> {
 impl<'p> Matcher<'p> {
     /// A matcher of a pattern that took no row yet. More than `retained_limit` may never be retained: so much, held or
     /// ending at the last row, is kept in memory at once.
-    pub fn new(alloc: Global, pattern: &'p Pattern, retained_limit: u64) -> Result<Matcher<'p>, NoMemory>
+    pub fn new(
+        alloc: Global,
+        pattern: &'p Pattern,
+        retained_limit: u64,
+    ) -> Result<Matcher<'p>, NoMemory>
         requires { leaves pattern.now < 2 ^ 32 }
         ensures represents { IfOk result (λ matcher. Represents matcher []) }
         ensures pattern { IfOk result (λ matcher. matcher.pattern ≡ pattern.now) }

@@ -132,7 +132,11 @@ fn is_hall_violator(alloc: Global, matching: &[Neighbors], tried: &[bool]) -> Re
 
 /// Adds the numbers of those that were tried: how many these are.
 #[cycle(push_tried)]
-fn push_tried(matching: &[Neighbors], tried: &[bool], numbers: &mut Vec<u64>) -> Result<usize, NoMemory>
+fn push_tried(
+    matching: &[Neighbors],
+    tried: &[bool],
+    numbers: &mut Vec<u64>,
+) -> Result<usize, NoMemory>
     ensures count { IfOk result (λ count. count ≤ length matching.now) }
     ensures kept { OnOk result ((n : ℕ) → Contains numbers.old.items n → Contains numbers.new.items n) }
     ensures picked { IfOk result (λ count. (x : BindTree) (picks : List ℕ) → IsDistinct nat_eq picks → AllZip (MayPick x) matching.now picks

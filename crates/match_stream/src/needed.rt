@@ -3,11 +3,11 @@ ghost use Rattle.match_stream.specs.inner.PartialMatches.{partial_match_tree};
 ghost use Rattle.match_stream.specs.inner.Needed.{is_needed};
 ghost use Rattle.match_stream.specs.inner.PendingLefts.{pending_lefts_of};
 
-use crate::join::Join;
-use crate::pending_left::PendingLeft;
-use crate::partial_match::PartialMatch;
 use crate::completion_bound::CompletionBound;
 use crate::greedy_completion::GreedyCompletion;
+use crate::join::Join;
+use crate::partial_match::PartialMatch;
+use crate::pending_left::PendingLeft;
 use crate::store::is_retained;
 use flow_values::NoMemory;
 use std::alloc::Global;
@@ -34,7 +34,12 @@ pub(crate) fn is_needed(
         if GreedyCompletion::new(alloc, partial_match)?.continues(now, pending_lefts)? {
             return Ok(true);
         }
-        if !CompletionBound::new(alloc, partial_match).may_continue(alloc, partial_match, now, pending_lefts)? {
+        if !CompletionBound::new(alloc, partial_match).may_continue(
+            alloc,
+            partial_match,
+            now,
+            pending_lefts,
+        )? {
             return Ok(false);
         }
     }

@@ -12,13 +12,13 @@ ghost use Rattle.match_stream.specs.inner.Totals.{held_after, retained_at, Admit
 ghost use Rattle.match_stream.specs.inner.Nodes.{side_stores, leaves_of, levels_state, state_of};
 ghost use Rattle.match_stream.specs.declared.stop.Stop.TheVariants as stop;
 
-use crate::join_filter::JoinFilter;
+use crate::budget::Budget;
 use crate::join::Join;
-use crate::pending_left::PendingLeft;
+use crate::join_filter::JoinFilter;
 use crate::leaves::Leaves;
 use crate::levels::Levels;
 use crate::partial_match::PartialMatch;
-use crate::budget::Budget;
+use crate::pending_left::PendingLeft;
 use crate::row::Row;
 use crate::sides::Sides;
 use crate::stop::Stop;
@@ -216,9 +216,27 @@ fn step(
             Ok(new)
         }
         Node::Sides(join, left, right, sides) => {
-            step_sides(alloc, *join, left, right, sides, row, truths, pending_lefts, budget)
+            step_sides(
+                alloc,
+                *join,
+                left,
+                right,
+                sides,
+                row,
+                truths,
+                pending_lefts,
+                budget,
+            )
         }
-        Node::Either(left, right) => step_either(alloc, left, right, row, truths, pending_lefts, budget),
+        Node::Either(left, right) => step_either(
+            alloc,
+            left,
+            right,
+            row,
+            truths,
+            pending_lefts,
+            budget,
+        ),
         Node::Under(part) => step(alloc, part, row, truths, pending_lefts, budget),
         Node::Repeats(part, levels) => {
             step_repeats(alloc, part, levels, row, truths, pending_lefts, budget)
@@ -273,7 +291,16 @@ fn step_sides(
     sides.expire(row.last, budget)?;
     let new_left = step_alone(alloc, left, row, truths, budget)?;
     budget.take_admitted(&new_left, &sides.left_window, row.last)?;
-    let new_right = step_right(alloc, join, right, sides, row, truths, pending_lefts, budget)?;
+    let new_right = step_right(
+        alloc,
+        join,
+        right,
+        sides,
+        row,
+        truths,
+        pending_lefts,
+        budget,
+    )?;
     budget.take_admitted(&new_right, &sides.right_window, row.last)?;
     let join_filter = JoinFilter {
         time: row.last,
@@ -307,7 +334,16 @@ fn step_either(
 {
     let mut new = Vec::new(alloc);
     step_first(alloc, 1, left, row, truths, pending_lefts, budget, &mut new)?;
-    step_second(alloc, 0, right, row, truths, pending_lefts, budget, &mut new)?;
+    step_second(
+        alloc,
+        0,
+        right,
+        row,
+        truths,
+        pending_lefts,
+        budget,
+        &mut new,
+    )?;
     Ok(new)
 }
 
@@ -360,7 +396,16 @@ fn step_first(
 {
     if count < u32::MAX {
         if let Node::Either(left, right) = node {
-            step_first(alloc, count + 1, left, row, truths, pending_lefts, budget, out)?;
+            step_first(
+                alloc,
+                count + 1,
+                left,
+                row,
+                truths,
+                pending_lefts,
+                budget,
+                out,
+            )?;
             step_second(alloc, count, right, row, truths, pending_lefts, budget, out)?;
             return Ok(());
         }

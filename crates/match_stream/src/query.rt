@@ -3,10 +3,10 @@ ghost use Rattle.match_stream.specs.PartialMatchTree.{PartialMatchTree};
 ghost use Rattle.match_stream.specs.inner.PartialMatches.{partial_match_tree};
 ghost use Rattle.match_stream.specs.inner.Sieves.{HasCommon, IsQueryOf, CannotJoin};
 
+use crate::earliest_start::EarliestStart;
 use crate::join::Join;
 use crate::numbers::{numbers_of, share_number};
 use crate::partial_match::PartialMatch;
-use crate::earliest_start::EarliestStart;
 use flow_values::NoMemory;
 use std::alloc::Global;
 use stix_times::Instant;
@@ -25,7 +25,12 @@ pub(crate) struct Query {
 
 impl Query {
     /// That of a thing.
-    pub fn new(alloc: Global, join: Join, earliest_start: &EarliestStart, first: &PartialMatch) -> Result<Query, NoMemory>
+    pub fn new(
+        alloc: Global,
+        join: Join,
+        earliest_start: &EarliestStart,
+        first: &PartialMatch,
+    ) -> Result<Query, NoMemory>
         ensures { IfOk result (λ query. IsQueryOf join earliest_start.now.start (partial_match_tree first.now) query) }
     {
         Ok(Query {

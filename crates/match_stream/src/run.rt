@@ -6,10 +6,10 @@ ghost use Rattle.match_stream.specs.inner.PartialMatches.{partial_match_trees};
 ghost use Rattle.match_stream.specs.declared.stop.Stop.TheVariants as stop;
 
 use crate::Ending;
+use crate::budget::Budget;
 use crate::expired::clear;
 use crate::node::{Node, step_alone};
 use crate::partial_match::PartialMatch;
-use crate::budget::Budget;
 use crate::row::Row;
 use crate::stop::Stop;
 use flow_values::{Items, NoMemory};
@@ -105,7 +105,9 @@ impl Run {
         ensures over_limit { result ≡ Err stop.OverLimit → IsOver self.old row.now truths.now }
         ensures retained_limit { self.new.retained_limit ≡ self.old.retained_limit }
     {
-        let mut budget = Budget { left: self.retained_limit };
+        let mut budget = Budget {
+            left: self.retained_limit,
+        };
         let new = step_alone(self.alloc, &mut self.node, row, truths, &mut budget)?;
         budget.take(new.len())?;
         let binds = binds_of(self.alloc, new)?;

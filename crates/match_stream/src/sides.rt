@@ -7,10 +7,10 @@ ghost use Rattle.match_stream.specs.declared.stop.Stop.TheVariants as stop;
 ghost use Rattle.match_stream.specs.inner.Nodes.{side_stores};
 ghost use Rattle.match_stream.specs.inner.UpToOrder.{AreSameSides};
 
-use crate::join_filter::JoinFilter;
-use crate::join::Join;
-use crate::partial_match::PartialMatch;
 use crate::budget::Budget;
+use crate::join::Join;
+use crate::join_filter::JoinFilter;
+use crate::partial_match::PartialMatch;
 use crate::stop::Stop;
 use crate::store::{Store, store_window};
 use flow_values::NoMemory;
@@ -84,7 +84,8 @@ impl Sides {
         let mut new = Vec::new(alloc);
         join.join(alloc, &new_left, &self.right.held, join_filter, &mut new)?;
         join.join(alloc, &self.left.held, &new_right, join_filter, &mut new)?;
-        self.left.admit(new_left, &self.left_window, join_filter.time)?;
+        self.left
+            .admit(new_left, &self.left_window, join_filter.time)?;
         self.right
             .admit(new_right, &self.right_window, join_filter.time)?;
         Ok(new)

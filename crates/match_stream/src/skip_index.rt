@@ -10,11 +10,11 @@ ghost use Rattle.match_stream.specs.inner.PartialMatches.{partial_match_tree};
 ghost use Rattle.match_stream.specs.inner.Sieves.{AreKeysOf, AreLevelsOf, AreTried, IsExcluded, IsSkipIndexOf};
 
 use crate::block::Blocks;
+use crate::earliest_start::EarliestStart;
 use crate::join::Join;
 use crate::key::Key;
 use crate::partial_match::PartialMatch;
 use crate::query::Query;
-use crate::earliest_start::EarliestStart;
 use flow_values::NoMemory;
 use std::alloc::Global;
 
@@ -35,7 +35,11 @@ pub(crate) struct SkipIndex {
 
 impl SkipIndex {
     /// That of some things with which so many others are joined.
-    pub fn new(alloc: Global, firsts: usize, candidates: &[PartialMatch]) -> Result<SkipIndex, NoMemory>
+    pub fn new(
+        alloc: Global,
+        firsts: usize,
+        candidates: &[PartialMatch],
+    ) -> Result<SkipIndex, NoMemory>
         ensures { IfOk result (λ skip_index. 0 < length skip_index.keys.items → IsSkipIndexOf candidates.now skip_index) }
     {
         if firsts < FEW || candidates.len() < FEW {

@@ -8,7 +8,7 @@ ghost use Rattle.match_stream.specs.inner.Heaps.{IsHeap};
 ghost use Rattle.match_stream.specs.inner.Steps.{kept};
 ghost use Rattle.match_stream.specs.inner.UpToOrder.{AreSameMultiset};
 
-use crate::heap::{sift_up, sift_down};
+use crate::heap::{sift_down, sift_up};
 use crate::partial_match::PartialMatch;
 use flow_values::NoMemory;
 use match_bindings::Bounds;
@@ -101,7 +101,12 @@ impl Store {
     }
 
     /// Adds what hasn't expired.
-    pub fn admit(&mut self, new: Vec<PartialMatch>, window: &Window, now: Instant) -> Result<(), NoMemory>
+    pub fn admit(
+        &mut self,
+        new: Vec<PartialMatch>,
+        window: &Window,
+        now: Instant,
+    ) -> Result<(), NoMemory>
         ensures { OnOk result (partial_match_trees self.new.held.items ≡ partial_match_trees self.old.held.items ++ kept window.now now (partial_match_trees new.items)) }
     {
         let mut retained = new;

@@ -23,7 +23,7 @@ mod take;
 pub use class::TokenClass;
 pub use comparison::{CheckTree, ComparisonTree, Conjunction, Operand, TestTree};
 pub use depth::MAX_DEPTH;
-pub use laws::{prefixes, one_answer, one_language, one_pattern};
+pub use laws::{one_answer, one_language, one_pattern, prefixes};
 pub use parse_pattern::parse;
 pub use path::{PathTree, StepTree};
 pub use pattern::PatternTree;

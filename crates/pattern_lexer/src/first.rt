@@ -2,11 +2,11 @@ ghost use Rattle.std.specs.Prelude.{IfSome, IfNone};
 ghost use Rattle.pattern_lexer.specs.Reading.{HasNoToken};
 ghost use Rattle.pattern_lexer.specs.inner.Steps.{BeginsToken};
 
-use crate::punctuation::first_punctuation;
+use crate::TokenKind;
 use crate::names::first_name;
 use crate::number_runs::first_number;
+use crate::punctuation::first_punctuation;
 use crate::quoted::first_string;
-use crate::TokenKind;
 
 /// The token that begins some bytes: its kind, and what follows it.
 #[derive(Clone, Copy)]

@@ -3,10 +3,10 @@ ghost use Rattle.pattern_lexer.specs.Reading.{Reads};
 ghost use Rattle.pattern_lexer.specs.inner.Steps.{ArePassed, ReadsAt};
 
 use crate::first::first_of;
-use crate::refusals::{has_value, left_word, runs_on, invalid_value};
+use crate::refusals::{has_value, invalid_value, left_word, runs_on};
 use crate::runs::{CharacterClass, split_run};
-use flow_values::{Items, NoMemory};
 use crate::{Token, TokenRefusal};
+use flow_values::{Items, NoMemory};
 use std::alloc::Global;
 
 /// The tokens of a text, each the longest at its place, with blanks between them; or the first refusal

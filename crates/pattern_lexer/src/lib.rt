@@ -10,10 +10,10 @@
 mod first;
 mod lexer;
 pub mod lexer_laws;
-mod punctuation;
 mod names;
 mod number_runs;
 mod number_values;
+mod punctuation;
 mod quoted;
 mod refusal;
 mod refusals;

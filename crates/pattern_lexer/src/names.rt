@@ -3,10 +3,10 @@ ghost use Rattle.pattern_lexer.specs.Word.{IsWordStart, HasAt, keywords};
 ghost use Rattle.pattern_lexer.specs.Table.{IsToken};
 ghost use Rattle.pattern_lexer.specs.inner.Steps.{BeginsToken, IsName};
 
+use crate::TokenKind;
 use crate::first::First;
 use crate::quoted::first_prefixed;
 use crate::runs::{CharacterClass, split_run};
-use crate::TokenKind;
 
 /// The token of the bytes that begin with a letter or `_`.
 pub fn first_name(bytes: &[u8]) -> First<'_>

@@ -4,9 +4,9 @@ ghost use Rattle.pattern_lexer.specs.Word.{HasAt};
 ghost use Rattle.pattern_lexer.specs.Reading.{HasNoToken};
 ghost use Rattle.pattern_lexer.specs.inner.Steps.{BeginsToken, IsNumberStart};
 
+use crate::TokenKind;
 use crate::first::First;
 use crate::runs::{CharacterClass, split_run};
-use crate::TokenKind;
 
 /// The number that begins with a digit or a sign: a sign alone is none.
 pub fn first_number(bytes: &[u8]) -> Option<First<'_>>

@@ -2,9 +2,9 @@ ghost use Rattle.std.specs.Prelude.{◌≡◌, ◌≢◌, ◌∷◌, ℕ, List, 
 ghost use Rattle.pattern_lexer.specs.Reading.{HasNoToken};
 ghost use Rattle.pattern_lexer.specs.inner.Steps.{BeginsToken, StartsAsPunctuation, single_kind, double_kind};
 
+use crate::TokenKind;
 use crate::first::First;
 use crate::runs::strip_byte;
-use crate::TokenKind;
 
 /// The longest punctuation that begins the bytes.
 pub fn first_punctuation(bytes: &[u8]) -> Option<First<'_>>

@@ -4,9 +4,9 @@ ghost use Rattle.pattern_lexer.specs.Values.{escaped, IsSpecial};
 ghost use Rattle.pattern_lexer.specs.Reading.{HasNoToken};
 ghost use Rattle.pattern_lexer.specs.inner.Steps.{BeginsToken, HasNoPrefixed, letter_kind};
 
-use crate::first::First;
-use crate::runs::{CharacterClass, strip_byte, split_run};
 use crate::TokenKind;
+use crate::first::First;
+use crate::runs::{CharacterClass, split_run, strip_byte};
 
 /// The text in quotes that begins with a `'`.
 pub fn first_string(bytes: &[u8]) -> Option<First<'_>>

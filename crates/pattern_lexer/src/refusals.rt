@@ -6,10 +6,10 @@ ghost use Rattle.pattern_lexer.specs.Spans.{IsCut, text_at};
 ghost use Rattle.pattern_lexer.specs.Reading.{RunsOn, IsUnsupported};
 ghost use Rattle.pattern_lexer.specs.inner.Steps.{invalid_value_refusal};
 
-use flow_values::NoMemory;
 use crate::{
     LeftWord, Token, TokenKind, TokenRefusal, binary_at, hex_at, integer_at, timestamp_at,
 };
+use flow_values::NoMemory;
 use std::alloc::Global;
 
 /// Whether a number runs into a letter or `_`.

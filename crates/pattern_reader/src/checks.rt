@@ -11,11 +11,10 @@ use crate::constants::{constant_of, constants_of};
 use crate::outcomes::both;
 use crate::paths::path_of;
 use flow_values::{NoMemory, Text};
-use pattern_types::block_laws::valid_block;
-use pattern_types::read_block;
 use pattern_grammar::{CheckTree, TestTree};
 use pattern_lexer::{Token, TokenKind, one_meaning, string_at};
-use pattern_types::{AddressBlock, Check, Test};
+use pattern_types::block_laws::valid_block;
+use pattern_types::{AddressBlock, Check, Test, read_block};
 use std::alloc::Global;
 
 /// A comparison with a constant.

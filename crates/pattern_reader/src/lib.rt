@@ -5,9 +5,9 @@
 //! why the text is none, with its place.
 #![tactic(auto)]
 
+mod analysis;
 mod checks;
 mod constants;
-mod analysis;
 mod limits;
 mod meaning;
 pub mod meaning_laws;

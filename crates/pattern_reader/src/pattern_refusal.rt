@@ -1,9 +1,9 @@
 ghost use Rattle.std.specs.Prelude.{◌≡◌, Some};
 ghost use Rattle.pattern_reader.specs.PatternRefusal.{name_of, place_of};
 
+use crate::ValueRefusal;
 use flow_values::NoMemory;
 use pattern_grammar::SyntaxRefusal;
-use crate::ValueRefusal;
 use pattern_lexer::TokenRefusal;
 use std::error::Error;
 use std::fmt;

@@ -3,10 +3,9 @@ ghost use Rattle.pattern_reader.specs.declared.read.TheConstants.{MAX_TEXT};
 ghost use Rattle.pattern_reader.specs.Read.{IsReadAs, IsRefusedAs};
 ghost use Rattle.pattern_reader.specs.declared.pattern_refusal.PatternRefusal.TheVariants as PatternRefusal;
 
-use crate::PatternRefusal;
+use crate::{Meaning, PatternRefusal, meaning_of};
 use pattern_grammar::read_tree;
 use pattern_lexer::tokens;
-use crate::{Meaning, meaning_of};
 use pattern_types::Pattern;
 use std::alloc::Global;
 

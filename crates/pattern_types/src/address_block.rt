@@ -1,5 +1,5 @@
-use flow_values::Text;
 use crate::Block;
+use flow_values::Text;
 
 /// The constant of `ISSUBSET` and `ISSUPERSET` (STIX 2.1, section 9.6.1): its text as it is written, and
 /// the block that it stands for, which is worked out once.

@@ -6,7 +6,7 @@ ghost use Rattle.stix_bundles.specs.Lookup.{IsEarlier, IsOf, IsLatest};
 ghost use Rattle.stix_bundles.specs.declared.outline.TheConstants.{MAX_OBJECTS};
 ghost use Rattle.stix_bundles.specs.inner.Index.{IsPositionOf, ArePositionsOf, IsIndexOf, Supersedes};
 
-use crate::index::{MAX_UNINDEXED_OBJECTS, Index};
+use crate::index::{Index, MAX_UNINDEXED_OBJECTS};
 use crate::laws::one_modified;
 use crate::positions::Positions;
 use crate::property::{has_id, modified};

@@ -5,8 +5,7 @@
 use command_hunt::run_hunt;
 use command_line::program_arguments;
 use command_reasons::write_no_memory;
-use flow_edges::{ReadSource, WriteSink};
-use flow_edges::SystemFiles;
+use flow_edges::{ReadSource, SystemFiles, WriteSink};
 use flow_values::NoMemory;
 use std::process::ExitCode;
 

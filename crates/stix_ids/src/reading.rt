@@ -7,8 +7,8 @@ ghost use Rattle.stix_ids.specs.Reading.{IsRefused};
 
 use crate::parts::IdRef;
 use crate::{Id, IdRefusal};
-use std::alloc::Global;
 use flow_values::Name;
+use std::alloc::Global;
 
 /// The identifier that the text is: a kind, `--` and a UUID in hyphenated form, with hex digits of
 /// either case. A text that is no identifier's is refused as such also without memory.

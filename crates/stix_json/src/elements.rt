@@ -5,8 +5,8 @@ ghost use Rattle.stix_json.specs.Walk.{index_part};
 ghost use Rattle.stix_json.specs.inner.FirstErrors.{first_error_under, first_of};
 
 use crate::Json;
-use crate::first_error::FirstError;
 use crate::checked::Checked;
+use crate::first_error::FirstError;
 use flow_values::{Items, NoMemory};
 use std::alloc::Global;
 
@@ -80,7 +80,11 @@ impl Elements {
         ensures { IfOk result (λ checked. (levels : ℕ) (done : List Data) → AreElements levels done self
             → IsCheckedAs (suc levels) (array (items_of done)) checked) }
     {
-        let Elements { items, first_error, .. } = self;
+        let Elements {
+            items,
+            first_error,
+            ..
+        } = self;
         match first_error {
             Some(first_error) => Ok(Checked::Bad(first_error)),
             None => Ok(Checked::Good(Json::Array(shrunk(alloc, items)?))),

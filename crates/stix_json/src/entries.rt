@@ -4,7 +4,7 @@ ghost use Rattle.stix_json.specs.Entries.{AreEntriesFor, AreEntriesOf, HasNoEntr
 ghost use Rattle.stix_json.specs.declared.refusal.JsonRefusal.TheVariants.{NotList};
 ghost use Rattle.stix_json.specs.inner.PropertyValue.{HoldsProperties};
 
-use crate::property_value::{PropertyValue, Property, read_properties, take_property_value_under};
+use crate::property_value::{Property, PropertyValue, read_properties, take_property_value_under};
 use crate::{Entry, JsonRefusal};
 use flow_values::Items;
 use std::alloc::Global;

@@ -4,9 +4,9 @@ ghost use Rattle.stix_json.specs.declared.refusal.JsonRefusal.TheVariants.{NotLi
 ghost use Rattle.stix_json.specs.Envelopes.{more_in, next_in, IsEnvelopeOf, HasNoEnvelopeAs};
 ghost use Rattle.stix_json.specs.inner.PropertyValue.{HoldsProperties};
 
-use crate::entries::entries_under;
-use crate::property_value::{PropertyValue, Property, property_value_under, read_properties};
 use crate::checked::Checked;
+use crate::entries::entries_under;
+use crate::property_value::{Property, PropertyValue, property_value_under, read_properties};
 use crate::{Entry, Json, JsonRefusal};
 use flow_values::{Items, Text};
 use std::alloc::Global;

@@ -4,9 +4,9 @@ ghost use Rattle.stix_json.specs.DataOf.{Member, members_of};
 ghost use Rattle.stix_json.specs.inner.FirstErrors.{first_error_under, first_of};
 ghost use Rattle.stix_json.specs.inner.Checking.{IsCheckedAs, AreRawMembers};
 
+use crate::checked::Checked;
 use crate::first_error::FirstError;
 use crate::raw_members::RawMember;
-use crate::checked::Checked;
 use crate::{Field, Json};
 use flow_values::{Items, NoMemory};
 use std::alloc::Global;
@@ -59,7 +59,10 @@ impl Fields {
     fn into_checked(self) -> Checked
         ensures { (levels : ℕ) (done : List Member) → AreFields levels done self → IsCheckedAs (suc levels) (object (members_of done)) result }
     {
-        let Fields { fields, first_error } = self;
+        let Fields {
+            fields,
+            first_error,
+        } = self;
         match first_error {
             Some(first_error) => Checked::Bad(first_error),
             None => Checked::Good(Json::Object(Items::from_vec(fields))),

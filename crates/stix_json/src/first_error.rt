@@ -5,8 +5,8 @@ ghost use Rattle.stix_json.specs.declared.first_error.FirstError.TheVariants.{In
 ghost use Rattle.stix_json.specs.declared.location.Location.TheVariants.{Here as AtTop};
 
 use crate::JsonRefusal;
-use crate::value_error::{ValueError, Reason};
 use crate::location::Location;
+use crate::value_error::{Reason, ValueError};
 use flow_values::NoMemory;
 use std::alloc::Global;
 

@@ -5,30 +5,30 @@
 //! against it, with its path. `write_json` writes a value so that it reads back.
 #![tactic(auto)]
 
-mod first_error;
+mod checked;
 mod elements;
 mod entries;
 mod entry;
 mod envelope;
 mod fields;
-mod value_error;
-mod raw_members;
-mod property_value;
+mod first_error;
 mod json_reader;
 mod json_text;
-mod checked;
 pub mod laws;
 mod limits;
+mod location;
 mod lookup;
 mod number;
 mod ordered;
-mod location;
 mod property;
+mod property_value;
+mod raw_members;
 mod read;
+mod read_error;
 mod refusal;
 mod tokens;
-mod read_error;
 mod value;
+mod value_error;
 mod write;
 
 pub use entries::read_entries;

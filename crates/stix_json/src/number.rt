@@ -8,10 +8,10 @@ ghost use Rattle.serde_json.specs.View.{number_view};
 ghost use Rattle.stix_json.specs.inner.ValueErrors.{number_value_error};
 ghost use Rattle.stix_json.specs.inner.Checking.{IsCheckedAs, IsReadError};
 
-use crate::first_error::FirstError;
-use crate::value_error::Reason;
 use crate::checked::Checked;
+use crate::first_error::FirstError;
 use crate::read_error::ReadError;
+use crate::value_error::Reason;
 use crate::{Json, MAX_SAFE_INTEGER};
 use fast_float::Numeral;
 use serde_json::Number;

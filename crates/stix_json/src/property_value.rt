@@ -15,14 +15,13 @@ ghost use Rattle.stix_json.specs.declared.property_value.TheConstants.{LEFT as L
 use crate::checked::Checked;
 use crate::limits::MAX_TEXT_LEVELS;
 use crate::read::whole_text;
-use crate::tokens::{check_token, take_value};
 use crate::read_error::ReadError;
+use crate::tokens::{check_token, take_value};
 use crate::{Entry, JsonRefusal, MAX_LEVELS};
-use flow_values::{Items, NoMemory, Text};
+use flow_values::{Items, Name, NoMemory, Text};
 use json::{Reader, Scratch, Token};
 use std::alloc::Global;
 use std::rc::Rc;
-use flow_values::Name;
 
 /// How many levels a text may nest below a list in an object.
 const LEFT: usize = MAX_TEXT_LEVELS - 2;
@@ -135,15 +134,26 @@ fn take_properties(
 }
 
 /// Adds a property behind the others.
-fn push_property(properties: &mut Vec<Property>, name: Name, property_value: PropertyValue) -> Result<(), NoMemory>
+fn push_property(
+    properties: &mut Vec<Property>,
+    name: Name,
+    property_value: PropertyValue,
+) -> Result<(), NoMemory>
     ensures { OnOk result (properties.new.items ≡ properties.old.items ++ record { name = name; property_value = property_value } ∷ []) }
 {
-    properties.push(Property { name, property_value })?;
+    properties.push(Property {
+        name,
+        property_value,
+    })?;
     Ok(())
 }
 
 /// What the next value is to a property.
-fn take_property_value(alloc: Global, whole: &Rc<Text>, reader: &mut Reader<'_>) -> Result<PropertyValue, ReadError>
+fn take_property_value(
+    alloc: Global,
+    whole: &Rc<Text>,
+    reader: &mut Reader<'_>,
+) -> Result<PropertyValue, ReadError>
     ensures ok { IfOk result (λ property_value. («data» : Data) × (converted of_json (value (suc LEVELS_LEFT) reader.old) ≡ Some («data», reader.new)) × IsPropertyValue «data» property_value) }
     ensures err { IfErr result (λ read_error. IsReadError (converted of_json (value (suc LEVELS_LEFT) reader.old)) read_error) }
     ensures shorter { OnOk result (length reader.new < length reader.old) }
@@ -179,7 +189,10 @@ fn take_entries(
 }
 
 /// What the last property of a name holds.
-pub(crate) fn property_value_under<'a>(properties: &'a [Property], name: &str) -> Option<&'a PropertyValue>
+pub(crate) fn property_value_under<'a>(
+    properties: &'a [Property],
+    name: &str,
+) -> Option<&'a PropertyValue>
     ensures { option_map (λ property_value. property_value.now) result ≡ option_map (λ property. property.property_value) (last_named property_name name.now properties.now) }
 {
     let mut found = None;
@@ -192,7 +205,10 @@ pub(crate) fn property_value_under<'a>(properties: &'a [Property], name: &str) -
 }
 
 /// The same, taken out of them.
-pub(crate) fn take_property_value_under(properties: Vec<Property>, name: &str) -> Option<PropertyValue>
+pub(crate) fn take_property_value_under(
+    properties: Vec<Property>,
+    name: &str,
+) -> Option<PropertyValue>
     ensures { result ≡ option_map (λ property. property.property_value) (last_named property_name name.now properties.items) }
 {
     let mut properties = properties;

@@ -5,9 +5,8 @@ ghost use Rattle.stix_json.specs.inner.Insertion.{insert_all, ends_with, NamesAs
 ghost use Rattle.stix_json.specs.inner.Checking.{name_of};
 
 use crate::checked::Checked;
-use flow_values::NoMemory;
+use flow_values::{Name, NoMemory};
 use std::alloc::Global;
-use flow_values::Name;
 
 /// A member of an object as it came: its name, and its value checked.
 #[derive(Drop)]

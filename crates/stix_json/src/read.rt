@@ -6,8 +6,8 @@ ghost use Rattle.stix_json.specs.declared.limits.TheConstants.{MAX_LEVELS as LEV
 
 use crate::checked::Checked;
 use crate::limits::MAX_TEXT_LEVELS;
-use crate::tokens::take_value;
 use crate::read_error::ReadError;
+use crate::tokens::take_value;
 use crate::{Json, JsonRefusal, MAX_LEVELS};
 use flow_values::{Items, NoMemory, Text};
 use json::{Reader, Scratch};

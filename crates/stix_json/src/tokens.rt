@@ -11,20 +11,19 @@ ghost use Rattle.serde_json.specs.Data.{Data, Items as DataItems, Members, array
 ghost use Rattle.serde_json.specs.Read.{of_json, of_items, of_members, converted};
 ghost use Rattle.stix_json.specs.inner.Checking.{IsCheckedAs, IsReadError};
 
-use crate::first_error::FirstError;
+use crate::checked::Checked;
 use crate::elements::Elements;
 use crate::fields::check_members;
-use crate::value_error::Reason;
-use crate::raw_members::{no_members_yet, order_members, push_member};
-use crate::checked::Checked;
+use crate::first_error::FirstError;
 use crate::number::check_number;
+use crate::raw_members::{no_members_yet, order_members, push_member};
 use crate::read_error::ReadError;
+use crate::value_error::Reason;
 use crate::{Json, JsonText};
-use flow_values::Text;
+use flow_values::{Name, Text};
 use json::{Reader, Token};
 use std::alloc::Global;
 use std::rc::Rc;
-use flow_values::Name;
 
 /// The next value of the whole text, checked. It may nest `left` levels to be read at all, and `levels` to be good.
 #[cycle(take)]

@@ -1,6 +1,5 @@
 use crate::JsonText;
-use flow_values::Items;
-use flow_values::Name;
+use flow_values::{Items, Name};
 
 /// A JSON value without fractions and null.
 #[derive(Drop)]

@@ -23,7 +23,11 @@ pub fn write_json(alloc: Global, value: &Json) -> Result<Text, NoMemory>
 }
 
 /// The same, with capacity for so many bytes from the start: for a text whose length is known.
-pub fn write_json_with_capacity(alloc: Global, value: &Json, capacity: usize) -> Result<Text, NoMemory>
+pub fn write_json_with_capacity(
+    alloc: Global,
+    value: &Json,
+    capacity: usize,
+) -> Result<Text, NoMemory>
     requires { IsOrdered (data_of value.now) }
     ensures text { IfOk result (λ text. text ≡ compact_text (data_of value.now)) }
     ensures reads_back { IfOk result (λ text. refusal_of (data_of value.now) ≡ None → IsJsonOf text value.now) }

@@ -16,7 +16,7 @@ use crate::marking::{has_other_colour, lacks_colour, lacks_statement};
 use crate::object::Object;
 use crate::records::lacks_all;
 use crate::row::Row;
-use crate::row_break::{RowBreak, ObjectLocation, ValueBreak};
+use crate::row_break::{ObjectLocation, RowBreak, ValueBreak};
 use crate::timestamp::{second_is_earlier, second_is_not_later};
 
 /// Whether it is plain that an object breaks nothing of a row, which asks for a property that it needn't

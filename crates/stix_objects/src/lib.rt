@@ -5,11 +5,11 @@
 //! A type's rows stand in `tables`, and in the definitions of specs/ beside them.
 #![tactic(auto)]
 
+mod check;
 mod condition;
 mod form;
 mod groups;
 mod identifier;
-mod check;
 mod kinds;
 pub mod laws;
 mod list;

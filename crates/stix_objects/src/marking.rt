@@ -3,7 +3,7 @@ ghost use Rattle.stix_json.specs.DataOf.{data_of};
 ghost use Rattle.stix_objects.specs.Conditions.{defined_text as text_defined, defined_colour as colour_defined, number_of_colour, DefinesObjectOrNone, IsMarking, HasOwnIdOrNone, HasOtherColour};
 ghost use Rattle.stix_objects.specs.Rows.{LacksStatement, LacksColour};
 
-use crate::identifier::{has_number, check_own_id};
+use crate::identifier::{check_own_id, has_number};
 use crate::object::Object;
 use stix_json::{Json, text_at};
 

@@ -8,7 +8,7 @@ ghost use Rattle.stix_objects.specs.CommonRows.{common_rows as shared_rows};
 ghost use Rattle.stix_objects.specs.inner.Adding.{Adds, AddsOne, applicable_rows};
 ghost use Rattle.stix_objects.specs.inner.Views.{row_view, common_view, type_view, row_break_view};
 
-use crate::check::{is_trivially_met, check};
+use crate::check::{check, is_trivially_met};
 use crate::object::Object;
 use crate::object_type::{ObjectType, group_in, rows_in, type_named};
 use crate::row::{CommonRow, Row};

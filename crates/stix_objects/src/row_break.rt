@@ -89,7 +89,9 @@ impl ObjectLocation {
         let path = match self {
             ObjectLocation::Whole => String::new(alloc),
             ObjectLocation::Property(name, ValueLocation::Here) => String::from_str(alloc, name)?,
-            ObjectLocation::Property(name, ValueLocation::Item(at)) => format!(in alloc; "{name}.[{at}]")?,
+            ObjectLocation::Property(name, ValueLocation::Item(at)) => format!(in alloc;
+                "{name}.[{at}]"
+            )?,
             ObjectLocation::Property(name, ValueLocation::ItemPart(at, part)) => {
                 format!(in alloc; "{name}.[{at}].{part}")?
             }

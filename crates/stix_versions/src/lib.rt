@@ -4,6 +4,7 @@
 #![tactic(auto)]
 
 mod created;
+mod duplicates;
 pub mod laws;
 mod marking;
 mod marking_break;
@@ -12,7 +13,6 @@ mod part;
 mod revoked;
 mod same;
 mod selector;
-mod duplicates;
 mod version;
 mod version_break;
 mod versions;

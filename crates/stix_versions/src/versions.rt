@@ -7,8 +7,8 @@ ghost use Rattle.stix_versions.specs.inner.Duplicates.{AreDuplicatesBefore};
 ghost use Rattle.stix_versions.specs.inner.History.{AreVersionsBefore, only_if};
 
 use crate::created::Created;
-use crate::revoked::Revoked;
 use crate::duplicates::Duplicates;
+use crate::revoked::Revoked;
 use crate::version::version_at;
 use crate::{VersionBreak, VersionRule};
 use flow_values::{Items, NoMemory};

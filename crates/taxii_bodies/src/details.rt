@@ -10,11 +10,10 @@ ghost use Rattle.taxii_bodies.specs.Details.{at_path, refusal_message, IsMomentT
 ghost use Rattle.taxii_bodies.specs.Times.{IsWritable};
 
 use crate::times::{date_text, stated_text, version_text};
-use flow_values::{NoMemory, Text};
+use flow_values::{Name, NoMemory, Text};
 use std::alloc::Global;
 use stix_ids::{Id, IdRef, write_id};
 use stix_json::{Json, JsonRefusal};
-use flow_values::Name;
 use stix_objects::{Break, Precision, object_id, timestamp_at};
 use stix_times::Instant;
 use taxii_rows::{LAST_DATE, StoredRow};

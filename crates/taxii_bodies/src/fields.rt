@@ -6,10 +6,9 @@ ghost use Rattle.stix_json.specs.DataOf.{data_of, members_of};
 ghost use Rattle.stix_json.specs.Ordered.{MembersAreOrdered};
 ghost use Rattle.taxii_bodies.specs.inner.Members.{members_in, list_member};
 
-use flow_values::{Items, NoMemory, Text};
+use flow_values::{Items, Name, NoMemory, Text};
 use std::alloc::Global;
 use stix_json::{Field, Json, JsonText, write_json};
-use flow_values::Name;
 
 /// The fields of an object, in the order in which they are added.
 #[derive(Drop)]

@@ -8,13 +8,11 @@ ghost use Rattle.taxii_client.specs.Filling.{environment};
 ghost use Rattle.taxii_client.specs.Endings.{Copies, is_store_fault};
 ghost use Rattle.taxii_client.specs.inner.Opening.{stop_of, Opens};
 
-use crate::{CopyStop, FetchStop, Totals};
+use crate::mirror_laws::pages_continue;
+use crate::pull_laws::pulls_continue;
+use crate::{CopyStop, FetchStop, Mirror, PageEnd, Pull, Target, Totals};
 use flow_links::{Clock, Dial};
 use std::alloc::Global;
-use crate::pull_laws::pulls_continue;
-use crate::{PageEnd, Pull, Target};
-use crate::Mirror;
-use crate::mirror_laws::pages_continue;
 use taxii_rows::Keeper;
 use taxii_store::{Library, LoadRefusal};
 

@@ -9,8 +9,8 @@ ghost use Rattle.taxii_client.specs.declared.reply_refusal.ReplyRefusal.TheVaria
 use crate::{FetchEnd, ReplyRefusal, Target, request_text};
 use flow_edges::write_whole;
 use flow_links::Link;
-use http_messages::reply_laws::all_are_needed;
 use http_messages::read_reply;
+use http_messages::reply_laws::all_are_needed;
 use std::alloc::Global;
 use stix_json::{Envelope, JsonRefusal, read_envelope};
 

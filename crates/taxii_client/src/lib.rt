@@ -19,24 +19,25 @@
 #![tactic(auto)]
 
 mod copying;
+mod cursor;
 mod fetch_end;
 mod fetching;
 mod mirror;
 pub mod mirror_laws;
 mod page_end;
+mod partitioned;
 mod pull;
 pub mod pull_laws;
 mod reply_refusal;
 mod request;
-mod partitioned;
 mod stop;
 mod store_refusal;
 mod tally;
 mod target;
 mod totals;
-mod cursor;
 
 pub use copying::copy;
+pub use cursor::Cursor;
 pub use fetch_end::FetchEnd;
 pub use fetching::fetch;
 pub use mirror::Mirror;
@@ -49,4 +50,3 @@ pub use store_refusal::StoreRefusal;
 pub use tally::Tally;
 pub use target::Target;
 pub use totals::Totals;
-pub use cursor::Cursor;

@@ -4,7 +4,7 @@ ghost use Rattle.taxii_client.specs.Environment.{link_view};
 ghost use Rattle.taxii_client.specs.Pulls.{Answers, Dials};
 ghost use Rattle.taxii_client.specs.declared.cursor.Cursor.TheVariants.{First};
 
-use crate::{FetchEnd, PageEnd, Target, Cursor, fetch};
+use crate::{Cursor, FetchEnd, PageEnd, Target, fetch};
 use flow_links::Dial;
 use flow_values::Items;
 use std::alloc::Global;

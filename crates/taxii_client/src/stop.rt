@@ -1,5 +1,4 @@
-use crate::ReplyRefusal;
-use crate::StoreRefusal;
+use crate::{ReplyRefusal, StoreRefusal};
 use taxii_store::LoadRefusal;
 use thiserror::Error;
 

@@ -4,11 +4,11 @@ ghost use Rattle.taxii_rows.specs.StoreState.{dates_of};
 ghost use Rattle.taxii_exchange.specs.AnswersToRequests as spec;
 
 use crate::refusal::status_of_problem;
+use crate::{Allow, Answer};
 use flow_values::{NoMemory, Text};
 use http_messages::{Method, Status};
 use std::alloc::Global;
 use taxii_bodies::{Problem, last_date, problem_body};
-use crate::{Allow, Answer};
 use taxii_rows::StoredRow;
 
 /// An answer with a body and no more.

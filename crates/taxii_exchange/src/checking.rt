@@ -3,11 +3,10 @@ ghost use Rattle.taxii_routes.specs.Query.{pairs_of, IsQueryOf};
 ghost use Rattle.taxii_exchange.specs.Checking.{allows as allow_it, IsAccepted, IsTyped, IsFit, IsRefusedFor};
 ghost use Rattle.taxii_exchange.specs.declared.refusal.Refusal.TheVariants as Refused;
 
-use crate::{Refusal, Rights};
+use crate::{Allow, Refusal, Rights};
 use http_messages::{Method, Request};
 use std::alloc::Global;
 use taxii_bodies::Problem;
-use crate::Allow;
 use taxii_routes::{Query, QueryRefusal, accepts, is_taxii, read_query};
 
 /// What the query of a request asks for, or the first reason against the request: the methods that the

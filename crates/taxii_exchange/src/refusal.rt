@@ -1,10 +1,10 @@
 ghost use Rattle.std.specs.Prelude.{◌≡◌};
 ghost use Rattle.taxii_exchange.specs.AnswersToRequests.{status_of};
 
+use crate::Allow;
 use flow_values::NoMemory;
 use http_messages::Status;
 use taxii_bodies::Problem;
-use crate::Allow;
 
 /// Why a request isn't answered as it asks.
 #[derive(Clone, Copy, Debug, PartialEq, Eq)]

@@ -37,7 +37,9 @@ pub fn is_taxii(header: &str) -> bool
 fn names_no_other_version(parameters: &str) -> bool
     ensures { IsTrue result ↔ All NamesNoOtherVersion (slice_split is_semicolon parameters.now) }
 {
-    parameters.split(';').all(|parameter| is_version_2_1_or_absent(parameter))
+    parameters
+        .split(';')
+        .all(|parameter| is_version_2_1_or_absent(parameter))
 }
 
 /// Whether a parameter isn't another version.

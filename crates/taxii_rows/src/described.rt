@@ -8,11 +8,10 @@ ghost use Rattle.taxii_rows.specs.Described.{Describes, row_of};
 ghost use Rattle.taxii_rows.specs.SoundRow.{IsSoundRow};
 
 use crate::{LAST_DATE, StoredRow, TypeSet, version_of};
-use flow_values::{NoMemory, Text};
+use flow_values::{Name, NoMemory, Text};
 use std::alloc::Global;
 use stix_ids::Id;
 use stix_json::{Json, write_json};
-use flow_values::Name;
 use stix_objects::object_id;
 
 /// What a store keeps of an object.

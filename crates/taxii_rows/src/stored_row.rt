@@ -1,10 +1,9 @@
 ghost use Rattle.std.specs.Prelude.{◌≡◌, IfOk};
 ghost use Rattle.taxii_rows.specs.Identity.{is_row_of};
 
-use flow_values::{NoMemory, Text};
+use flow_values::{Name, NoMemory, Text};
 use std::alloc::Global;
 use stix_ids::Id;
-use flow_values::Name;
 
 /// The latest date that a row can have, in microseconds since 1970: the last one of the year 9999.
 pub const LAST_DATE: u64 = 253_402_300_799_999_999;

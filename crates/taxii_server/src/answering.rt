@@ -9,8 +9,8 @@ use flow_values::{Fault, NoMemory};
 use http_messages::Request;
 use taxii_exchange::{write_answer, write_no_memory};
 use taxii_rows::Keeper;
-use taxii_service::step_laws::no_step_reports_a_store_fault;
 use taxii_service::respond;
+use taxii_service::step_laws::no_step_reports_a_store_fault;
 
 /// Answers a request at the clock's next moment, and whether the connection ends then. Where memory ran
 /// out it says so and ends.

@@ -10,7 +10,11 @@ use std::alloc::Global;
 use taxii_exchange::{refusal_answer, write_answer, write_no_memory};
 
 /// Says why the connection ends, where that is to be said. A read that failed is handed on.
-pub(crate) fn write_closing_answer<L: Link>(alloc: Global, receive_end: ReceiveEnd, link: &mut L) -> Result<(), Fault>
+pub(crate) fn write_closing_answer<L: Link>(
+    alloc: Global,
+    receive_end: ReceiveEnd,
+    link: &mut L,
+) -> Result<(), Fault>
     ensures leave { WritesClosingAnswer receive_end (L.written link.old) (L.written link.new) result }
     ensures causes { receive_end ≢ ReceiveEnd.Failed → Counted (IsErr result) (L.Sink.faults link.old) (L.Sink.faults link.new) }
     ensures failed { receive_end ≡ ReceiveEnd.Failed → IsErr result × (L.Sink.faults link.new ≡ L.Sink.faults link.old) }

@@ -44,13 +44,19 @@ pub fn serve_link<K: Keeper, L: Link, C: Clock>(
     let alloc = server.config.alloc;
     let mut receiver = match Receiver::new(alloc) {
         Ok(receiver) => receiver,
-        Err(NoMemory) => return LinkEnd::after(write_closing_answer(alloc, ReceiveEnd::NoMemory, link), 0),
+        Err(NoMemory) => return LinkEnd::after(
+            write_closing_answer(alloc, ReceiveEnd::NoMemory, link),
+            0,
+        ),
     };
     let mut requests = 0;
     loop {
         let request = match receiver.receive(link) {
             Ok(request) => request,
-            Err(receive_end) => return LinkEnd::after(write_closing_answer(alloc, receive_end, link), requests),
+            Err(receive_end) => return LinkEnd::after(
+                write_closing_answer(alloc, receive_end, link),
+                requests,
+            ),
         };
         requests += 1;
         let is_last = requests == MAX_REQUESTS;

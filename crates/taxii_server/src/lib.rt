@@ -7,9 +7,9 @@
 #![tactic(auto)]
 
 mod answering;
+mod closing_answer;
 mod connection;
 mod door;
-mod closing_answer;
 pub mod laws;
 mod link_end;
 mod receive_end;

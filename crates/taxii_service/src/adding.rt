@@ -8,14 +8,13 @@ ghost use Rattle.taxii_exchange.specs.declared.refusal.Refusal.TheVariants as Re
 ghost use Rattle.taxii_exchange.specs.AnswersToRequests.{body_answer as answer_with};
 ghost use Rattle.taxii_service.specs.Adding.{IsAdding, CannotAdd, with_added};
 
+use crate::State;
 use crate::prepared::Prepared;
 use http_messages::Status;
 use std::alloc::Global;
 use taxii_bodies::Problem;
-use taxii_exchange::Answer;
-use taxii_exchange::{Refusal, body_answer};
+use taxii_exchange::{Answer, Refusal, body_answer};
 use taxii_rows::{Keeper, KeeperRefusal};
-use crate::State;
 
 /// Adds the objects in the body of a request, which came at that moment, in microseconds since 1970, to
 /// a collection (TAXII 2.1, section 5.5), and keeps its status. Nothing changes where it is refused:

@@ -10,16 +10,15 @@ ghost use Rattle.taxii_exchange.specs.declared.refusal.Refusal.TheVariants as Re
 ghost use Rattle.taxii_exchange.specs.AnswersToRequests.{bare_answer as bare};
 ghost use Rattle.taxii_service.specs.Deleting.{AreDeleted, AllowsStandard, deleted_picks, without_dates};
 
+use crate::State;
 use flow_values::{Items, NoMemory};
 use http_messages::Status;
 use std::alloc::Global;
 use stix_ids::{Id, Pick};
 use taxii_bodies::Problem;
-use taxii_exchange::Answer;
-use taxii_exchange::{Refusal, bare_answer};
+use taxii_exchange::{Answer, Refusal, bare_answer};
 use taxii_routes::Query;
 use taxii_rows::{Keeper, KeeperRefusal};
-use crate::State;
 use taxii_store::Library;
 
 /// Deletes the rows of an object of a collection that the query picks (TAXII 2.1, section 5.7): all of

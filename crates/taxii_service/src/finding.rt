@@ -6,12 +6,10 @@ ghost use Rattle.taxii_exchange.specs.Config.{collection_named, rights_of, all_r
 ghost use Rattle.taxii_exchange.specs.Statuses.{body_of};
 ghost use Rattle.taxii_service.specs.Finding.{allowed_of, Names, NamesRowOf, IsFound};
 
-use stix_ids::IdRef;
-use taxii_exchange::Allow;
-use taxii_exchange::{Config, Rights};
-use taxii_routes::Route;
 use crate::State;
-use taxii_exchange::Statuses;
+use stix_ids::IdRef;
+use taxii_exchange::{Allow, Config, Rights, Statuses};
+use taxii_routes::Route;
 use taxii_store::Library;
 
 /// The methods that a resource allows.

@@ -8,12 +8,10 @@ use std::alloc::Global;
 use stix_ids::Id;
 use taxii_bodies::laws::sound_rows_are_writable;
 use taxii_bodies::{envelope_body, manifest_body, versions_body};
-use taxii_exchange::Answer;
-use taxii_store::page_laws::rows_of_pages;
-use taxii_store::page_of;
-use taxii_exchange::page_answer;
+use taxii_exchange::{Answer, page_answer};
 use taxii_routes::Query;
-use taxii_store::Library;
+use taxii_store::page_laws::rows_of_pages;
+use taxii_store::{Library, page_of};
 
 /// A page of objects.
 pub(crate) fn list_objects<'a>(

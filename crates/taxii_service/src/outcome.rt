@@ -7,14 +7,12 @@ ghost use Rattle.taxii_service.specs.Step.{IsRefused, IsDone};
 ghost use Rattle.taxii_service.specs.inner.Performing.{RouteChanges};
 
 use crate::perform::perform;
+use crate::{State, allow_of, rights_for};
 use http_messages::Request;
 use taxii_bodies::Problem;
-use taxii_exchange::Answer;
-use taxii_exchange::{Config, Refusal, check};
-use crate::{allow_of, rights_for};
+use taxii_exchange::{Answer, Config, Refusal, check};
 use taxii_routes::Route;
 use taxii_rows::Keeper;
-use crate::State;
 
 /// What comes of a request to the resource of a route.
 pub(crate) fn outcome<K: Keeper>(

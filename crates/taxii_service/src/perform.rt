@@ -12,17 +12,14 @@ ghost use Rattle.stix_ids.specs.declared.id.Id.{Id as Identifier};
 ghost use Rattle.stix_ids.specs.Identifier.{IsTextOf};
 ghost use Rattle.taxii_service.specs.inner.Performing.{PostChanges, DeleteChanges, Changes};
 
+use crate::{State, add_objects, delete_object, read};
 use flow_values::NoMemory;
 use http_messages::{Method, Request};
 use std::alloc::Global;
 use stix_ids::{Id, IdRefusal, read_id};
-use crate::{add_objects, delete_object};
-use taxii_exchange::Answer;
-use taxii_exchange::{Config, Refusal};
-use crate::read;
+use taxii_exchange::{Answer, Config, Refusal};
 use taxii_routes::{Query, Route};
 use taxii_rows::Keeper;
-use crate::State;
 
 /// Adds the objects of a POST.
 pub(crate) fn post<K: Keeper>(

@@ -10,14 +10,12 @@ ghost use Rattle.taxii_exchange.specs.Statuses.{next_number};
 ghost use Rattle.taxii_service.specs.Adding.{IsAdding, CannotAdd};
 
 use crate::outcomes::report_of;
-use crate::{PostRefusal, Posted, read_posted};
+use crate::{PostRefusal, Posted, State, read_posted};
 use flow_values::Text;
 use std::alloc::Global;
 use taxii_bodies::{Problem, status_body};
-use taxii_exchange::Refusal;
+use taxii_exchange::{KeptStatus, Refusal};
 use taxii_rows::Described;
-use crate::State;
-use taxii_exchange::KeptStatus;
 use taxii_store::store_laws::outcomes_have_rows;
 use taxii_store::{Library, PlanRefusal, Planned};
 

@@ -15,17 +15,15 @@ ghost use Rattle.taxii_exchange.specs.declared.refusal.Refusal.TheVariants as Re
 ghost use Rattle.taxii_service.specs.Finding.{Names};
 ghost use Rattle.taxii_service.specs.Reading.{HasBody, IsPageOf, IsEnvelope, IsPageOfObject, object_query, versions_query, IsReading, IsNoResource};
 
+use crate::State;
 use crate::listing::{list_manifest, list_objects, list_versions};
 use flow_values::{Items, NoMemory, Text};
 use http_messages::Status;
 use std::alloc::Global;
 use stix_ids::{Id, IdRefusal, Pick, read_id};
 use taxii_bodies::{Problem, collection_body, collections_body, discovery_body, root_body};
-use taxii_exchange::Answer;
-use taxii_exchange::{Config, Refusal, body_answer};
+use taxii_exchange::{Answer, Config, Refusal, Statuses, body_answer};
 use taxii_routes::{Query, Route};
-use crate::State;
-use taxii_exchange::Statuses;
 use taxii_store::Library;
 
 const NOT_FOUND: Refusal = Refusal::Problem(Problem::NotFound);

@@ -9,17 +9,16 @@ ghost use Rattle.taxii_store.specs.Agreement.{Agrees, without_rows};
 ghost use Rattle.taxii_service.specs.Step.{IsAnswerTo, RouteStep, Step, FailsToKeep};
 ghost use Rattle.taxii_service.specs.inner.Performing.{RouteChanges};
 
+use crate::State;
 use crate::outcome::outcome;
 use flow_values::NoMemory;
 use http_messages::{Method, Request, Status};
 use std::alloc::Global;
 use taxii_bodies::Problem;
-use taxii_exchange::Answer;
-use taxii_store::page_laws::rows_of_pages;
-use taxii_exchange::{Config, Refusal, answer_to_problem, bare_answer};
+use taxii_exchange::{Answer, Config, Refusal, answer_to_problem, bare_answer};
 use taxii_routes::{Route, split_target};
 use taxii_rows::Keeper;
-use crate::State;
+use taxii_store::page_laws::rows_of_pages;
 
 /// Answers a request that came at a moment, in microseconds since 1970. A POST adds objects and keeps
 /// its status, a DELETE takes rows away, and nothing else changes anything. Where the keeper failed the

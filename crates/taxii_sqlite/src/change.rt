@@ -22,9 +22,14 @@ pub(crate) enum Change<'a> {
     /// The version becomes this one, of a store of the version before.
     Migrate,
     /// These rows are added, and the date is made the watermark.
-    Append { rows: &'a [StoredRow], watermark: u64 },
+    Append {
+        rows: &'a [StoredRow],
+        watermark: u64,
+    },
     /// The rows of these dates are removed.
-    Remove { dates: &'a [u64] },
+    Remove {
+        dates: &'a [u64],
+    },
 }
 
 impl Change<'_> {

@@ -9,8 +9,8 @@ ghost use Rattle.taxii_sqlite.specs.Transactions.{IsStep};
 use crate::change::Change;
 use crate::failure::Failure;
 use crate::schema::{
-    COUNT_TABLES, FIRST_WATERMARK, LAYOUT_TABLE, WATERMARK_TABLE, NAME_LAYOUT, READ_VERSION, ROW_TABLE, VERSION,
-    VERSION_BEFORE,
+    COUNT_TABLES, FIRST_WATERMARK, LAYOUT_TABLE, NAME_LAYOUT, READ_VERSION, ROW_TABLE, VERSION,
+    VERSION_BEFORE, WATERMARK_TABLE,
 };
 use crate::statements::execute;
 use sqlite::{Alter, Connection, Transaction, params};
@@ -47,7 +47,10 @@ fn read_layout<S: Alter>(connection: &mut Connection<S>) -> Result<Layout, Failu
     ensures asks { HasCleanDisk (state S.Store connection.new) → IfOk result (AnswersLayout (state S.Store connection.old) (state S.Store connection.new)) }
     ensures clean { HasCleanDisk (state S.Store connection.new) → HasCleanDisk (state S.Store connection.old) }
 {
-    let columns = connection.query_row(COUNT_TABLES, params![ROW_TABLE, WATERMARK_TABLE, LAYOUT_TABLE])?;
+    let columns = connection.query_row(
+        COUNT_TABLES,
+        params![ROW_TABLE, WATERMARK_TABLE, LAYOUT_TABLE],
+    )?;
     let all = columns.get(0)?;
     let rows = columns.get(1)?;
     let names = columns.get(2)?;

@@ -9,12 +9,11 @@ ghost use Rattle.taxii_rows.specs.declared.fault_cause.FaultCause.{FaultCause as
 ghost use Rattle.taxii_sqlite.specs.declared.failure.Failure.TheVariants.{Fault as IsFault};
 
 use crate::failure::Failure;
-use flow_values::Text;
+use flow_values::{Name, Text};
 use sqlite::Row;
 use sqlite::types::ValueRef;
 use std::alloc::Global;
 use stix_ids::Id;
-use flow_values::Name;
 use taxii_rows::{FaultCause, StoredRow};
 
 /// What isn't as a store writes it.

@@ -12,7 +12,8 @@ use crate::failure::Failure;
 use crate::layout;
 use crate::row::{bytes_of, columns_of, date_at, integer_of, read_row};
 use crate::schema::{
-    COUNT_EARLY_ROWS, DELETE_ROW, INSERT_ROW, KEEP_WATERMARK, NEXT_ROW, READ_WATERMARK, WRITE_WATERMARK,
+    COUNT_EARLY_ROWS, DELETE_ROW, INSERT_ROW, KEEP_WATERMARK, NEXT_ROW, READ_WATERMARK,
+    WRITE_WATERMARK,
 };
 use sqlite::types::ValueRef;
 use sqlite::{Alter, Connection, Error, Transaction, params};
@@ -159,7 +160,10 @@ fn end_at(rows: &[StoredRow], date: u64) -> bool
     }
 }
 
-fn write_watermark<S: Alter>(transaction: &mut Transaction<'_, S>, watermark: u64) -> Result<(), Failure>
+fn write_watermark<S: Alter>(
+    transaction: &mut Transaction<'_, S>,
+    watermark: u64,
+) -> Result<(), Failure>
     ensures { IsStep (state S.Store) (WritesWatermark (state S.Store) watermark) transaction.old.conn transaction.new.conn result }
 {
     let watermark = integer_of(watermark)?;

@@ -9,12 +9,12 @@ ghost use Rattle.taxii_store.specs.inner.Asking.{HasTextsWhere, HasIdsWhere, Ask
 
 use crate::id_set::IdSet;
 use crate::text_set::TextSet;
+use crate::{Library, PickSet};
 use flow_values::{Items, NoMemory, Text};
 use std::alloc::Global;
 use stix_ids::{Id, Pick};
 use taxii_routes::Query;
 use taxii_rows::StoredRow;
-use crate::{Library, PickSet};
 
 /// What a request asks of a row, prepared once: lists are sets.
 #[derive(Drop)]

@@ -3,11 +3,11 @@ ghost use Rattle.std.specs.List.{Contains};
 ghost use Rattle.taxii_rows.specs.StoreState.{dates_of, AscendFrom};
 ghost use Rattle.taxii_store.specs.inner.Candidates.{AreCandidates, IsCutAt};
 
+use crate::Library;
 use crate::cursor::cursor;
 use flow_values::{Items, Text};
 use taxii_routes::Query;
 use taxii_rows::StoredRow;
-use crate::Library;
 
 /// The rows that can meet the query by when they were added, found by halving, and none where it doesn't
 /// ask for the version of the standard that all rows have.

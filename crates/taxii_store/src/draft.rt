@@ -94,7 +94,12 @@ impl Draft {
     }
 
     /// The date of the first row that makes the object present.
-    fn date_of_duplicate(&self, library: &Library, collection: u128, object: &Described) -> Option<u64>
+    fn date_of_duplicate(
+        &self,
+        library: &Library,
+        collection: u128,
+        object: &Described,
+    ) -> Option<u64>
         requires { IsDraft library.now.watermark self.now.outcomes self.now.added }
         ensures date { result ≡ option_map (λ row. row.date) (duplicate_of collection object.now (library.now.rows ++ self.now.added)) }
         ensures known { IfSome result (λ date. date ≤ last_date) }

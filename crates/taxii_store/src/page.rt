@@ -1,6 +1,7 @@
 ghost use Rattle.std.specs.Prelude.{◌≡◌, map, IfOk, option_map, Some};
 ghost use Rattle.taxii_store.specs.Page.{page_size as size_of, IsPage};
 
+use crate::Library;
 use crate::asked::RowFilter;
 use crate::candidates::{asks_for_version, candidates};
 use crate::cursor::cursor;
@@ -9,7 +10,6 @@ use std::alloc::Global;
 use stix_ids::Id;
 use taxii_routes::Query;
 use taxii_rows::StoredRow;
-use crate::Library;
 
 /// A page of rows (TAXII 2.1, section 3.4).
 #[derive(Drop)]

@@ -23,14 +23,14 @@ ghost use Rattle.taxii_theorems.specs.Reading.{IsReadAs};
 ghost use Rattle.taxii_theorems.specs.Asking.{IsServersOwn, IsVisibleToken, IsAnswered, IsUnderstood, IsInstantOf, wanted_after};
 ghost use Rattle.taxii_theorems.specs.Pulling.{AreServed, WritesEachRow};
 
+use crate::runs::clients_skip_no_row;
 use flow_links::Dial;
 use stix_ids::laws::one_uuid;
 use stix_times::laws::one_instant;
 use taxii_bodies::laws::envelopes_are_json;
+use taxii_routes::laws::{one_route, one_target};
 use taxii_service::history_laws::{answered_requests_were_done, gets_are_paged};
 use taxii_store::page_laws::rows_of_pages;
-use taxii_routes::laws::{one_route, one_target};
-use crate::runs::clients_skip_no_row;
 
 /// Where bytes begin with a server's answer of 200 and with a reply to a client, the reply's body is the answer's.
 pub fn answers_are_replies()

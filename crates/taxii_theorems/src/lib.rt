@@ -11,5 +11,3 @@
 pub mod agreement;
 pub mod runs;
 pub mod unique_answer;
-
-

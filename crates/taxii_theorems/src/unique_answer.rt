@@ -12,9 +12,9 @@ ghost use Rattle.taxii_store.specs.History.{IsDated};
 use stix_ids::laws::one_identifier;
 use stix_objects::laws::{one_id, one_list, one_timestamp};
 use stix_times::laws::one_text_of_digits;
-use taxii_service::history_laws::requests_make_history;
 use taxii_routes::laws::{never_both, one_query, one_refusal, one_route, one_target};
 use taxii_rows::laws::one_version;
+use taxii_service::history_laws::requests_make_history;
 use taxii_store::walk_laws::one_page;
 
 /// From one state, at one moment, a request has one step: one answer (`answer`), and one state after it

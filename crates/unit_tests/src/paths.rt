@@ -2,8 +2,7 @@ ghost use Rattle.pattern_types.specs.PlainPattern.{plain_pattern};
 ghost use Rattle.pattern_types.specs.Soundness.{IsSoundPattern};
 
 use flow_values::{Items, NoMemory, Text};
-use match_comparisons::values;
-use match_comparisons::holds;
+use match_comparisons::{holds, values};
 use pattern_reader::read_pattern;
 use pattern_types::{Leaf, MAX_STEPS, Path, Pattern, Step};
 use std::alloc::Global;

@@ -1,7 +1,7 @@
 //! Streams of the system whose time passes, by a clock that is set by hand.
 
 use flow_edges::{Sink, Source};
-use flow_links::{Deadline, DeadlineStream, TimedStream, TcpLink};
+use flow_links::{Deadline, DeadlineStream, TcpLink, TimedStream};
 use flow_values::Fault;
 use std::cell::Cell;
 use std::io;

@@ -2,7 +2,7 @@ ghost use Rattle.std.specs.Prelude.{◌≡◌};
 ghost use Rattle.std.specs.Io.{ReadsAtMost, WritesAtMost};
 ghost use Rattle.std.specs.Io.KnownBytes.{Keeps, ReadConsumes, WriteAppends};
 
-use super::{Deadline, CALL_TIMEOUT};
+use super::{CALL_TIMEOUT, Deadline};
 use std::io;
 use std::io::{Read, Write};
 use std::marker::Model;

@@ -5,7 +5,7 @@ ghost use Rattle.flow_links.specs.Dials.{Stays, Connects, Finishes};
 ghost use Rattle.flow_links.specs.System.{StreamState};
 
 use super::Deadline;
-use crate::{Dial, DeadlineStream, TcpLink};
+use crate::{DeadlineStream, Dial, TcpLink};
 use flow_edges::counted_fault;
 use flow_values::Fault;
 use std::io;
