@@ -1,4 +1,4 @@
--- What a watch is, without where it lies in memory, and the log that it stands for.
+-- The observable state of a watch, and the log that it represents.
 use Rattle.std.specs.Prelude.{◌≡◌, ◌↔◌, ℕ, ℤ, Bool, Option, Some, None, List, [], ◌∷◌, ◌++◌, length, IsTrue}
 use Rattle.match_bindings.specs.declared.log_entry.LogEntry.{LogEntry}
 use Rattle.match_bindings.specs.Log.{IsInOrder}
@@ -7,34 +7,35 @@ use Rattle.alert_window.specs.MatchingRows.{matching_rows, AreLast}
 use Rattle.alert_window.specs.Alert.{IsAlert}
 
 pub record WatchState : Type 0 where
-  -- how many matches it watches for, and in less than how many seconds
+  -- how many matches it waits for, and within how many seconds
   pub n : ℕ
   pub x : ℕ
   -- how many rows it took
   pub rows : ℕ
-  -- the last time of the last one
+  -- the end of the last row
   pub last : Option ℤ
   -- the matching rows that it keeps
   pub kept : List MatchingRow
 
--- the last time of the last row
+-- the end of the last row
 abbrev pub last_of : List LogEntry → Option ℤ
 last_of [] = None
 last_of (row ∷ []) = Some row.last
 last_of (row ∷ next ∷ rows) = last_of (next ∷ rows)
 
--- a watch stands for a log where it knows how long the log is and its last time, and keeps the last n of its matching rows
+-- a watch represents a log: it knows the length and the end of it, and keeps the last n of its
+-- matching rows
 pub record Represents (state : WatchState) (log : List LogEntry) : Type 0 where
   pub rows : state.rows ≡ length log
   pub last : state.last ≡ last_of log
   pub kept : AreLast state.n (matching_rows log) state.kept
 
--- a log and a row more, with the truth of the bracket
+-- a log with one more row, with the truth of the bracket
 abbrev pub with_row : List LogEntry → ℤ → ℤ → Bool → List LogEntry
 with_row log first last holds = log ++ record { first = first; last = last; truths = holds ∷ [] } ∷ []
 
--- a watch answers the last row of a log: it then stands for the log, whose rows are in order, and tells whether that row is
--- an alert
+-- a watch answers the last row of a log: it then represents the log, whose rows are in order, and
+-- reports whether that row is an alert
 pub record AnswersRow (before after : WatchState) (log : List LogEntry) (answer : Bool) : Type 0 where
   pub represents : Represents after log
   pub order : IsInOrder log

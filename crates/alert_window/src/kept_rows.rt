@@ -1,3 +1,5 @@
+//! The n greatest of the rows added so far, in order. A row beyond n evicts the least.
+
 ghost use Rattle.std.specs.Prelude.{◌≡◌, ◌≤◌, [], List, length, IfOk, OnOk, OnErr};
 ghost use Rattle.alert_window.specs.MatchingRows.{row_cmp};
 ghost use Rattle.alert_window.specs.inner.Kept.{keep, earliest_if_full};
@@ -9,7 +11,7 @@ use std::alloc::Global;
 use std::collections::BTreeSet;
 use stix_times::Instant;
 
-/// The last of some rows, by time and number, so many at most.
+/// The last rows by first time and then number, at most `most`.
 #[derive(Drop)]
 pub(crate) struct KeptRows {
     most: u32,
@@ -18,7 +20,7 @@ pub(crate) struct KeptRows {
 }
 
 impl KeptRows {
-    /// No rows yet. Takes no memory.
+    /// No rows. Takes no memory.
     pub(crate) fn new(alloc: Global, most: u32) -> KeptRows
         ensures most { result.most ≡ most }
         ensures none { result.rows.keys ≡ [] }
@@ -29,10 +31,11 @@ impl KeptRows {
         }
     }
 
-    /// Keeps one more, and lets the first go where there would be too many. Without memory all stays as
-    /// it was.
+    /// Adds a row, and evicts the first where there are too many. Out of memory leaves all
+    /// unchanged.
     pub(crate) fn add(&mut self, row: MatchingRow) -> Result<(), NoMemory>
-        ensures ok { OnOk result (self.new.rows.keys ≡ keep self.old.most (insert_key row_cmp self.old.rows.keys row)) }
+        ensures ok { OnOk result (self.new.rows.keys
+            ≡ keep self.old.most (insert_key row_cmp self.old.rows.keys row)) }
         ensures err { OnErr result (self.new ≡ self.old) }
         ensures most { self.new.most ≡ self.old.most }
     {
@@ -43,14 +46,14 @@ impl KeptRows {
         Ok(())
     }
 
-    /// How many there are.
+    /// How many rows there are.
     pub(crate) fn len(&self) -> usize
         ensures { result ≡ length self.now.rows.keys }
     {
         self.rows.len()
     }
 
-    /// The first time of the first row, where there are as many as may be.
+    /// The first time of the first row, where there are `most` rows.
     pub(crate) fn earliest_if_full(&self) -> Option<Instant>
         ensures { result ≡ earliest_if_full self.now.most self.now.rows.keys }
     {

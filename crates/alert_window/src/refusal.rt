@@ -5,13 +5,13 @@ use flow_values::NoMemory;
 use stix_times::Instant;
 use thiserror::Error;
 
-/// Why a watch doesn't take a row.
+/// Why a watch refuses a row. The watch is unchanged then.
 #[derive(Clone, Copy, Debug, Error)]
 pub enum WatchRefusal {
-    /// Its last time is earlier than that of the row before.
+    /// It ends earlier than the row before it.
     #[error("the row ends earlier than the one before")]
     OutOfOrder { last: Instant, now: Instant },
-    /// There was no memory.
+    /// Out of memory.
     #[error("out of memory")]
     NoMemory,
 }

@@ -17,8 +17,8 @@ use stix_times::{Instant, nanos};
 
 const NANOS_PER_SECOND: i128 = 1_000_000_000;
 
-/// A watch for n matches of one bracket within x seconds. Contracts see n and x, how many rows it took,
-/// the last time of the last of them, and the rows that it keeps.
+/// A watch for n matches of one bracket within x seconds. Contracts observe n and x, how many rows
+/// it took, the end of the last row, and the rows that it keeps.
 #[derive(Drop)]
 pub struct Watch {
     seconds: u32,
@@ -63,8 +63,8 @@ impl Watch {
         })
     }
 
-    /// Takes the next row of a log: its first and last time, and whether the bracket holds. The answer is
-    /// whether the row is an alert. A refused row changes nothing.
+    /// Takes the next row of a log: its first and last time, and whether the bracket holds. Answers
+    /// whether the row is an alert. After an error the watch is unchanged.
     pub fn take(&mut self, first: Instant, last: Instant, holds: bool) -> Result<bool, WatchRefusal>
         requires span { first ≤ℤ last }
         requires room { self.old.rows + 1 < 2 ^ 64 }
@@ -90,20 +90,21 @@ impl Watch {
         Ok(alert)
     }
 
-    /// Keeps a matching row with that number and these times, and tells whether it is an alert.
+    /// Keeps a matching row, and answers whether it is an alert.
     fn keep(&mut self, number: u64, first: Instant, last: Instant) -> Result<bool, NoMemory>
         ensures kept { OnOk result (self.new ≡ record self.old {
-          kept = keep self.old.n (insert_key row_cmp self.old.kept (record { first = first; number = number }));
+          kept = keep self.old.n (insert_key row_cmp self.old.kept
+              (record { first = first; number = number }));
         }) }
-        ensures reached { IfOk result (λ alert. IsTrue alert ↔ IsReached self.old.n self.old.x self.new.kept first last) }
+        ensures reached { IfOk result (λ alert. IsTrue alert
+            ↔ IsReached self.old.n self.old.x self.new.kept first last) }
         ensures err { OnErr result (self.new ≡ self.old) }
     {
         self.kept.add(MatchingRow { first, number })?;
         Ok(self.is_reached(first, last))
     }
 
-    /// Whether n rows are kept, and they and a row with these times lie in less than the seconds before
-    /// its end.
+    /// Whether n rows are kept, and all of them and this row lie within the seconds.
     fn is_reached(&self, first: Instant, last: Instant) -> bool
         ensures { IsTrue result ↔ IsReached self.now.n self.now.x self.now.kept first last }
     {
@@ -124,7 +125,7 @@ impl Watch {
     }
 }
 
-/// Whether the times lie in less than so many seconds.
+/// Whether two times are less than this many seconds apart.
 fn is_within(seconds: u32, first: Instant, last: Instant) -> bool
     ensures { IsTrue result ↔ (last <ℤ later_by seconds first) }
 {

@@ -1,10 +1,11 @@
--- Binds without where they lie in memory, and the numbers in them.
+-- Bindings as plain data, and the numbers in them.
 use Rattle.std.specs.Prelude.{◌≡◌, ℕ, zero, suc, Bool, true, false, ◌&&◌, ◌||◌, not, nat_eq, max, List, [], ◌∷◌}
 use Rattle.match_bindings.specs.declared.bind.Bind.{Bind, fold-Bind}
 use Rattle.match_bindings.specs.declared.bind.Bind.TheOpen.{Bind-F}
 use Rattle.match_bindings.specs.declared.bind.Bind.TheOpen as bind
 
--- a bind. A Many is a chain: Empty without parts, else its first part as a Single, and each next part as a More after those before
+-- a binding. A Many is a chain: Empty without parts, otherwise its first part as a Single, and each
+-- next part as a More on top of those before
 pub data BindTree : Type 0 where
   One : (number : ℕ) → BindTree
   Pair : (left right : BindTree) → BindTree
@@ -24,18 +25,18 @@ abbrev pub many_of : List BindTree → BindTree
 many_of [] = Empty
 many_of (x ∷ xs) = more_of (Single x) xs
 
--- a chain with one more part at its end; what is no chain has no parts
+-- a chain with one more part at its end; any other tree counts as an empty chain
 abbrev pub add_part : BindTree → BindTree → BindTree
 add_part (Single x) a = More (Single x) a
 add_part (More m x) a = More (More m x) a
 add_part _ a = Single a
 
--- a tree under so many Firsts
+-- a tree under this many Firsts
 abbrev pub firsts : ℕ → BindTree → BindTree
 firsts zero x = x
 firsts (suc n) x = First (firsts n x)
 
--- one level of a bind, whose parts are trees already
+-- one level of a binding whose parts are trees already
 abbrev pub tree_level : Bind-F BindTree → BindTree
 tree_level (bind.One number) = One number
 tree_level (bind.Both sides) = Pair sides.value.0 sides.value.1
@@ -43,11 +44,11 @@ tree_level (bind.First more part) = First (firsts more part.value)
 tree_level (bind.Second part) = Second part.value
 tree_level (bind.Many parts) = many_of parts.value
 
--- the tree of a bind
+-- the tree of a binding
 abbrev pub tree_of : Bind → BindTree
 tree_of = fold-Bind BindTree tree_level
 
--- whether an observation is one of those that a tree binds, by its number
+-- whether a tree has the observation number
 abbrev pub has : ℕ → BindTree → Bool
 has n (One m) = nat_eq n m
 has n (Pair a b) = has n a || has n b
@@ -61,7 +62,7 @@ has n (More m a) = has n m || has n a
 abbrev pub AreDisjoint : BindTree → BindTree → Type 0
 AreDisjoint a b = (n : ℕ) → has n a ≡ true → has n b ≡ false
 
--- the same as a test
+-- the same as a Boolean test
 abbrev pub disjoint : BindTree → BindTree → Bool
 disjoint (One n) b = not (has n b)
 disjoint (Pair x y) b = disjoint x b && disjoint y b

@@ -1,13 +1,14 @@
--- When the observations of a tree match a pattern: STIX 2.1, sections 9.3 to 9.5, of pattern expressions and of observation
--- expressions with their operators and qualifiers. A tree that fits no line here is no binding.
+-- When the observations of a tree match a pattern: STIX 2.1, sections 9.3 to 9.5 (pattern
+-- expressions, and observation expressions with their operators and qualifiers). A tree that
+-- matches no line here is no binding.
 use Rattle.std.specs.Prelude.{◌≡◌, ℕ, zero, suc, ◌<◌, ◌≤ℤ◌, ◌<ℤ◌, true}
 use Rattle.match_bindings.specs.NumberedPattern.{NumberedPattern, Leaf, Both, Then, Either, Within, Between, Repeats}
 use Rattle.match_bindings.specs.BindTree.{BindTree, One, Pair, First, Second, Single, More, AreDisjoint, greatest}
 use Rattle.match_bindings.specs.Span.{earliest, latest, later_by}
 use Rattle.match_bindings.specs.Log.{Observed}
 
--- a chain of so many parts, at least one: each binds, no observation is in two of them, and their greatest numbers ascend, so
--- that no set of parts stands twice in another order
+-- a chain of this many parts, at least one: each is a binding, no two share an observation, and
+-- their greatest numbers ascend, so that no set of parts occurs in two orders
 abbrev pub AreRepeats : (BindTree → Type 0) → ℕ → BindTree → Type 0
 AreRepeats Binds (suc zero) (Single a) = Binds a
 AreRepeats Binds (suc (suc j)) (More m a) = AreRepeats Binds (suc j) m × Binds a × AreDisjoint m a × (greatest m < greatest a)

@@ -1,5 +1,6 @@
--- What the qualifiers above a part of a pattern leave it, together (STIX 2.1, section 9.4): the least seconds of a WITHIN,
--- and of START and STOP the latest start and the earliest stop. Each is absent where there is no such qualifier.
+-- The combined limits of all qualifiers above a part of a pattern (STIX 2.1, section 9.4): the
+-- smallest seconds of a WITHIN, the latest START and the earliest STOP. Each is absent without such
+-- a qualifier.
 use Rattle.std.specs.Prelude.{ℕ, min, ℤ, Option, Some, None}
 use Rattle.std.specs.Int.{int_min, int_max}
 use Rattle.match_bindings.specs.declared.bounds.Bounds.{Bounds}
@@ -20,10 +21,10 @@ abbrev pub earliest_stop : Option ℤ → ℤ → Option ℤ
 earliest_stop None x = Some x
 earliest_stop (Some y) x = Some (int_min y x)
 
--- those of the part of a WITHIN
+-- below a WITHIN
 abbrev pub within : Bounds → ℕ → Bounds
 within above x = record { seconds = least_seconds above.seconds x; start = above.start; stop = above.stop }
 
--- those of the part of a START and STOP
+-- below a START and STOP
 abbrev pub between : Bounds → ℤ → ℤ → Bounds
 between above x y = record { seconds = above.seconds; start = latest_start above.start x; stop = earliest_stop above.stop y }

@@ -14,7 +14,7 @@ flat Empty = []
 flat (Single a) = flat a
 flat (More m a) = flat m ++ flat a
 
--- what trees are ordered by: the greatest number, and then the flat list
+-- the sort key of a tree: its greatest number, then its flat list
 abbrev pub rank : BindTree → List ℕ
 rank x = greatest x ∷ flat x
 

@@ -2,13 +2,13 @@
 use Rattle.std.specs.Prelude.{ℕ, zero, suc, ⊤, ℤ, pos, ◌≤ℤ◌, Bool, false, List, [], ◌∷◌, Option, Some, None, slice_get, unwrap_or}
 use Rattle.match_bindings.specs.declared.log_entry.LogEntry.{LogEntry}
 
--- what is last in the list isn't later than the time
+-- the last row of the list ends no later than the time
 abbrev pub LastIsBy : List LogEntry → ℤ → Type 0
 LastIsBy [] time = ⊤
 LastIsBy (row ∷ []) time = row.last ≤ℤ time
 LastIsBy (row ∷ next ∷ rows) time = LastIsBy (next ∷ rows) time
 
--- no first time is later than its last time, and last times never fall
+-- no row begins after it ends, and the ends never decrease
 abbrev pub IsInOrder : List LogEntry → Type 0
 IsInOrder [] = ⊤
 IsInOrder (row ∷ []) = row.first ≤ℤ row.last
@@ -32,7 +32,8 @@ abbrev pub truth : Option LogEntry → ℕ → Bool
 truth None k = false
 truth (Some row) k = unwrap_or (slice_get row.truths k) false
 
--- what bindings ask of a log: by an observation's number its first time, its last time, and whether leaf k holds for it
+-- what a binding needs to know of a log: the first and last time of each observation, and whether
+-- leaf k holds for it
 pub record Observed : Type 0 where
   pub first : ℕ → ℤ
   pub last : ℕ → ℤ

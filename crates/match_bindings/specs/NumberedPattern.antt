@@ -1,10 +1,10 @@
--- Patterns without where they lie in memory, their leaves numbered (STIX 2.1, section 9.3).
+-- Patterns as plain data, with numbered leaves (STIX 2.1, section 9.3).
 use Rattle.std.specs.Prelude.{ℕ, ◌+◌, ℤ}
 use Rattle.pattern_types.specs.declared.pattern.Pattern.{Pattern}
 use Rattle.pattern_types.specs.declared.pattern.Pattern.TheVariants as pattern
 use Rattle.pattern_types.specs.Leaves.{leaves}
 
--- a pattern; of a leaf, an observation expression in brackets, only its number is left
+-- a pattern; a leaf (an observation expression in brackets) is reduced to its number
 pub data NumberedPattern : Type 0 where
   Leaf : (number : ℕ) → NumberedPattern
   Both : (left right : NumberedPattern) → NumberedPattern

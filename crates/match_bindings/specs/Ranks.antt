@@ -1,4 +1,4 @@
--- For private clauses: binds beside their ranks.
+-- For private clauses: bindings with their sort keys.
 use Rattle.std.specs.Prelude.{List, map}
 use Rattle.match_bindings.specs.declared.ranked.Ranked.{Ranked}
 use Rattle.match_bindings.specs.BindTree.{BindTree, tree_of}

@@ -1,4 +1,4 @@
--- The time that the observations of a tree cover together.
+-- The span of time of the observations of a tree.
 use Rattle.std.specs.Prelude.{ℕ, ◌*◌, ℤ, pos, ◌+ℤ◌}
 use Rattle.std.specs.Int.{int_min, int_max}
 use Rattle.match_bindings.specs.BindTree.{BindTree, One, Pair, First, Second, Empty, Single, More}
@@ -23,6 +23,6 @@ latest last Empty = pos 0
 latest last (Single a) = latest last a
 latest last (More m a) = int_max (latest last m) (latest last a)
 
--- so many seconds later; times are in nanoseconds
+-- this many seconds later; times are in nanoseconds
 abbrev pub later_by : ℕ → ℤ → ℤ
 later_by seconds time = time +ℤ pos (1_000_000_000 * seconds)

@@ -1,11 +1,12 @@
--- Bindings as a test, which the laws say is the relation of Binding.antt.
+-- The definition of bindings as a Boolean test. `laws` states that it agrees with Binding.antt.
 use Rattle.std.specs.Prelude.{ℕ, zero, suc, nat_lt, int_le, int_lt, Bool, false, ◌&&◌}
 use Rattle.match_bindings.specs.NumberedPattern.{NumberedPattern, Leaf, Both, Then, Either, Within, Between, Repeats}
 use Rattle.match_bindings.specs.BindTree.{BindTree, One, Pair, First, Second, Single, More, disjoint, greatest}
 use Rattle.match_bindings.specs.Span.{earliest, latest, later_by}
 use Rattle.match_bindings.specs.Log.{Observed}
 
--- a chain of so many parts, at least one: each passes, no number is in two of them, and their greatest numbers ascend
+-- a chain of this many parts, at least one: each passes, no two share a number, and their greatest
+-- numbers ascend
 abbrev pub are_repeats : (BindTree → Bool) → ℕ → BindTree → Bool
 are_repeats f (suc zero) (Single a) = f a
 are_repeats f (suc (suc j)) (More m a) = are_repeats f (suc j) m && f a && (nat_lt (greatest m) (greatest a) && disjoint m a)

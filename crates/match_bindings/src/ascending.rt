@@ -1,4 +1,5 @@
-//! Whether binds are in order as they are, as far as a walk down two of them at once tells. It takes no memory.
+//! A fast check whether bindings are sorted already, by a simultaneous walk down two neighbors. It
+//! takes no memory. False only means that the check can't tell.
 
 ghost use Rattle.std.specs.Prelude.{◌≡◌, true, false, IsTrue, map};
 ghost use Rattle.std.specs.List.Sorted.{IsSortedBy};
@@ -9,7 +10,7 @@ ghost use Rattle.match_bindings.specs.inner.Ascending.{FlatAscends, is_second};
 use crate::Bind;
 use crate::numbers::greatest_number;
 
-/// Whether binds are seen to be in order.
+/// Whether the bindings are sorted, as far as the check can tell.
 pub(crate) fn are_ascending(binds: &[Bind]) -> bool
     ensures { IsTrue result → IsSortedBy comes_before (map tree_of binds.now) }
 {
@@ -22,7 +23,7 @@ pub(crate) fn are_ascending(binds: &[Bind]) -> bool
     true
 }
 
-/// Whether a bind is seen not to come before the first one.
+/// Whether the second binding doesn't come before the first.
 fn ascends(first: &Bind, second: &Bind) -> bool
     ensures { IsTrue result → comes_before (tree_of second.now) (tree_of first.now) ≡ false }
 {
@@ -31,7 +32,7 @@ fn ascends(first: &Bind, second: &Bind) -> bool
     least < most || (least == most && flat_ascends(first, second))
 }
 
-/// The same by flat lists alone.
+/// Whether it doesn't, by flat lists alone.
 #[cycle(flat_ascends)]
 fn flat_ascends(first: &Bind, second: &Bind) -> bool
     ensures { IsTrue result → FlatAscends (tree_of first.now) (tree_of second.now) }
@@ -47,10 +48,11 @@ fn flat_ascends(first: &Bind, second: &Bind) -> bool
     }
 }
 
-/// The same for a `First`.
+/// Whether it doesn't, where the first is a `First`.
 #[cycle(flat_ascends)]
 fn first_ascends(more: u32, part: &Bind, second: &Bind) -> bool
-    ensures { IsTrue result → FlatAscends (First (firsts more (tree_of part.now))) (tree_of second.now) }
+    ensures { IsTrue result → FlatAscends (First (firsts more (tree_of part.now)))
+        (tree_of second.now) }
 {
     match second {
         Bind::First(others, other) => {
@@ -64,7 +66,7 @@ fn first_ascends(more: u32, part: &Bind, second: &Bind) -> bool
     }
 }
 
-/// The same for a `Second`.
+/// Whether it doesn't, where the first is a `Second`.
 #[cycle(flat_ascends)]
 fn second_ascends(part: &Bind, second: &Bind) -> bool
     ensures { IsTrue result → FlatAscends (Second (tree_of part.now)) (tree_of second.now) }
@@ -75,7 +77,7 @@ fn second_ascends(part: &Bind, second: &Bind) -> bool
     }
 }
 
-/// Whether a bind is a `Second`.
+/// Whether a binding is a `Second`.
 fn is_second(bind: &Bind) -> bool
     ensures { IsTrue result → is_second (tree_of bind.now) ≡ true }
 {

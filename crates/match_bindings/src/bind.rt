@@ -7,24 +7,25 @@ use flow_values::{Items, NoMemory};
 use std::alloc::{AllocError, Global};
 use std::rc::Rc;
 
-/// Which observations match which parts of a pattern. Observations are numbered from 1. What a bind is made of
-/// is shared by all that are made of it: to clone one takes no memory.
+/// A binding: which observations match which parts of a pattern. Observations are numbered from 1.
+/// Subtrees are shared by reference count, so a clone takes no memory.
 #[derive(Drop)]
 pub enum Bind {
     /// The observation that matches a leaf.
     One(u64),
-    /// What matches the sides of an `AND` or a `FOLLOWEDBY`.
+    /// The bindings of the two sides of an `AND` or a `FOLLOWEDBY`.
     Both(Rc<(Bind, Bind)>),
-    /// What matches the left side of an `OR`, and of so many more above it, each the left side of the next.
+    /// The binding of the left side of an `OR`. The count is how many further `OR`s it is nested
+    /// in, each time on the left.
     First(u32, Rc<Bind>),
-    /// What matches the right side of an `OR`.
+    /// The binding of the right side of an `OR`.
     Second(Rc<Bind>),
-    /// What matches each of the repeats of a `REPEATS`.
+    /// The bindings of the repeats of a `REPEATS`.
     Many(Rc<Items<Bind>>),
 }
 
 impl Bind {
-    /// A bind under so many `First`s, which one that is a `First` itself counts in place.
+    /// Wraps a binding in `count` `First`s. Extends the count of one that is a `First` already.
     pub fn under_firsts(alloc: Global, count: u32, bind: Bind) -> Result<Bind, NoMemory>
         ensures { IfOk result (λ above. tree_of above ≡ firsts count (tree_of bind)) }
     {
@@ -37,7 +38,7 @@ impl Bind {
         }
     }
 
-    /// A bind under a `Second`.
+    /// Wraps a binding in a `Second`.
     pub fn under_second(alloc: Global, bind: Bind) -> Result<Bind, NoMemory>
         ensures { IfOk result (λ above. tree_of above ≡ Second (tree_of bind)) }
     {
@@ -58,7 +59,8 @@ impl Bind {
 
     /// The sides of a `Both`.
     pub(crate) fn sides(&self) -> Option<(&Bind, &Bind)>
-        ensures some { IfSome result (λ sides. tree_of self.now ≡ Pair (tree_of sides.0.now) (tree_of sides.1.now)) }
+        ensures some { IfSome result (λ sides. tree_of self.now
+            ≡ Pair (tree_of sides.0.now) (tree_of sides.1.now)) }
         ensures none { IfNone result (is_pair (tree_of self.now) ≡ false) }
     {
         match self {
@@ -94,10 +96,11 @@ impl Clone for Bind {
     }
 }
 
-/// A `First` under so many more: one run, or two where a count has no room for both.
+/// A `First` under `count` more: one node, or two where a count overflows.
 fn longer_run(alloc: Global, count: u32, more: u32, part: Rc<Bind>) -> Result<Bind, NoMemory>
     requires { 0 < count }
-    ensures { IfOk result (λ above. tree_of above ≡ firsts count (First (firsts more (tree_of (rc_value part))))) }
+    ensures { IfOk result (λ above. tree_of above
+        ≡ firsts count (First (firsts more (tree_of (rc_value part))))) }
 {
     if more < u32::MAX - count {
         return Ok(Bind::First(more + count, part));

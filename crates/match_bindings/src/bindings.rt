@@ -15,10 +15,13 @@ use flow_values::{Items, NoMemory};
 use pattern_types::Pattern;
 use std::alloc::Global;
 
-/// Every binding of a pattern over a log, each once, by greatest number and then by flat list.
+/// All bindings of a pattern over a log, each once, by greatest number and then by flat list. It
+/// enumerates all candidates, so it costs as much as there are partial bindings; `match_stream` is
+/// the incremental matcher.
 pub fn listing(alloc: Global, pattern: &Pattern, log: &Log) -> Result<Items<Bind>, NoMemory>
     requires { leaves pattern.now < 2 ^ 32 }
-    ensures { IfOk result (λ binds. IsListing (observed_in log.now) (numbered_pattern pattern.now) (map tree_of binds)) }
+    ensures { IfOk result (λ binds. IsListing (observed_in log.now) (numbered_pattern pattern.now)
+        (map tree_of binds)) }
 {
     let held = candidates(alloc, pattern, 0, log, &Bounds::open())?;
     let binds = binds_of(alloc, held)?;
@@ -26,7 +29,7 @@ pub fn listing(alloc: Global, pattern: &Pattern, log: &Log) -> Result<Items<Bind
     Ok(Items::from_vec(sorted))
 }
 
-/// The binds alone.
+/// The bindings without their spans.
 fn binds_of(alloc: Global, held: Vec<SpannedBind>) -> Result<Vec<Bind>, NoMemory>
     ensures { IfOk result (λ binds. map tree_of binds.items ≡ trees_of (spanned_trees held.items)) }
 {

@@ -5,19 +5,19 @@ ghost use Rattle.match_bindings.specs.inner.Candidates.{fits};
 use crate::span::Span;
 use stix_times::Instant;
 
-/// What the qualifiers above a part of a pattern leave it, together (STIX 2.1, section 9.4).
+/// The combined limits of all qualifiers above a part of a pattern (STIX 2.1, section 9.4).
 #[derive(Clone, Copy, Debug)]
 pub struct Bounds {
-    /// The least seconds of a `WITHIN`, where there is one.
+    /// The smallest number of seconds of a `WITHIN`, if any.
     pub seconds: Option<u32>,
-    /// The latest start of a `START`.
+    /// The latest `START`, if any.
     pub start: Option<Instant>,
-    /// The earliest stop of a `STOP`.
+    /// The earliest `STOP`, if any.
     pub stop: Option<Instant>,
 }
 
 impl Bounds {
-    /// Those of a part that no qualifier limits.
+    /// No limits.
     pub fn open() -> Bounds
         ensures { result ≡ no_bounds }
     {
@@ -28,7 +28,7 @@ impl Bounds {
         }
     }
 
-    /// Whether a span lies in all of them.
+    /// Whether a span respects all limits.
     pub(crate) fn fits(&self, span: &Span) -> bool
         ensures { result ≡ fits self.now span.now }
     {
@@ -47,7 +47,7 @@ impl Bounds {
         in_seconds && from_start && before_stop
     }
 
-    /// Those below a `WITHIN` of so many seconds.
+    /// The limits below a `WITHIN` of this many seconds.
     pub fn within(&self, seconds: u32) -> Bounds
         ensures { result ≡ within self.now seconds }
     {
@@ -62,7 +62,7 @@ impl Bounds {
         }
     }
 
-    /// Those below a `START` and `STOP`.
+    /// The limits below a `START` and `STOP`.
     pub fn between(&self, start: Instant, stop: Instant) -> Bounds
         ensures { result ≡ between self.now start stop }
     {

@@ -1,3 +1,6 @@
+//! Enumerates the bindings of a pattern bottom-up: nested-loop joins of the bindings of its parts,
+//! with the limits of the qualifiers pushed down to the leaves.
+
 ghost use Rattle.std.specs.Prelude.{◌≡◌, ◌++◌, ◌+◌, ◌<◌, ◌^◌, IfOk, OnOk, length, map};
 ghost use Rattle.pattern_types.specs.Leaves.{leaves};
 ghost use Rattle.match_bindings.specs.NumberedPattern.{numbered_from};
@@ -13,7 +16,7 @@ use flow_values::NoMemory;
 use pattern_types::{Pattern, leaf_count};
 use std::alloc::Global;
 
-/// The bindings of a pattern that fit the bounds, where its leftmost leaf has the number `leaf`.
+/// The bindings of a pattern within these limits, where its leftmost leaf has the number `leaf`.
 #[cycle(candidates)]
 pub(crate) fn candidates(
     alloc: Global,
@@ -24,7 +27,8 @@ pub(crate) fn candidates(
 ) -> Result<Vec<SpannedBind>, NoMemory>
     requires { leaf + leaves pattern.now < 2 ^ 32 }
     ensures { IfOk result (λ out. spanned_trees out.items
-        ≡ candidates (observed_in log.now) (length log.now) bounds.now (numbered_from leaf pattern.now)) }
+        ≡ candidates (observed_in log.now) (length log.now) bounds.now
+        (numbered_from leaf pattern.now)) }
 {
     match pattern {
         Pattern::Leaf(_) => found_at_leaf(alloc, leaf, log, bounds),
@@ -50,7 +54,7 @@ pub(crate) fn candidates(
     }
 }
 
-/// Those of both sides of an `AND` or a `FOLLOWEDBY`, joined.
+/// The bindings of an `AND` or a `FOLLOWEDBY`.
 #[cycle(candidates)]
 fn joined_sides(
     alloc: Global,
@@ -63,15 +67,17 @@ fn joined_sides(
 ) -> Result<Vec<SpannedBind>, NoMemory>
     requires { leaf + (leaves left.now + leaves right.now) < 2 ^ 32 }
     ensures { IfOk result (λ out. spanned_trees out.items
-        ≡ joins join bounds.now (candidates (observed_in log.now) (length log.now) bounds.now (numbered_from leaf left.now))
-        (candidates (observed_in log.now) (length log.now) bounds.now (numbered_from (leaf + leaves left.now) right.now))) }
+        ≡ joins join bounds.now (candidates (observed_in log.now) (length log.now) bounds.now
+        (numbered_from leaf left.now))
+        (candidates (observed_in log.now) (length log.now) bounds.now
+        (numbered_from (leaf + leaves left.now) right.now))) }
 {
     let firsts = candidates(alloc, left, leaf, log, bounds)?;
     let seconds = candidates(alloc, right, leaf + leaf_count(left), log, bounds)?;
     join.join(alloc, bounds, &firsts, &seconds)
 }
 
-/// Those of either side of an `OR`.
+/// The bindings of an `OR`.
 #[cycle(candidates)]
 fn either_side(
     alloc: Global,
@@ -83,22 +89,25 @@ fn either_side(
 ) -> Result<Vec<SpannedBind>, NoMemory>
     requires { leaf + (leaves left.now + leaves right.now) < 2 ^ 32 }
     ensures { IfOk result (λ out. spanned_trees out.items
-        ≡ map (spanned_with First) (candidates (observed_in log.now) (length log.now) bounds.now (numbered_from leaf left.now))
-        ++ map (spanned_with Second) (candidates (observed_in log.now) (length log.now) bounds.now (numbered_from (leaf + leaves left.now) right.now))) }
+        ≡ map (spanned_with First) (candidates (observed_in log.now) (length log.now) bounds.now
+        (numbered_from leaf left.now))
+        ++ map (spanned_with Second) (candidates (observed_in log.now) (length log.now) bounds.now
+        (numbered_from (leaf + leaves left.now) right.now))) }
 {
     let firsts = candidates(alloc, left, leaf, log, bounds)?;
     let seconds = candidates(alloc, right, leaf + leaf_count(left), log, bounds)?;
     either_of(alloc, firsts, seconds)
 }
 
-/// The observations that fit the bounds and for which a leaf holds.
+/// The observations within the limits for which a leaf holds.
 fn found_at_leaf(
     alloc: Global,
     leaf: u32,
     log: &Log,
     bounds: &Bounds,
 ) -> Result<Vec<SpannedBind>, NoMemory>
-    ensures { IfOk result (λ out. spanned_trees out.items ≡ ones (observed_in log.now) bounds.now leaf (length log.now)) }
+    ensures { IfOk result (λ out. spanned_trees out.items
+        ≡ ones (observed_in log.now) bounds.now leaf (length log.now)) }
 {
     let mut out = Vec::new(alloc);
     for at in 0..log.len() {
@@ -113,14 +122,15 @@ fn found_at_leaf(
     Ok(out)
 }
 
-/// The binds of both sides of an `OR`.
+/// Wraps the bindings of both sides of an `OR`.
 fn either_of(
     alloc: Global,
     firsts: Vec<SpannedBind>,
     seconds: Vec<SpannedBind>,
 ) -> Result<Vec<SpannedBind>, NoMemory>
     ensures { IfOk result (λ out. spanned_trees out.items
-        ≡ map (spanned_with First) (spanned_trees firsts.items) ++ map (spanned_with Second) (spanned_trees seconds.items)) }
+        ≡ map (spanned_with First) (spanned_trees firsts.items)
+        ++ map (spanned_with Second) (spanned_trees seconds.items)) }
 {
     let mut out = Vec::new(alloc);
     push_firsts(alloc, firsts, &mut out)?;
@@ -128,13 +138,14 @@ fn either_of(
     Ok(out)
 }
 
-/// Adds the binds of the left side of an `OR`.
+/// Appends the bindings of the left side of an `OR`.
 fn push_firsts(
     alloc: Global,
     firsts: Vec<SpannedBind>,
     out: &mut Vec<SpannedBind>,
 ) -> Result<(), NoMemory>
-    ensures { OnOk result (spanned_trees out.new.items ≡ spanned_trees out.old.items ++ map (spanned_with First) (spanned_trees firsts.items)) }
+    ensures { OnOk result (spanned_trees out.new.items ≡ spanned_trees out.old.items
+        ++ map (spanned_with First) (spanned_trees firsts.items)) }
 {
     for first in firsts {
         let SpannedBind { bind, span } = first;
@@ -144,13 +155,14 @@ fn push_firsts(
     Ok(())
 }
 
-/// Adds the binds of the right side of an `OR`.
+/// Appends the bindings of the right side of an `OR`.
 fn push_seconds(
     alloc: Global,
     seconds: Vec<SpannedBind>,
     out: &mut Vec<SpannedBind>,
 ) -> Result<(), NoMemory>
-    ensures { OnOk result (spanned_trees out.new.items ≡ spanned_trees out.old.items ++ map (spanned_with Second) (spanned_trees seconds.items)) }
+    ensures { OnOk result (spanned_trees out.new.items ≡ spanned_trees out.old.items
+        ++ map (spanned_with Second) (spanned_trees seconds.items)) }
 {
     for second in seconds {
         let SpannedBind { bind, span } = second;
@@ -160,14 +172,15 @@ fn push_seconds(
     Ok(())
 }
 
-/// The binds of so many of the parts.
+/// The bindings of a `REPEATS count`.
 fn repeats_of(
     alloc: Global,
     bounds: &Bounds,
     parts: &[SpannedBind],
     count: u32,
 ) -> Result<Vec<SpannedBind>, NoMemory>
-    ensures { IfOk result (λ out. spanned_trees out.items ≡ repeats_of bounds.now (spanned_trees parts.now) count) }
+    ensures { IfOk result (λ out. spanned_trees out.items
+        ≡ repeats_of bounds.now (spanned_trees parts.now) count) }
 {
     if count == 0 {
         return Ok(Vec::new(alloc));
@@ -180,9 +193,10 @@ fn repeats_of(
     Ok(sets)
 }
 
-/// Each part alone.
+/// Each part as a `Many` of one.
 fn singles(alloc: Global, parts: &[SpannedBind]) -> Result<Vec<SpannedBind>, NoMemory>
-    ensures { IfOk result (λ out. spanned_trees out.items ≡ map (spanned_with Single) (spanned_trees parts.now)) }
+    ensures { IfOk result (λ out. spanned_trees out.items
+        ≡ map (spanned_with Single) (spanned_trees parts.now)) }
 {
     let mut out = Vec::new(alloc);
     for part in parts {

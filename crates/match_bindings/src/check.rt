@@ -1,3 +1,6 @@
+//! Decides whether a binding is one of a pattern over a log, by recursive descent into both trees
+//! at once. It returns the span of each part upwards, so that no part is visited twice.
+
 ghost use Rattle.std.specs.Prelude.{◌≡◌, ◌↔◌, ◌+◌, ◌<◌, ◌^◌, ◌&&◌, IsTrue, map, option_and_then};
 ghost use Rattle.pattern_types.specs.Leaves.{leaves};
 ghost use Rattle.match_bindings.specs.NumberedPattern.{numbered_pattern, numbered_from, Both, Then};
@@ -15,20 +18,22 @@ use crate::{Bind, Log};
 use pattern_types::{Pattern, leaf_count};
 use stix_times::Instant;
 
-/// Whether a bind is a binding of a pattern over a log. Takes no memory. A row that has no truth for a
-/// leaf is none for which the leaf holds.
+/// Whether a binding is one of a pattern over a log. Takes no memory. A leaf doesn't hold at a row
+/// that has no truth for it.
 pub fn check_binding(pattern: &Pattern, log: &Log, bind: &Bind) -> bool
     requires { leaves pattern.now < 2 ^ 32 }
-    ensures { IsTrue result ↔ IsBinding (observed_in log.now) (numbered_pattern pattern.now) (tree_of bind.now) }
+    ensures { IsTrue result ↔ IsBinding (observed_in log.now) (numbered_pattern pattern.now)
+        (tree_of bind.now) }
 {
     verify(pattern, 0, log, bind).is_some()
 }
 
-/// The span of a bind, where it is a binding of a pattern whose leftmost leaf has the number `leaf`.
+/// The span of a binding, where it is one of a pattern whose leftmost leaf has the number `leaf`.
 #[cycle(verify)]
 fn verify(pattern: &Pattern, leaf: u32, log: &Log, bind: &Bind) -> Option<Span>
     requires { leaf + leaves pattern.now < 2 ^ 32 }
-    ensures { result ≡ verified (observed_in log.now) (numbered_from leaf pattern.now) (tree_of bind.now) }
+    ensures { result ≡ verified (observed_in log.now) (numbered_from leaf pattern.now)
+        (tree_of bind.now) }
 {
     match pattern {
         Pattern::Leaf(_) => log.span_of(leaf, bind.number()?),
@@ -48,7 +53,7 @@ fn verify(pattern: &Pattern, leaf: u32, log: &Log, bind: &Bind) -> Option<Span>
     }
 }
 
-/// The span of a bind of two sides, where it is a binding of an `AND` or a `FOLLOWEDBY` of these patterns.
+/// The span of a `Both`, where it is a binding of an `AND` or a `FOLLOWEDBY` of these patterns.
 #[cycle(verify)]
 fn verify_sides(
     join: Join,
@@ -60,9 +65,13 @@ fn verify_sides(
 ) -> Option<Span>
     requires { leaf + (leaves left.now + leaves right.now) < 2 ^ 32 }
     ensures both { join ≡ variant.Both → result
-        ≡ verified (observed_in log.now) (Both (numbered_from leaf left.now) (numbered_from (leaf + leaves left.now) right.now)) (tree_of bind.now) }
+        ≡ verified (observed_in log.now)
+        (Both (numbered_from leaf left.now) (numbered_from (leaf + leaves left.now) right.now))
+        (tree_of bind.now) }
     ensures ordered { join ≡ variant.Then → result
-        ≡ verified (observed_in log.now) (Then (numbered_from leaf left.now) (numbered_from (leaf + leaves left.now) right.now)) (tree_of bind.now) }
+        ≡ verified (observed_in log.now)
+        (Then (numbered_from leaf left.now) (numbered_from (leaf + leaves left.now) right.now))
+        (tree_of bind.now) }
 {
     let (first, second) = bind.sides()?;
     let first_span = verify(left, leaf, log, first)?;
@@ -71,11 +80,13 @@ fn verify_sides(
     joined(join, &first_span, &second_span, apart)
 }
 
-/// The span of a bind under so many `First`s: each `OR` on the way down its left sides takes one off.
+/// The span of a binding under `count` `First`s: each `OR` on the way down its left sides takes one
+/// off.
 #[cycle(verify)]
 fn verify_left(pattern: &Pattern, leaf: u32, log: &Log, count: u32, bind: &Bind) -> Option<Span>
     requires { leaf + leaves pattern.now < 2 ^ 32 }
-    ensures { result ≡ verified (observed_in log.now) (numbered_from leaf pattern.now) (firsts count (tree_of bind.now)) }
+    ensures { result ≡ verified (observed_in log.now) (numbered_from leaf pattern.now)
+        (firsts count (tree_of bind.now)) }
 {
     if count == 0 {
         return verify(pattern, leaf, log, bind);
@@ -93,8 +104,8 @@ fn verify_left(pattern: &Pattern, leaf: u32, log: &Log, count: u32, bind: &Bind)
     }
 }
 
-/// The span of the parts of a `Many`, where there are so many, each is a binding, no number is in two
-/// of them, and their greatest numbers ascend.
+/// The span of a `Many`, where it has this many parts, each is a binding, no two share a number,
+/// and their greatest numbers ascend.
 #[cycle(verify)]
 fn verify_repeats(
     pattern: &Pattern,
@@ -104,8 +115,10 @@ fn verify_repeats(
     count: u32,
 ) -> Option<Span>
     requires { leaf + leaves pattern.now < 2 ^ 32 }
-    ensures { result ≡ span_if (are_repeats (is_binding (observed_in log.now) (numbered_from leaf pattern.now)) count
-        (many_of (map tree_of parts.now))) (span_of (observed_in log.now) (many_of (map tree_of parts.now))) }
+    ensures { result ≡ span_if (are_repeats
+        (is_binding (observed_in log.now) (numbered_from leaf pattern.now)) count
+        (many_of (map tree_of parts.now)))
+        (span_of (observed_in log.now) (many_of (map tree_of parts.now))) }
 {
     if parts.len() != count as usize {
         return None;
@@ -120,7 +133,7 @@ fn verify_repeats(
     Some(span)
 }
 
-/// The span, where there is one and it lies in less than so many seconds.
+/// The span, if any, where it covers less than `seconds`.
 fn within(span: Option<Span>, seconds: u32) -> Option<Span>
     ensures { result ≡ option_and_then (λ span. span_if (lies_within seconds span) span) span }
 {
@@ -128,7 +141,7 @@ fn within(span: Option<Span>, seconds: u32) -> Option<Span>
     span_if(span.is_within(seconds), span)
 }
 
-/// The span, where there is one and it lies at `start` or later, and before `stop`.
+/// The span, if any, where it begins at `start` or later and ends before `stop`.
 fn between(span: Option<Span>, start: Instant, stop: Instant) -> Option<Span>
     ensures { result ≡ option_and_then (λ span. span_if (lies_between start stop span) span) span }
 {
@@ -136,9 +149,10 @@ fn between(span: Option<Span>, start: Instant, stop: Instant) -> Option<Span>
     span_if(span.is_between(start, stop), span)
 }
 
-/// The span of two binds together, where they share no number and the join admits them.
+/// The combined span, where the two are disjoint and the operator admits them.
 fn joined(join: Join, first: &Span, second: &Span, are_disjoint: bool) -> Option<Span>
-    ensures { result ≡ span_if (admits join first.now second.now && are_disjoint) (joined_span first.now second.now) }
+    ensures { result ≡ span_if (admits join first.now second.now && are_disjoint)
+        (joined_span first.now second.now) }
 {
     span_if(
         join.admits(first, second) && are_disjoint,

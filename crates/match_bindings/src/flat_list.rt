@@ -6,8 +6,8 @@ use crate::Bind;
 use flow_values::{Items, NoMemory};
 use std::alloc::Global;
 
-/// The numbers of a bind from left to right, with 0 before those of a `First`, and
-/// 18446744073709551615 before those of a `Second`.
+/// The flat list of a binding: its numbers from left to right, with 0 before those of a `First`,
+/// and 18446744073709551615 (u64::MAX) before those of a `Second`.
 pub fn flat(alloc: Global, bind: &Bind) -> Result<Items<u64>, NoMemory>
     ensures { IfOk result (λ entries. entries ≡ flat (tree_of bind.now)) }
 {
@@ -16,7 +16,7 @@ pub fn flat(alloc: Global, bind: &Bind) -> Result<Items<u64>, NoMemory>
     Ok(Items::from_vec(entries))
 }
 
-/// Adds the flat list of a bind.
+/// Appends the flat list of a binding.
 #[cycle(flat)]
 pub(crate) fn push_flat(bind: &Bind, out: &mut Vec<u64>) -> Result<(), NoMemory>
     ensures { OnOk result (out.new.items ≡ out.old.items ++ flat (tree_of bind.now)) }
@@ -40,7 +40,7 @@ pub(crate) fn push_flat(bind: &Bind, out: &mut Vec<u64>) -> Result<(), NoMemory>
     Ok(())
 }
 
-/// Adds the zeros of a `First`.
+/// Appends the zeros of a `First`.
 fn push_zeros(more: u32, out: &mut Vec<u64>) -> Result<(), NoMemory>
     ensures { OnOk result (out.new.items ≡ out.old.items ++ replicate (more + 1) 0) }
 {
@@ -49,10 +49,11 @@ fn push_zeros(more: u32, out: &mut Vec<u64>) -> Result<(), NoMemory>
     Ok(())
 }
 
-/// Adds the flat lists of binds.
+/// Appends the flat lists of bindings.
 #[cycle(flat)]
 fn push_flats(binds: &[Bind], out: &mut Vec<u64>) -> Result<(), NoMemory>
-    ensures { OnOk result (out.new.items ≡ out.old.items ++ flat (many_of (map tree_of binds.now))) }
+    ensures { OnOk result (out.new.items ≡ out.old.items
+        ++ flat (many_of (map tree_of binds.now))) }
 {
     for bind in binds {
         push_flat(bind, out)?;

@@ -1,3 +1,5 @@
+//! The binary operators on bindings.
+
 ghost use Rattle.std.specs.Prelude.{◌≡◌, ◌++◌, IfOk, OnOk, map};
 ghost use Rattle.match_bindings.specs.BindTree.{Pair, Single, tree_of, many_of, add_part};
 ghost use Rattle.match_bindings.specs.inner.Candidates.{spanned_tree, spanned_trees, joined_tree, admits, may_join, join_row, joins};
@@ -12,19 +14,19 @@ use flow_values::{Items, NoMemory};
 use std::alloc::Global;
 use std::rc::Rc;
 
-/// How two binds are joined.
+/// The operator that joins two bindings.
 #[derive(Clone, Copy)]
 pub(crate) enum Join {
-    /// As the sides of an `AND`.
+    /// `AND`.
     Both,
-    /// As the sides of a `FOLLOWEDBY`.
+    /// `FOLLOWEDBY`.
     Then,
-    /// As the parts of a `REPEATS` so far, and the next one.
+    /// `REPEATS`: its parts so far, and the next one.
     Repeats,
 }
 
 impl Join {
-    /// Whether two spans stand in the order that the join asks.
+    /// Whether two spans are in the order that the operator requires.
     pub fn admits(self, first: &Span, second: &Span) -> bool
         ensures { result ≡ admits self first.now second.now }
     {
@@ -35,9 +37,10 @@ impl Join {
         }
     }
 
-    /// The bind of two binds.
+    /// The joined binding.
     fn bind(self, alloc: Global, first: &Bind, second: &Bind) -> Result<Bind, NoMemory>
-        ensures { IfOk result (λ bind. tree_of bind ≡ joined_tree self (tree_of first.now) (tree_of second.now)) }
+        ensures { IfOk result (λ bind. tree_of bind
+            ≡ joined_tree self (tree_of first.now) (tree_of second.now)) }
     {
         match self {
             Join::Both | Join::Then => with_sides(alloc, first, second),
@@ -45,16 +48,17 @@ impl Join {
         }
     }
 
-    /// Whether two binds are joined.
+    /// Whether two bindings join within the limits.
     fn may_join(self, bounds: &Bounds, first: &SpannedBind, second: &SpannedBind) -> bool
-        ensures { result ≡ may_join self bounds.now (spanned_tree first.now) (spanned_tree second.now) }
+        ensures { result ≡ may_join self bounds.now (spanned_tree first.now)
+            (spanned_tree second.now) }
     {
         self.admits(&first.span, &second.span)
             && bounds.fits(&first.span.joined(&second.span))
             && are_disjoint(&first.bind, &second.bind)
     }
 
-    /// Joins a bind with each of the others that it is joined with.
+    /// Joins a binding with each of the others that it joins.
     fn join_row(
         self,
         alloc: Global,
@@ -63,7 +67,8 @@ impl Join {
         seconds: &[SpannedBind],
         out: &mut Vec<SpannedBind>,
     ) -> Result<(), NoMemory>
-        ensures { OnOk result (spanned_trees out.new.items ≡ spanned_trees out.old.items ++ join_row self bounds.now (spanned_tree first.now) (spanned_trees seconds.now)) }
+        ensures { OnOk result (spanned_trees out.new.items ≡ spanned_trees out.old.items
+            ++ join_row self bounds.now (spanned_tree first.now) (spanned_trees seconds.now)) }
     {
         for second in seconds {
             if self.may_join(bounds, first, second) {
@@ -75,7 +80,8 @@ impl Join {
         Ok(())
     }
 
-    /// Each of the first binds with each of the second ones that it is joined with.
+    /// Joins each of the first bindings with each of the second ones that it joins. A nested-loop
+    /// join.
     pub fn join(
         self,
         alloc: Global,
@@ -83,7 +89,8 @@ impl Join {
         firsts: &[SpannedBind],
         seconds: &[SpannedBind],
     ) -> Result<Vec<SpannedBind>, NoMemory>
-        ensures { IfOk result (λ out. spanned_trees out.items ≡ joins self bounds.now (spanned_trees firsts.now) (spanned_trees seconds.now)) }
+        ensures { IfOk result (λ out. spanned_trees out.items
+            ≡ joins self bounds.now (spanned_trees firsts.now) (spanned_trees seconds.now)) }
     {
         let mut out = Vec::new(alloc);
         for first in firsts {
@@ -93,7 +100,7 @@ impl Join {
     }
 }
 
-/// Two binds as the sides of an `AND` or a `FOLLOWEDBY`.
+/// The binding of an `AND` or a `FOLLOWEDBY` of these two.
 pub fn with_sides(alloc: Global, left: &Bind, right: &Bind) -> Result<Bind, NoMemory>
     ensures { IfOk result (λ bind. tree_of bind ≡ Pair (tree_of left.now) (tree_of right.now)) }
 {
@@ -102,7 +109,7 @@ pub fn with_sides(alloc: Global, left: &Bind, right: &Bind) -> Result<Bind, NoMe
     Ok(Bind::Both(Rc::new(alloc, (left, right))?))
 }
 
-/// A bind as the only part of a `Many`.
+/// A `Many` of one part.
 pub fn singleton(alloc: Global, part: &Bind) -> Result<Bind, NoMemory>
     ensures { IfOk result (λ bind. tree_of bind ≡ Single (tree_of part.now)) }
 {
@@ -111,7 +118,8 @@ pub fn singleton(alloc: Global, part: &Bind) -> Result<Bind, NoMemory>
     Ok(Bind::Many(Rc::new(alloc, parts)?))
 }
 
-/// The parts of a `Many`, and one more part at the end; that part alone for another bind.
+/// A `Many` with one more part at the end. Where `parts` is no `Many`, a `Many` of the new part
+/// alone.
 pub fn with_part(alloc: Global, parts: &Bind, part: &Bind) -> Result<Bind, NoMemory>
     ensures { IfOk result (λ bind. tree_of bind ≡ add_part (tree_of parts.now) (tree_of part.now)) }
 {
@@ -120,7 +128,7 @@ pub fn with_part(alloc: Global, parts: &Bind, part: &Bind) -> Result<Bind, NoMem
     Ok(Bind::Many(Rc::new(alloc, parts)?))
 }
 
-/// The parts of a `Many`; none of another bind.
+/// The parts of a `Many`. Empty for any other binding.
 #[tactic(auto, using(crate::proofs::ManyLemmas::many_chain, crate::proofs::ManyLemmas::no_chain))]
 fn parts_of(alloc: Global, bind: &Bind) -> Result<Items<Bind>, NoMemory>
     ensures { IfOk result (λ parts. many_of (map tree_of parts) ≡ chain_of (tree_of bind.now)) }
@@ -131,7 +139,7 @@ fn parts_of(alloc: Global, bind: &Bind) -> Result<Items<Bind>, NoMemory>
     }
 }
 
-/// Equal binds.
+/// Copies of bindings.
 fn clones(alloc: Global, binds: &[Bind]) -> Result<Items<Bind>, NoMemory>
     ensures { IfOk result (λ clones. map tree_of clones ≡ map tree_of binds.now) }
 {

@@ -1,4 +1,5 @@
-//! What follows from the definitions: the contracts are the laws, and the functions do nothing.
+//! Theorems about the definitions of this crate. The contracts state them; the functions do nothing
+//! at run time.
 
 ghost use Rattle.std.specs.Prelude.{◌≡◌, ◌≤◌, ◌<◌, ◌↔◌, ◌∷◌, ◌++◌, true, List};
 ghost use Rattle.std.specs.List.Sorted.{IsSortedBy};
@@ -12,44 +13,52 @@ ghost use Rattle.match_bindings.specs.Once.{bit, count, Exactly};
 ghost use Rattle.match_bindings.specs.Flat.{flat, comes_before, Ascends};
 ghost use Rattle.match_bindings.specs.Listing.{IsListing};
 
-/// The test of a binding is the rule.
+/// The test `is_binding` decides the relation `IsBinding`.
 pub fn test_is_the_rule()
-    ensures { (o : Observed) (p : NumberedPattern) (x : BindTree) → (is_binding o p x ≡ true) ↔ IsBinding o p x }
+    ensures { (o : Observed) (p : NumberedPattern) (x : BindTree) → (is_binding o p x ≡ true)
+        ↔ IsBinding o p x }
 {}
 
-/// A listing is what the test lets through, each once, in order.
+/// A listing has what passes the test, each once, in order.
 pub fn listing_is_by_the_test()
-    ensures { (o : Observed) (p : NumberedPattern) (xs : List BindTree) → IsListing o p xs ↔ (Exactly (is_binding o p) xs × Ascends xs) }
+    ensures { (o : Observed) (p : NumberedPattern) (xs : List BindTree) → IsListing o p xs
+        ↔ (Exactly (is_binding o p) xs × Ascends xs) }
 {}
 
-/// There is one listing.
+/// The listing of a log is unique.
 pub fn one_listing()
-    ensures { (o : Observed) (p : NumberedPattern) (xs ys : List BindTree) → IsListing o p xs → IsListing o p ys → xs ≡ ys }
+    ensures { (o : Observed) (p : NumberedPattern) (xs ys : List BindTree) → IsListing o p xs
+        → IsListing o p ys → xs ≡ ys }
 {}
 
 /// Different bindings of a pattern have different flat lists.
 pub fn flat_lists_are_unique()
-    ensures { (o : Observed) (p : NumberedPattern) (x y : BindTree) → IsBinding o p x → IsBinding o p y → flat x ≡ flat y → x ≡ y }
+    ensures { (o : Observed) (p : NumberedPattern) (x y : BindTree) → IsBinding o p x
+        → IsBinding o p y → flat x ≡ flat y → x ≡ y }
 {}
 
 /// A binding over a log is one over every longer log.
 pub fn bindings_persist()
-    ensures { (log more : List LogEntry) (p : NumberedPattern) (x : BindTree) → IsBinding (observed_in log) p x
+    ensures { (log more : List LogEntry) (p : NumberedPattern) (x : BindTree)
+        → IsBinding (observed_in log) p x
         → IsBinding (observed_in (log ++ more)) p x }
 {}
 
-/// Bindings of one pattern, none of them twice, ascend where each isn't before the one ahead of it.
+/// A sorted list of distinct bindings of one pattern is strictly ascending.
 pub fn sorted_bindings_ascend()
-    ensures { (o : Observed) (p : NumberedPattern) (xs : List BindTree) → ((x : BindTree) → count x xs ≤ bit (is_binding o p x))
+    ensures { (o : Observed) (p : NumberedPattern) (xs : List BindTree)
+        → ((x : BindTree) → count x xs ≤ bit (is_binding o p x))
         → IsSortedBy comes_before xs → Ascends xs }
 {}
 
 /// Every log has a listing.
 pub fn listings_exist()
-    ensures { (log : List LogEntry) (p : NumberedPattern) → (xs : List BindTree) × IsListing (observed_in log) p xs }
+    ensures { (log : List LogEntry) (p : NumberedPattern)
+        → (xs : List BindTree) × IsListing (observed_in log) p xs }
 {}
 
-/// In a ascending list each tree comes before all behind it.
+/// In an ascending list each tree comes before all later ones.
 pub fn ascending_lists_are_ordered()
-    ensures { (x : BindTree) (xs : List BindTree) → Ascends (x ∷ xs) → (y : BindTree) → 0 < count y xs → comes_before x y ≡ true }
+    ensures { (x : BindTree) (xs : List BindTree) → Ascends (x ∷ xs) → (y : BindTree)
+        → 0 < count y xs → comes_before x y ≡ true }
 {}

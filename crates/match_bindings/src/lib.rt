@@ -1,7 +1,18 @@
-//! Bindings: which observations of a log match a pattern of STIX 2.1 (sections 9.3 to 9.5), and how.
+//! Bindings: which observations of a log match a STIX pattern, and how (STIX 2.1, sections 9.3 to
+//! 9.5).
 //!
-//! `IsBinding` in specs/Binding.antt is the rule, `check_binding` its test, and `listing` lists every
-//! binding of a pattern over a log, each once.
+//! `IsBinding` in specs/Binding.antt is the definition. `check_binding` decides it for one binding
+//! without memory, and `listing` computes all bindings of a pattern over a log, each once, in
+//! order. A binding is a tree (`Bind`) that mirrors the pattern; its flat list orders it, and its
+//! line writes it down. `laws` has the theorems: a pattern has one listing, and different bindings
+//! have different flat lists.
+//!
+//! ```text
+//! let mut log = Log::new(alloc);
+//! log.push(first, last, truths)?; // of each observation, in the order of their last times
+//! let bindings = listing(alloc, &pattern, &log)?;
+//! let line = line_of(alloc, &bind)?; // such as "3: L 1 3"
+//! ```
 #![tactic(auto)]
 
 mod ascending;

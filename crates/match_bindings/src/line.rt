@@ -8,8 +8,8 @@ use crate::numbers::greatest_number;
 use flow_values::{NoMemory, Text};
 use std::alloc::Global;
 
-/// The line of a bind: its greatest number, `:`, and its numbers from left to right, with `L` before
-/// those of a `First` and `R` before those of a `Second`.
+/// The line of a binding: its greatest number, `:`, and its numbers from left to right, with `L`
+/// before those of a `First` and `R` before those of a `Second`.
 pub fn line_of(alloc: Global, bind: &Bind) -> Result<Text, NoMemory>
     ensures { IfOk result (λ line. line ≡ line_text (tree_of bind.now)) }
 {
@@ -18,9 +18,10 @@ pub fn line_of(alloc: Global, bind: &Bind) -> Result<Text, NoMemory>
     Ok(Text::from_string(line))
 }
 
-/// Adds the line of a bind.
+/// Appends the line of a binding.
 fn push_line(bind: &Bind, line: &mut String) -> Result<(), NoMemory>
-    ensures { OnOk result (string_bytes line.new ≡ string_bytes line.old ++ line_text (tree_of bind.now)) }
+    ensures { OnOk result (string_bytes line.new ≡ string_bytes line.old
+        ++ line_text (tree_of bind.now)) }
 {
     push_number(greatest_number(bind), line)?;
     line.push_str(":")?;
@@ -29,10 +30,11 @@ fn push_line(bind: &Bind, line: &mut String) -> Result<(), NoMemory>
     Ok(())
 }
 
-/// Adds the entries of a bind, a space before each.
+/// Appends the entries of a binding, a space before each.
 #[cycle(entries)]
 fn push_entries(bind: &Bind, line: &mut String) -> Result<(), NoMemory>
-    ensures { OnOk result (string_bytes line.new ≡ string_bytes line.old ++ entries_text (tree_of bind.now)) }
+    ensures { OnOk result (string_bytes line.new ≡ string_bytes line.old
+        ++ entries_text (tree_of bind.now)) }
 {
     match bind {
         Bind::One(number) => {
@@ -56,9 +58,10 @@ fn push_entries(bind: &Bind, line: &mut String) -> Result<(), NoMemory>
     Ok(())
 }
 
-/// Adds the letters of a `First`, a space before each.
+/// Appends the letters of a `First`, a space before each.
 fn push_letters(more: u32, line: &mut String) -> Result<(), NoMemory>
-    ensures { OnOk result (string_bytes line.new ≡ string_bytes line.old ++ repeat (more + 1) (codes " L")) }
+    ensures { OnOk result (string_bytes line.new ≡ string_bytes line.old
+        ++ repeat (more + 1) (codes " L")) }
 {
     line.push_str(" L")?;
     for _ in 0..more {
@@ -67,10 +70,11 @@ fn push_letters(more: u32, line: &mut String) -> Result<(), NoMemory>
     Ok(())
 }
 
-/// Adds the entries of binds.
+/// Appends the entries of bindings.
 #[cycle(entries)]
 fn push_all_entries(binds: &[Bind], line: &mut String) -> Result<(), NoMemory>
-    ensures { OnOk result (string_bytes line.new ≡ string_bytes line.old ++ entries_text (many_of (map tree_of binds.now))) }
+    ensures { OnOk result (string_bytes line.new ≡ string_bytes line.old
+        ++ entries_text (many_of (map tree_of binds.now))) }
 {
     for bind in binds {
         push_entries(bind, line)?;
@@ -78,7 +82,7 @@ fn push_all_entries(binds: &[Bind], line: &mut String) -> Result<(), NoMemory>
     Ok(())
 }
 
-/// Adds a number in decimal.
+/// Appends a number in decimal.
 fn push_number(number: u64, line: &mut String) -> Result<(), NoMemory>
     ensures { OnOk result (string_bytes line.new ≡ string_bytes line.old ++ decimal number) }
 {

@@ -10,7 +10,7 @@ use std::alloc::Global;
 use std::marker::Model;
 use stix_times::Instant;
 
-/// Observations in the order of their last times. Contracts see the list of its rows.
+/// A log: observations in the order of their last times. Contracts observe the list of its rows.
 #[derive(Drop)]
 pub struct Log {
     rows: Vec<LogEntry>,
@@ -38,7 +38,7 @@ impl Log {
         }
     }
 
-    /// Adds an observation at the end. Without memory the log stays as it was.
+    /// Appends an observation. Out of memory leaves the log unchanged.
     pub fn push(
         &mut self,
         first: Instant,
@@ -47,7 +47,8 @@ impl Log {
     ) -> Result<(), NoMemory>
         requires span { first ≤ℤ last }
         requires order { LastIsBy self.old last }
-        ensures ok { OnOk result (self.new ≡ self.old ++ record { first = first; last = last; truths = truths } ∷ []) }
+        ensures ok { OnOk result (self.new ≡ self.old
+            ++ record { first = first; last = last; truths = truths } ∷ []) }
         ensures err { OnErr result (self.new ≡ self.old) }
     {
         self.rows.push(LogEntry {
@@ -65,9 +66,10 @@ impl Log {
         self.rows.len() as u64
     }
 
-    /// The span of an observation for which a leaf holds.
+    /// The span of an observation, where the leaf holds for it.
     pub(crate) fn span_of(&self, leaf: u32, number: u64) -> Option<Span>
-        ensures { result ≡ span_if ((observed_in self.now).holds leaf number) (span_of (observed_in self.now) (One number)) }
+        ensures { result ≡ span_if ((observed_in self.now).holds leaf number)
+            (span_of (observed_in self.now) (One number)) }
     {
         if number == 0 {
             return None;

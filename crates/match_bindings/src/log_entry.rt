@@ -4,8 +4,8 @@ ghost use Rattle.match_bindings.specs.Log.{truth};
 use flow_values::Items;
 use stix_times::Instant;
 
-/// An observation of a log: the span of time that it covers, and for each leaf of a pattern whether
-/// the leaf holds for it.
+/// A row of a log: the first and last time of an observation, and for each leaf of a pattern
+/// whether it holds.
 #[derive(Drop)]
 pub struct LogEntry {
     pub first: Instant,

@@ -1,9 +1,11 @@
+//! The observation numbers of bindings.
+
 ghost use Rattle.std.specs.Prelude.{◌≡◌, map};
 ghost use Rattle.match_bindings.specs.BindTree.{tree_of, many_of, has, disjoint, greatest};
 
 use crate::Bind;
 
-/// Whether a number is one of the bind's.
+/// Whether a binding has the number.
 #[cycle(has)]
 pub(crate) fn has_number(number: u64, bind: &Bind) -> bool
     ensures { result ≡ has number (tree_of bind.now) }
@@ -16,7 +18,7 @@ pub(crate) fn has_number(number: u64, bind: &Bind) -> bool
     }
 }
 
-/// Whether a number is one of the binds'.
+/// Whether one of the bindings has it.
 #[cycle(has)]
 #[tactic(auto, using(crate::proofs::ManyLemmas::many_has))]
 fn any_has_number(number: u64, binds: &[Bind]) -> bool
@@ -30,7 +32,7 @@ fn any_has_number(number: u64, binds: &[Bind]) -> bool
     false
 }
 
-/// Whether two binds share no number. Takes no memory.
+/// Whether two bindings have no number in common. Takes no memory.
 #[cycle(disjoint)]
 pub fn are_disjoint(bind: &Bind, other: &Bind) -> bool
     ensures { result ≡ disjoint (tree_of bind.now) (tree_of other.now) }
@@ -43,7 +45,7 @@ pub fn are_disjoint(bind: &Bind, other: &Bind) -> bool
     }
 }
 
-/// Whether none of the binds shares a number with the other one.
+/// Whether none of the bindings has a number in common with `other`.
 #[cycle(disjoint)]
 #[tactic(auto, using(crate::proofs::ManyLemmas::many_disjoint))]
 pub(crate) fn all_disjoint(binds: &[Bind], other: &Bind) -> bool
@@ -57,7 +59,7 @@ pub(crate) fn all_disjoint(binds: &[Bind], other: &Bind) -> bool
     true
 }
 
-/// The greatest number of a bind, or 0. Takes no memory.
+/// The greatest number of a binding, or 0. Takes no memory.
 #[cycle(greatest)]
 pub fn greatest_number(bind: &Bind) -> u64
     ensures { result ≡ greatest (tree_of bind.now) }
@@ -70,7 +72,7 @@ pub fn greatest_number(bind: &Bind) -> u64
     }
 }
 
-/// The greatest number of some binds, or 0.
+/// The greatest number of some bindings, or 0.
 #[cycle(greatest)]
 #[tactic(auto, using(crate::proofs::ManyLemmas::many_greatest))]
 fn greatest_of_all(binds: &[Bind]) -> u64

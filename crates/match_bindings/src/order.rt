@@ -1,3 +1,7 @@
+//! Sorts bindings by greatest number and then by flat list. A list that is seen to be sorted
+//! already is returned as it is; any other is sorted by precomputed keys (decorate, sort,
+//! undecorate).
+
 ghost use Rattle.std.specs.Prelude.{◌≡◌, IfOk, map};
 ghost use Rattle.std.specs.List.Sorted.{IsSortedBy};
 ghost use Rattle.match_bindings.specs.BindTree.{BindTree, tree_of};
@@ -13,9 +17,11 @@ use crate::ranked::Ranked;
 use flow_values::NoMemory;
 use std::alloc::Global;
 
-/// Binds by greatest number and then by flat list. Those that are seen to be in order take no memory.
+/// The bindings, sorted by greatest number and then by flat list. Takes no memory where they are
+/// seen to be sorted already.
 pub fn in_order(alloc: Global, binds: Vec<Bind>) -> Result<Vec<Bind>, NoMemory>
-    ensures counts { IfOk result (λ sorted. (x : BindTree) → count x (map tree_of sorted.items) ≡ count x (map tree_of binds.items)) }
+    ensures counts { IfOk result (λ sorted. (x : BindTree)
+        → count x (map tree_of sorted.items) ≡ count x (map tree_of binds.items)) }
     ensures ascends { IfOk result (λ sorted. IsSortedBy comes_before (map tree_of sorted.items)) }
 {
     if binds.len() < 2 || are_ascending(&binds) {
@@ -25,9 +31,10 @@ pub fn in_order(alloc: Global, binds: Vec<Bind>) -> Result<Vec<Bind>, NoMemory>
     Ok(sorted)
 }
 
-/// Binds by their ranks.
+/// Sorts by precomputed keys.
 fn by_rank(alloc: Global, binds: Vec<Bind>) -> Result<Vec<Bind>, NoMemory>
-    ensures counts { IfOk result (λ sorted. (x : BindTree) → count x (map tree_of sorted.items) ≡ count x (map tree_of binds.items)) }
+    ensures counts { IfOk result (λ sorted. (x : BindTree)
+        → count x (map tree_of sorted.items) ≡ count x (map tree_of binds.items)) }
     ensures ascends { IfOk result (λ sorted. IsSortedBy comes_before (map tree_of sorted.items)) }
 {
     let mut all = ranked(alloc, binds)?;
@@ -36,7 +43,7 @@ fn by_rank(alloc: Global, binds: Vec<Bind>) -> Result<Vec<Bind>, NoMemory>
     Ok(sorted)
 }
 
-/// Binds beside their ranks.
+/// Each binding with its sort key.
 fn ranked(alloc: Global, binds: Vec<Bind>) -> Result<Vec<Ranked>, NoMemory>
     ensures { IfOk result (λ all. ranked_trees all.items ≡ map tree_of binds.items) }
 {
@@ -50,7 +57,7 @@ fn ranked(alloc: Global, binds: Vec<Bind>) -> Result<Vec<Ranked>, NoMemory>
     Ok(all)
 }
 
-/// The binds without their ranks.
+/// The bindings without their sort keys.
 fn unranked(alloc: Global, all: Vec<Ranked>) -> Result<Vec<Bind>, NoMemory>
     ensures { IfOk result (λ binds. map tree_of binds.items ≡ ranked_trees all.items) }
 {

@@ -4,7 +4,7 @@ ghost use Rattle.match_bindings.specs.Flat.{rank};
 
 use crate::Bind;
 
-/// A bind beside what it is ordered by: its greatest number and then its flat list.
+/// A binding with its sort key: its greatest number, then its flat list.
 #[derive(Drop)]
 pub(crate) struct Ranked {
     pub key: Vec<u64>,

@@ -5,7 +5,7 @@ use stix_times::{Instant, nanos};
 
 const NANOS_PER_SECOND: i128 = 1_000_000_000;
 
-/// The earliest and the latest time of a bind, and its greatest number.
+/// The earliest and the latest time of a binding, and its greatest number.
 #[derive(Drop)]
 pub(crate) struct Span {
     pub earliest: Instant,
@@ -14,7 +14,7 @@ pub(crate) struct Span {
 }
 
 impl Span {
-    /// The span of two binds together.
+    /// The span of two bindings together.
     pub fn joined(&self, other: &Span) -> Span
         ensures { result ≡ joined_span self.now other.now }
     {
@@ -33,7 +33,7 @@ impl Span {
         }
     }
 
-    /// An equal span.
+    /// A copy.
     pub fn copied(&self) -> Span
         ensures { result ≡ self.now }
     {
@@ -44,14 +44,14 @@ impl Span {
         }
     }
 
-    /// Whether it lies in less than so many seconds.
+    /// Whether it covers less than this many seconds.
     pub fn is_within(&self, seconds: u32) -> bool
         ensures { result ≡ lies_within seconds self.now }
     {
         nanos(self.latest) < nanos(self.earliest) + NANOS_PER_SECOND * i128::from(seconds)
     }
 
-    /// Whether it lies at `start` or later, and before `stop`.
+    /// Whether it begins at `start` or later, and ends before `stop`.
     pub fn is_between(&self, start: Instant, stop: Instant) -> bool
         ensures { result ≡ lies_between start stop self.now }
     {

@@ -1,7 +1,7 @@
 use crate::Bind;
 use crate::span::Span;
 
-/// A bind with its span.
+/// A binding with its span.
 #[derive(Drop)]
 pub(crate) struct SpannedBind {
     pub bind: Bind,

@@ -1,5 +1,5 @@
--- When a text is like a pattern (STIX 2.1, section 9.6.1, the operator LIKE). Texts and patterns are
--- lists of code points.
+-- When a text matches a LIKE pattern (STIX 2.1, section 9.6.1). Texts and patterns are lists of
+-- code points.
 use Rattle.std.specs.Prelude.{◌≡◌, ◌≢◌, ℕ, List, [], ◌∷◌, length}
 use Rattle.std.specs.List.{concat}
 
@@ -11,13 +11,13 @@ any_run = 37
 abbrev pub any_one : ℕ
 any_one = 95
 
--- a segment fits a character of the pattern: `%` asks nothing of it, `_` that it is one code point, and
--- any other character that it is this character
+-- a segment of the text fits a character of the pattern: any segment fits `%`, one code point fits
+-- `_`, and any other character fits itself
 pub record Fits (segment : List ℕ) (character : ℕ) : Type 0 where
   pub one : character ≡ any_one → length segment ≡ 1
   pub itself : character ≢ any_run → character ≢ any_one → segment ≡ character ∷ []
 
--- there are as many segments as characters, and each segment fits its character
+-- as many segments as characters, and each fits its character
 abbrev pub AllFit : List (List ℕ) → List ℕ → Type 0
 AllFit [] [] = Unit {0}
 AllFit (segment ∷ segments) (character ∷ characters) = Fits segment character × AllFit segments characters
@@ -30,6 +30,6 @@ pub record Cut (text pattern : List ℕ) : Type 0 where
   pub whole : text ≡ concat segments
   pub fit : AllFit segments pattern
 
--- the text is like the pattern where there is such a cut
+-- the text matches the pattern if there is such a cut
 unfoldable pub IsLike : List ℕ → List ℕ → Type 0
 IsLike text pattern = Cut text pattern

@@ -1,5 +1,5 @@
--- Whether a comparison holds for values, and what stands in a bracket for an observation (STIX 2.1, section 9.6). `last`
--- is the last property name of a path.
+-- Whether a comparison holds for values, and a bracket for an observation (STIX 2.1, section 9.6).
+-- `last` is the last property name of a path.
 use Rattle.std.specs.Prelude.{◌≡◌, ◌⊎◌, ⊤, ℕ, ℤ, Bool, true, false, IsTrue, List, fold, Contains, Option, Some, None, Ok, codes}
 use Rattle.std.specs.Str.{chars}
 use Rattle.std.specs.Ordering.{nat_cmp, int_cmp, bool_cmp}
@@ -29,19 +29,20 @@ use Rattle.match_comparisons.specs.Selection.{EndsIn, last_name, IsRoot, IsSelec
 abbrev pub last_of : Path → Option (List ℕ)
 last_of path = fold last_name None path.steps
 
--- the bytes that a text stands for, by the name of its property
+-- the bytes that a text encodes, by the name of its property
 abbrev pub IsBytesOf : Option (List ℕ) → List ℕ → List ℕ → Type 0
 IsBytesOf None text bytes = ⊥
 IsBytesOf (Some name) text bytes = (EndsIn (codes "_hex") name × (decode_of text ≡ Ok bytes))
     ⊎ (EndsIn (codes "_bin") name × IsBytes bytes × (text ≡ encode_of standard bytes))
 
--- the value is a text that stands for bytes, and these compare so
+-- the value encodes bytes that have this order to the constant
 abbrev pub BytesCompare : Option (List ℕ) → Data → List ℕ → Ordering → Type 0
 BytesCompare last value bytes order = (text decoded : List ℕ) × (as_str value ≡ Some text) × IsBytesOf last text decoded
     × (order ≡ slice_cmp nat_cmp decoded bytes)
 
--- the value is of the constant's kind, and compares so with it: whole numbers by size, texts by code point (so by the
--- bytes of their UTF-8), times by instant, bytes in order; false before true
+-- the value is of the constant's kind, and has this order to it: integers by size, texts by code
+-- point (so by the bytes of their UTF-8), times by instant, bytes lexicographically; false before
+-- true
 abbrev pub Compares : Option (List ℕ) → Data → Constant → Ordering → Type 0
 Compares last value (Integer whole) order = (m : ℤ) × (value ≡ number (of_integer m)) × (order ≡ int_cmp m whole)
 Compares last value (String words) order = (text : List ℕ) × (as_str value ≡ Some text) × (order ≡ slice_cmp nat_cmp text words)
@@ -51,7 +52,7 @@ Compares last value (Timestamp instant) order = (text : List ℕ) × (i : ℤ) �
 Compares last value (Hex bytes) order = BytesCompare last value bytes order
 Compares last value (Binary bytes) order = BytesCompare last value bytes order
 
--- the value is the text of the block
+-- the value spells the block
 abbrev pub IsBlockOf : Data → Block → Type 0
 IsBlockOf value block = (text : List ℕ) × (as_str value ≡ Some text) × IsBlockText text block
 
@@ -69,12 +70,12 @@ Meets last value (Subset address) = (block : Block) × IsBlockOf value block × 
 Meets last value (Superset address) = (block : Block) × IsBlockOf value block × IsWithin address.block block
 Meets last value Exists = ⊤
 
--- NOT turns a fact
+-- NOT negates a fact
 abbrev pub NegatedIf : Bool → Type 0 → Type 0
 NegatedIf false Fact = Fact
 NegatedIf true Fact = ¬ Fact
 
--- a negated test turns the answer for each value, whatever its kind
+-- a negated test negates the answer for each value, whatever its kind
 abbrev pub MeetsTest : Option (List ℕ) → Data → Test → Type 0
 MeetsTest last value test = NegatedIf test.negated (Meets last value test.check)
 
@@ -109,6 +110,6 @@ abbrev mutual
   SomeHold objects root none = ⊥
   SomeHold objects root (more part parts) = HoldsAt objects root part ⊎ SomeHold objects root parts
 
--- a bracket holds for an observation where one of its roots meets the whole of it: not one root for each test
+-- a bracket holds for an observation where a single root meets the whole bracket
 abbrev pub LeafHolds : List Data → List ℕ → PlainLeaf → Type 0
 LeafHolds objects roots leaf = (root : ℕ) × Contains roots root × HoldsAt objects root leaf

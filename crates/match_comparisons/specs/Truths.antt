@@ -6,7 +6,7 @@ use Rattle.stix_bundles.specs.declared.observation.Observation.{Observation}
 use Rattle.pattern_types.specs.PlainPattern.{PlainPattern, a_leaf, a_both, an_either, a_then, a_limited}
 use Rattle.match_comparisons.specs.Tests.{LeafHolds}
 
--- those of the left side, and then those of the right
+-- the truths of the left side, then those of the right
 abbrev pub AreOfBoth : {A : Type 0} → (List A → Type 0) → (List A → Type 0) → List A → Type 0
 AreOfBoth {A} AreLeft IsSoundMemo truths = (lefts rights : List A) × AreLeft lefts × IsSoundMemo rights × (truths ≡ lefts ++ rights)
 

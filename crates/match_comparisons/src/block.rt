@@ -1,3 +1,5 @@
+//! CIDR blocks, for `ISSUBSET` and `ISSUPERSET` (STIX 2.1, section 9.6.1).
+
 ghost use Rattle.std.specs.Prelude.{◌≡◌, ◌↔◌, Some, IfSome, IsTrue};
 ghost use Rattle.pattern_types.specs.Block.{IsValid, IsWithin};
 ghost use Rattle.pattern_types.specs.declared.block.Block.{Block};
@@ -7,7 +9,7 @@ ghost use Rattle.match_comparisons.specs.Tests.{IsBlockOf};
 use pattern_types::{Block, read_block, within};
 use stix_json::{Json, text_of};
 
-/// The block whose text a value is.
+/// The block that a value spells, if it does.
 fn block_of(value: &Json) -> Option<Block>
     ensures exact { (block : Block) → (result ≡ Some block) ↔ IsBlockOf (data_of value.now) block }
     ensures valid { IfSome result IsValid }
@@ -18,10 +20,11 @@ fn block_of(value: &Json) -> Option<Block>
     }
 }
 
-/// Whether a value is the text of a block that lies in that one.
+/// Whether a value spells a block that lies in `outer`.
 pub(crate) fn lies_in(value: &Json, outer: &Block) -> bool
     requires { IsValid outer.now }
-    ensures { IsTrue result ↔ ((block : Block) × IsBlockOf (data_of value.now) block × IsWithin block outer.now) }
+    ensures { IsTrue result ↔ ((block : Block) × IsBlockOf (data_of value.now) block
+        × IsWithin block outer.now) }
 {
     match block_of(value) {
         Some(block) => within(&block, outer),
@@ -29,10 +32,11 @@ pub(crate) fn lies_in(value: &Json, outer: &Block) -> bool
     }
 }
 
-/// Whether a value is the text of a block in which that one lies.
+/// Whether a value spells a block in which `inner` lies.
 pub(crate) fn holds_block(value: &Json, inner: &Block) -> bool
     requires { IsValid inner.now }
-    ensures { IsTrue result ↔ ((block : Block) × IsBlockOf (data_of value.now) block × IsWithin inner.now block) }
+    ensures { IsTrue result ↔ ((block : Block) × IsBlockOf (data_of value.now) block
+        × IsWithin inner.now block) }
 {
     match block_of(value) {
         Some(block) => within(inner, &block),

@@ -1,3 +1,5 @@
+//! Values as bytes: by the suffix of their property's name, `_hex` or `_bin`.
+
 ghost use Rattle.std.specs.Prelude.{◌≡◌, ◌↔◌, List, ℕ, Some, Ok, IfOk, option_map};
 ghost use Rattle.hex.specs.Hex.{decode_of};
 ghost use Rattle.base64.specs.Engines.{standard};
@@ -14,13 +16,15 @@ use hex::FromHexError;
 use std::alloc::Global;
 use stix_json::{Json, text_of};
 
-/// The bytes that a value stands for, by the name of its property.
+/// The bytes that a value encodes, by the name of its property. None where it isn't an encoding of
+/// bytes.
 pub(crate) fn bytes_in(
     alloc: Global,
     last: Option<&str>,
     value: &Json,
 ) -> Result<Option<Items<u8>>, NoMemory>
-    ensures { IfOk result (Represents (option_map (λ name. name.now) last.entry) (data_of value.now)) }
+    ensures { IfOk result (Represents (option_map (λ name. name.now) last.entry)
+        (data_of value.now)) }
 {
     match text_of(value) {
         Some(text) => bytes_of(alloc, last, text),
@@ -28,9 +32,11 @@ pub(crate) fn bytes_in(
     }
 }
 
-/// Those that a text stands for.
+/// The bytes that a text encodes.
 fn bytes_of(alloc: Global, last: Option<&str>, text: &str) -> Result<Option<Items<u8>>, NoMemory>
-    ensures { IfOk result (λ found. (bytes : List ℕ) → IsBytesOf (option_map (λ name. name.now) last.entry) text.now bytes ↔ (found ≡ Some bytes)) }
+    ensures { IfOk result (λ found. (bytes : List ℕ)
+        → IsBytesOf (option_map (λ name. name.now) last.entry) text.now bytes
+        ↔ (found ≡ Some bytes)) }
 {
     let Some(name) = last else {
         return Ok(None);
@@ -46,7 +52,8 @@ fn bytes_of(alloc: Global, last: Option<&str>, text: &str) -> Result<Option<Item
 
 /// The bytes of a hexadecimal text.
 fn hex_of(alloc: Global, text: &str) -> Result<Option<Items<u8>>, NoMemory>
-    ensures { IfOk result (λ found. (bytes : List ℕ) → (decode_of text.now ≡ Ok bytes) ↔ (found ≡ Some bytes)) }
+    ensures { IfOk result (λ found. (bytes : List ℕ) → (decode_of text.now ≡ Ok bytes)
+        ↔ (found ≡ Some bytes)) }
 {
     match hex::decode(alloc, text) {
         Ok(bytes) => Ok(Some(Items::from_vec(bytes))),
@@ -57,7 +64,8 @@ fn hex_of(alloc: Global, text: &str) -> Result<Option<Items<u8>>, NoMemory>
 
 /// The bytes of a padded base64 text.
 fn binary_of(alloc: Global, text: &str) -> Result<Option<Items<u8>>, NoMemory>
-    ensures { IfOk result (λ found. (bytes : List ℕ) → (IsBytes bytes × (text.now ≡ encode_of standard bytes)) ↔ (found ≡ Some bytes)) }
+    ensures { IfOk result (λ found. (bytes : List ℕ)
+        → (IsBytes bytes × (text.now ≡ encode_of standard bytes)) ↔ (found ≡ Some bytes)) }
 {
     match STANDARD.decode(alloc, text.as_bytes()) {
         Ok(bytes) => Ok(Some(Items::from_vec(bytes))),

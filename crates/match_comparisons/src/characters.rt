@@ -1,4 +1,4 @@
-//! Texts, taken apart character by character.
+//! Splitting a text at its first or last character.
 ghost use Rattle.std.specs.Prelude.{◌≡◌, [], ◌∷◌, ◌++◌, MatchOption};
 ghost use Rattle.std.specs.Str.{chars};
 
@@ -13,7 +13,7 @@ pub(crate) fn split_first(text: &str) -> Option<(char, &str)>
     Some((first, characters.as_str()))
 }
 
-/// The text before its last character, and that character, or None where the text is empty.
+/// The text before the last character, and that character, or None where the text is empty.
 #[inline]
 pub(crate) fn split_last(text: &str) -> Option<(&str, char)>
     ensures { MatchOption result (chars text.now ≡ [])

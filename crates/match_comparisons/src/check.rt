@@ -1,3 +1,5 @@
+//! Whether a value meets the check of a comparison, operator by operator (STIX 2.1, section 9.6.1).
+
 ghost use Rattle.std.specs.Prelude.{◌↔◌, ◌⊎◌, List, ℕ, Option, IfOk, IsTrue, option_map};
 ghost use Rattle.std.specs.declared.cmp.Ordering.TheVariants.{Equal};
 ghost use Rattle.stix_json.specs.DataOf.{data_of};
@@ -16,7 +18,8 @@ use std::alloc::Global;
 use std::cmp::Ordering;
 use stix_json::{Json, text_of};
 
-/// Whether a value meets a check, behind that last name; of a negated one, whether it doesn't.
+/// Whether a value meets a check, or, where `negated`, doesn't. `last` is the last property name
+/// before the value.
 pub(crate) fn meets_unless_negated(
     alloc: Global,
     last: Option<&str>,
@@ -25,16 +28,19 @@ pub(crate) fn meets_unless_negated(
     negated: bool,
 ) -> Result<bool, NoMemory>
     requires { IsSoundCheck check.now }
-    ensures { IfOk result (λ met. IsTrue met ↔ NegatedIf negated (Meets (option_map (λ name. name.now) last.entry) (data_of value.now) check.now)) }
+    ensures { IfOk result (λ met. IsTrue met
+        ↔ NegatedIf negated (Meets (option_map (λ name. name.now) last.entry)
+        (data_of value.now) check.now)) }
 {
     let met = meets(alloc, last, value, check)?;
     if negated { Ok(!met) } else { Ok(met) }
 }
 
-/// Whether a value meets a check, behind that last name.
+/// Whether a value meets a check. `last` is the last property name before the value.
 fn meets(alloc: Global, last: Option<&str>, value: &Json, check: &Check) -> Result<bool, NoMemory>
     requires { IsSoundCheck check.now }
-    ensures { IfOk result (λ met. IsTrue met ↔ Meets (option_map (λ name. name.now) last.entry) (data_of value.now) check.now) }
+    ensures { IfOk result (λ met. IsTrue met
+        ↔ Meets (option_map (λ name. name.now) last.entry) (data_of value.now) check.now) }
 {
     match check {
         Check::Equal(constant) => compares(alloc, last, value, constant, Ordering::Equal),
@@ -63,7 +69,7 @@ fn meets(alloc: Global, last: Option<&str>, value: &Json, check: &Check) -> Resu
     }
 }
 
-/// Whether a value compares so with the constant.
+/// Whether a value has the expected order to the constant.
 fn compares(
     alloc: Global,
     last: Option<&str>,
@@ -71,13 +77,15 @@ fn compares(
     constant: &Constant,
     expected: Ordering,
 ) -> Result<bool, NoMemory>
-    ensures { IfOk result (λ so. IsTrue so ↔ Compares (option_map (λ name. name.now) last.entry) (data_of value.now) constant.now expected) }
+    ensures { IfOk result (λ so. IsTrue so
+        ↔ Compares (option_map (λ name. name.now) last.entry) (data_of value.now) constant.now
+        expected) }
 {
     let own = bytes_in(alloc, last, value)?;
     Ok(compares_so(value, &own, constant, expected))
 }
 
-/// The same, where the value stands for those bytes.
+/// Whether it does, given the bytes that the value encodes.
 fn compares_so(
     value: &Json,
     own: &Option<Items<u8>>,
@@ -90,7 +98,7 @@ fn compares_so(
     compared(value, own, constant) == Some(expected)
 }
 
-/// Whether a value compares so with the constant, or equals it.
+/// Whether a value has the expected order to the constant, or equals it.
 fn compares_or_equals(
     alloc: Global,
     last: Option<&str>,
@@ -98,8 +106,11 @@ fn compares_or_equals(
     constant: &Constant,
     expected: Ordering,
 ) -> Result<bool, NoMemory>
-    ensures { IfOk result (λ so. IsTrue so ↔ Compares (option_map (λ name. name.now) last.entry) (data_of value.now) constant.now expected
-        ⊎ Compares (option_map (λ name. name.now) last.entry) (data_of value.now) constant.now Equal) }
+    ensures { IfOk result (λ so. IsTrue so
+        ↔ Compares (option_map (λ name. name.now) last.entry) (data_of value.now) constant.now
+        expected
+        ⊎ Compares (option_map (λ name. name.now) last.entry) (data_of value.now) constant.now
+        Equal) }
 {
     let own = bytes_in(alloc, last, value)?;
     let found = compared(value, &own, constant);
@@ -113,13 +124,15 @@ fn equals_some(
     value: &Json,
     constants: &[Constant],
 ) -> Result<bool, NoMemory>
-    ensures { IfOk result (λ met. IsTrue met ↔ Meets (option_map (λ name. name.now) last.entry) (data_of value.now) (Among constants.now)) }
+    ensures { IfOk result (λ met. IsTrue met
+        ↔ Meets (option_map (λ name. name.now) last.entry) (data_of value.now)
+        (Among constants.now)) }
 {
     let own = bytes_in(alloc, last, value)?;
     Ok(is_among(value, &own, constants))
 }
 
-/// The same, where the value stands for those bytes.
+/// Whether it does, given the bytes that the value encodes.
 fn is_among(value: &Json, own: &Option<Items<u8>>, constants: &[Constant]) -> bool
     ensures { (last : Option (List ℕ)) → Represents last (data_of value.now) own.now
         → IsTrue result ↔ Meets last (data_of value.now) (Among constants.now) }
@@ -132,9 +145,10 @@ fn is_among(value: &Json, own: &Option<Items<u8>>, constants: &[Constant]) -> bo
     false
 }
 
-/// Whether a value is a text that is like the pattern.
+/// Whether a value is a text that matches the LIKE pattern.
 fn is_like(value: &Json, pattern: &str) -> bool
-    ensures { (last : Option (List ℕ)) → IsTrue result ↔ Meets last (data_of value.now) (Like pattern.now) }
+    ensures { (last : Option (List ℕ)) → IsTrue result
+        ↔ Meets last (data_of value.now) (Like pattern.now) }
 {
     match text_of(value) {
         Some(text) => like(text, pattern),

@@ -1,3 +1,5 @@
+//! Orders a value to a constant of its kind (STIX 2.1, section 9.6.1).
+
 ghost use Rattle.std.specs.Prelude.{◌≡◌, ◌↔◌, ℕ, ℤ, List, Option, Some, option_map};
 ghost use Rattle.std.specs.Cmp.Lexicographic.{slice_cmp};
 ghost use Rattle.std.specs.Ordering.{int_cmp, nat_cmp};
@@ -14,15 +16,16 @@ use std::cmp::Ordering;
 use stix_json::{Json, text_of};
 use stix_times::{Instant, nanos, read};
 
-/// How a value of the constant's kind compares with it, where the value stands for those bytes. None where
-/// it is of another kind.
+/// The order of a value to a constant, given the bytes that the value encodes. None where the kinds
+/// differ.
 pub(crate) fn compared(
     value: &Json,
     own: &Option<Items<u8>>,
     constant: &Constant,
 ) -> Option<Ordering>
     ensures { (last : Option (List ℕ)) → Represents last (data_of value.now) own.now
-        → (order : Ordering) → Compares last (data_of value.now) constant.now order ↔ (result ≡ Some order) }
+        → (order : Ordering) → Compares last (data_of value.now) constant.now order
+        ↔ (result ≡ Some order) }
 {
     match constant {
         Constant::Integer(whole) => compared_whole(value, *whole),
@@ -34,9 +37,10 @@ pub(crate) fn compared(
     }
 }
 
-/// The same with a whole number.
+/// The order to an integer.
 fn compared_whole(value: &Json, whole: i64) -> Option<Ordering>
-    ensures { (last : Option (List ℕ)) (order : Ordering) → Compares last (data_of value.now) (Integer whole) order ↔ (result ≡ Some order) }
+    ensures { (last : Option (List ℕ)) (order : Ordering)
+        → Compares last (data_of value.now) (Integer whole) order ↔ (result ≡ Some order) }
 {
     match value {
         Json::Integer(n) => Some(n.cmp(&whole)),
@@ -44,9 +48,10 @@ fn compared_whole(value: &Json, whole: i64) -> Option<Ordering>
     }
 }
 
-/// The same with a text.
+/// The order to a text, by code point.
 fn compared_words(value: &Json, words: &str) -> Option<Ordering>
-    ensures { (last : Option (List ℕ)) (order : Ordering) → Compares last (data_of value.now) (String words.now) order ↔ (result ≡ Some order) }
+    ensures { (last : Option (List ℕ)) (order : Ordering)
+        → Compares last (data_of value.now) (String words.now) order ↔ (result ≡ Some order) }
 {
     match text_of(value) {
         Some(text) => Some(text.cmp(words)),
@@ -54,9 +59,10 @@ fn compared_words(value: &Json, words: &str) -> Option<Ordering>
     }
 }
 
-/// The same with a truth.
+/// The order to a Boolean: false before true.
 fn compared_truth(value: &Json, truth: bool) -> Option<Ordering>
-    ensures { (last : Option (List ℕ)) (order : Ordering) → Compares last (data_of value.now) (Boolean truth) order ↔ (result ≡ Some order) }
+    ensures { (last : Option (List ℕ)) (order : Ordering)
+        → Compares last (data_of value.now) (Boolean truth) order ↔ (result ≡ Some order) }
 {
     match value {
         Json::Bool(b) => Some(b.cmp(&truth)),
@@ -64,9 +70,10 @@ fn compared_truth(value: &Json, truth: bool) -> Option<Ordering>
     }
 }
 
-/// The same with an instant.
+/// The order to an instant.
 fn compared_instant(value: &Json, instant: Instant) -> Option<Ordering>
-    ensures { (last : Option (List ℕ)) (order : Ordering) → Compares last (data_of value.now) (Timestamp instant) order ↔ (result ≡ Some order) }
+    ensures { (last : Option (List ℕ)) (order : Ordering)
+        → Compares last (data_of value.now) (Timestamp instant) order ↔ (result ≡ Some order) }
 {
     match text_of(value) {
         Some(text) => compared_time(text, instant),
@@ -74,9 +81,10 @@ fn compared_instant(value: &Json, instant: Instant) -> Option<Ordering>
     }
 }
 
-/// How the instant that a text names compares with another.
+/// The order of the instant that a text spells to another. None where it spells none.
 fn compared_time(text: &str, instant: Instant) -> Option<Ordering>
-    ensures { (order : Ordering) → ((i : ℤ) × IsTextOf text.now i × (order ≡ int_cmp i instant)) ↔ (result ≡ Some order) }
+    ensures { (order : Ordering) → ((i : ℤ) × IsTextOf text.now i × (order ≡ int_cmp i instant))
+        ↔ (result ≡ Some order) }
 {
     match read(text) {
         Ok(named) => Some(nanos(named).cmp(&nanos(instant))),
@@ -84,7 +92,7 @@ fn compared_time(text: &str, instant: Instant) -> Option<Ordering>
     }
 }
 
-/// How bytes compare with others.
+/// The order of bytes, lexicographically.
 fn compared_bytes(own: &Option<Items<u8>>, bytes: &[u8]) -> Option<Ordering>
     ensures { result ≡ option_map (λ decoded. slice_cmp nat_cmp decoded bytes.now) own.now }
 {

@@ -2,10 +2,10 @@ use arrayvec::ArrayVec;
 use pattern_types::{MAX_STEPS, Step};
 use stix_json::Json;
 
-/// Values that are yet to be visited, and the steps that lead on from each of them.
+/// Values still to be visited, and the steps that lead on from each of them.
 #[derive(Clone, Copy)]
 pub(crate) struct Frame<'a> {
-    /// The last name that led to them.
+    /// The last property name before them.
     pub(crate) last: Option<&'a str>,
     pub(crate) steps: &'a [Step],
     pub(crate) values: &'a [Json],
@@ -24,5 +24,5 @@ impl Default for Frame<'_> {
 /// How many frames a walk has at most: one for the root, and one for each step.
 const MAX_FRAMES: usize = MAX_STEPS + 1;
 
-/// The frames of a walk, the deepest last.
+/// The stack of a walk, the deepest frame last.
 pub(crate) type Frames<'a> = ArrayVec<Frame<'a>, MAX_FRAMES>;

@@ -1,4 +1,5 @@
-//! What follows from the definitions: the contracts are the laws, and the functions do nothing.
+//! Theorems about the definitions of this crate. The contracts state them; the functions do nothing
+//! at run time.
 
 ghost use Rattle.std.specs.Prelude.{◌≡◌, ◌↔◌, ℕ, List, Option, Some, None, Contains, slice_get};
 ghost use Rattle.std.specs.Borrow.{Bor};
@@ -13,39 +14,45 @@ ghost use Rattle.match_comparisons.specs.Remaining.{Left, Gives, taken_data, Fol
 
 use stix_bundles::laws::one_meaning;
 
-/// A path selects one list of values from an object. It selects some, where each text means a place or
-/// none.
+/// A path selects exactly one list of values from an object, provided that each reference names one
+/// object or none.
 pub fn one_selection()
     ensures one { (objects : List Data) (root : ℕ) (path : Path) (first second : List Data)
         → Selects objects root path first → Selects objects root path second → first ≡ second }
-    ensures some { (objects : List Data) → ((text : List ℕ) → (meant : Option ℕ) × Means objects text meant)
+    ensures some { (objects : List Data)
+        → ((text : List ℕ) → (meant : Option ℕ) × Means objects text meant)
         → (root : ℕ) (path : Path) → (values : List Data) × Selects objects root path values }
 {
     one_meaning();
 }
 
-/// What a path selects is what its steps reach from the object at the position.
+/// The values that a path selects are those that its steps reach.
 pub fn selected()
-    ensures { (objects : List Data) (root : ℕ) (path : Path) (values : List Data) → Selects objects root path values
+    ensures { (objects : List Data) (root : ℕ) (path : Path) (values : List Data)
+        → Selects objects root path values
         → (value : Data) → Contains values value ↔ IsSelected objects root path value }
 {
     one_meaning();
 }
 
-/// From a reference a name leads where it leads from the object that the reference names.
+/// A name leads from a reference to what it leads to from the referenced object.
 pub fn same_lead()
-    ensures { (objects : List Data) (last : Option (List ℕ)) (value object : Data) (at : ℕ) (name : List ℕ)
+    ensures { (objects : List Data) (last : Option (List ℕ)) (value object : Data) (at : ℕ)
+        (name : List ℕ)
         → RefersTo objects last value at → slice_get objects at ≡ Some object
-        → (found : Data) → LeadsTo objects last name value found ↔ LeadsTo objects None name object found }
+        → (found : Data) → LeadsTo objects last name value found
+        ↔ LeadsTo objects None name object found }
 {
     one_meaning();
 }
 
-/// What calls of `next` took stands before what is left, and is all that was left where they came to
-/// the end.
+/// The values returned by `next`, followed by those left, are those left before; all of them once
+/// `next` returns None.
 pub fn taken_first()
-    ensures before { (before after : PathValues) (taken : List (Bor Json)) → Yields Gives before taken after
-        → (values : List Data) → Left before values ↔ Follows (taken_data taken) (Left after) values }
+    ensures before { (before after : PathValues) (taken : List (Bor Json))
+        → Yields Gives before taken after
+        → (values : List Data) → Left before values
+        ↔ Follows (taken_data taken) (Left after) values }
     ensures whole { (before : PathValues) (taken : List (Bor Json)) → Drains Gives before taken
         → Left before (taken_data taken) }
 {}

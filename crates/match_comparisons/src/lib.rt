@@ -1,27 +1,22 @@
-//! Compares a text with a pattern in which `%` stands for any run of characters and `_` for any one
-//! character, as the operator LIKE of STIX 2.1 does (section 9.6.1). Characters are Unicode code
-//! points, and nothing is normalised. The answer is exact, and takes no memory and no recursion.
+//! Evaluates the comparison expressions of STIX patterns on the objects of a bundle (STIX 2.1,
+//! sections 9.5 to 9.7).
 //!
-//! A pattern is taken segment by segment between its `%`. It costs about as many steps as text and pattern
-//! have bytes together, and where no two `%` stand side by side as the text alone has: no more of a
-//! pattern is looked at than may fit. Only a segment with a `_` between two `%` may cost more, the product
-//! of its length and the text's: it is tried at each character in turn.
+//! - `leaf_truths`, `leaf_holds`, `leaf_roots` and `holds`: whether a bracket (observation
+//!   expression), or one comparison of it, holds for an observation or at an object (section 9.6).
+//! - `values`, `root_of`, `selected` and `reference`: what an object path selects (section 9.7), by
+//!   a depth-first walk that takes no memory.
+//! - `like`: the operator LIKE (section 9.6.1), exact and without memory or recursion. Characters
+//!   are Unicode code points, and nothing is normalized.
 //!
-//! `like("cmd.exe", "%.e_e")` is true, and `like("cmd.exe", "cmd")` is false.
+//! A search stops at the first value that meets its test, and memoizes what it found at each
+//! referenced object. So one test costs at most the size of the bundle for each step of its path.
+//! Neither `[*]` and references nor the number of observations that share an object change this.
 //!
-//! The values that an object path selects in a bundle (STIX 2.1, section 9.7).
-//!
-//! `values` gives them one after another, from the object at a position on. `root_of`, `selected` and
-//! `reference` are for a search of one's own: where a path begins, what one step selects, and which
-//! object a value refers to. None of them takes memory.
-//!
-//! Whether a bracket of a pattern holds for an observation (STIX 2.1, section 9.6).
-//!
-//! `holds` tells it of one test and one object, `leaf_holds` of a whole bracket, `leaf_roots` which of many
-//! objects meet one, and `leaf_truths` of each bracket of a pattern for each observation of a bundle. A search
-//! stops at the first value that meets the test, and goes to each object that is referred to once for each step
-//! at most: no bundle makes it walk all ways of a `[*]`, nor an object again for each observation that has it as
-//! a root, nor for each root that refers to it.
+//! ```text
+//! let truths = leaf_truths(alloc, &pattern, &observations, &bundle)?; // a row for each observation
+//! let matches = like("cmd.exe", "%.e_e"); // true
+//! for value in values(&bundle, root, &path) { .. }
+//! ```
 #![tactic(auto)]
 
 mod block;

@@ -1,4 +1,12 @@
-//! Whether a text is like a pattern.
+//! The operator LIKE: greedy wildcard matching, segment by segment (STIX 2.1, section 9.6.1).
+//!
+//! A pattern splits at its `%` into segments. The first has to match a prefix of the text, the last
+//! a suffix, and each one between is taken at its first match after the previous one. No other
+//! match is tried, and that is enough. The first match leaves the most text: what the `%` before it
+//! could skip besides, the `%` after it can skip instead.
+//!
+//! It costs about as many steps as text and pattern have bytes. Only a segment with a `_` between
+//! two `%` may cost the product of its length and the text's.
 ghost use Rattle.std.specs.Prelude.{◌↔◌, ◌∷◌, IsTrue};
 ghost use Rattle.std.specs.Str.{chars};
 ghost use Rattle.match_comparisons.specs.Like.{any_run, IsLike};
@@ -6,8 +14,8 @@ ghost use Rattle.match_comparisons.specs.Like.{any_run, IsLike};
 use crate::segment::{after_first_match, has_end, is_like_segment, strip_front};
 use crate::wildcards::split_at_run;
 
-/// Whether the whole text is like the pattern: `%` stands for any run of characters, also an empty
-/// one, `_` for any one character, and any other character for itself.
+/// Whether the whole text matches the pattern: `%` matches any run of characters, even an empty
+/// one, `_` any one character, and any other character itself.
 pub fn like(text: &str, pattern: &str) -> bool
     ensures { IsTrue result ↔ IsLike (chars text.now) (chars pattern.now) }
 {
@@ -20,11 +28,8 @@ pub fn like(text: &str, pattern: &str) -> bool
     }
 }
 
-/// Whether some end of the text is like the pattern, as behind a `%`.
-///
-/// A segment between two `%` is taken where it fits first, and no other place is tried. This is enough:
-/// the first place leaves the most text, and whatever the `%` before the segment could take besides, the
-/// `%` behind it can take instead.
+/// Whether some suffix of the text matches the pattern, as after a `%`: takes each segment at its
+/// first match.
 fn matches_after_run(whole_text: &str, whole_pattern: &str) -> bool
     ensures { IsTrue result ↔ IsLike (chars whole_text.now) (any_run ∷ chars whole_pattern.now) }
 {

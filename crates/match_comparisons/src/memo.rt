@@ -5,8 +5,7 @@ use crate::visit_set::VisitSet;
 use flow_values::NoMemory;
 use std::alloc::Global;
 
-/// What a search found out of the objects that it went to by a reference: from which it finds something, and
-/// which are dead ends.
+/// The memo of a search: at which referenced objects it finds a value, and at which it doesn't.
 #[derive(Drop)]
 pub(crate) struct SearchMemo {
     positive: VisitSet,
@@ -14,9 +13,10 @@ pub(crate) struct SearchMemo {
 }
 
 impl SearchMemo {
-    /// Nothing is found out yet.
+    /// An empty memo.
     pub(crate) fn new(alloc: Global) -> SearchMemo
-        ensures { (left at : ℕ) → (¬ Has result.positive left at) × (¬ Has result.negative left at) }
+        ensures { (left at : ℕ) → (¬ Has result.positive left at)
+            × (¬ Has result.negative left at) }
     {
         SearchMemo {
             positive: VisitSet::new(alloc),
@@ -24,8 +24,8 @@ impl SearchMemo {
         }
     }
 
-    /// Whether the search finds something from the object at a position, with so many steps left; none where
-    /// that isn't known.
+    /// Whether the search finds a value from the object at this position with `left` steps left.
+    /// None where that isn't known yet.
     pub(crate) fn known(&self, left: usize, at: u32) -> Option<bool>
         ensures positive { result ≡ Some true → Has self.now.positive left at }
         ensures negative { result ≡ Some false → Has self.now.negative left at }
@@ -39,12 +39,14 @@ impl SearchMemo {
         }
     }
 
-    /// Adds what was found out.
+    /// Adds a finding.
     pub(crate) fn add(&mut self, left: usize, at: u32, found: bool) -> Result<(), NoMemory>
         ensures positive { OnOk result ((count place : ℕ) → Has self.new.positive count place
-            → (Has self.old.positive count place ⊎ ((found ≡ true) × (count ≡ left) × (place ≡ at)))) }
+            → (Has self.old.positive count place
+            ⊎ ((found ≡ true) × (count ≡ left) × (place ≡ at)))) }
         ensures negative { OnOk result ((count place : ℕ) → Has self.new.negative count place
-            → (Has self.old.negative count place ⊎ ((found ≡ false) × (count ≡ left) × (place ≡ at)))) }
+            → (Has self.old.negative count place
+            ⊎ ((found ≡ false) × (count ≡ left) × (place ≡ at)))) }
     {
         if found {
             self.positive.add(left, at)

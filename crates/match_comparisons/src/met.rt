@@ -1,3 +1,5 @@
+//! Whether one comparison holds at one object.
+
 ghost use Rattle.std.specs.Prelude.{◌↔◌, None, IfOk, OnOk, IsTrue};
 ghost use Rattle.serde_json.specs.Data.{Data};
 ghost use Rattle.stix_json.specs.DataOf.{data_of};
@@ -17,11 +19,12 @@ use std::alloc::Global;
 use stix_bundles::Bundle;
 use stix_json::Json;
 
-/// Whether the object at a position has the type of a test's path, and what the path selects from it
-/// meets the test. The search stops at the first value that does, and goes to no object by a reference
-/// twice for one step: so it costs at most the number of steps times the size of the bundle, however
-/// many ways there are. It takes memory where a text that stands for bytes is compared, and where the path
-/// has a `[*]`.
+/// Whether a comparison holds at the object at this position: it has the path's type, and the path
+/// selects a value that meets the check. For `NOT EXISTS` the path has to select nothing.
+///
+/// The search stops at the first such value, and visits no referenced object twice for one step. It
+/// costs at most the number of steps times the size of the bundle. Takes memory where the value
+/// encodes bytes, and where the path has a `[*]`.
 pub fn holds(alloc: Global, test: &Test, bundle: &Bundle, root: u32) -> Result<bool, NoMemory>
     requires { IsSoundTest test.now }
     ensures { IfOk result (λ holds. IsTrue holds ↔ TestHolds (data_in bundle.now) root test.now) }
@@ -31,7 +34,7 @@ pub fn holds(alloc: Global, test: &Test, bundle: &Bundle, root: u32) -> Result<b
     meets_test(&search, &mut memo, test, root)
 }
 
-/// The same, by the search that the test asks for, which knows what it found out from other positions.
+/// Whether the comparison holds at `root`, with a memo shared by all roots.
 pub(crate) fn meets_test(
     search: &Search<'_>,
     memo: &mut SearchMemo,
@@ -41,7 +44,8 @@ pub(crate) fn meets_test(
     requires sound { IsSoundTest test.now }
     requires is { IsSearchOf test.now search.now }
     requires right { IsSoundMemo search.now memo.old }
-    ensures holds { IfOk result (λ holds. IsTrue holds ↔ TestHolds (data_in search.now.bundle.now) root test.now) }
+    ensures holds { IfOk result (λ holds. IsTrue holds
+        ↔ TestHolds (data_in search.now.bundle.now) root test.now) }
     ensures right { OnOk result (IsSoundMemo search.now memo.new) }
 {
     let Some(object) = root_of(search.bundle, root, test.path.kind.as_str()) else {
@@ -55,7 +59,7 @@ pub(crate) fn meets_test(
     }
 }
 
-/// Whether the steps of a test's path reach, from an object, a value that is searched for.
+/// Whether the steps of the path reach a value that the search looks for.
 fn is_reached(
     search: &Search<'_>,
     memo: &mut SearchMemo,
@@ -67,7 +71,8 @@ fn is_reached(
     requires right { IsSoundMemo search.now memo.old }
     requires ordered { IsOrdered (data_of object.now) }
     ensures found { IfOk result (λ found. IsTrue found
-        ↔ ((value : Data) × Reaches (data_in search.now.bundle.now) None test.now.path.steps (data_of object.now) value
+        ↔ ((value : Data) × Reaches (data_in search.now.bundle.now) None test.now.path.steps
+        (data_of object.now) value
         × NegatedIf search.now.negated (Meets (last_of test.now.path) value test.now.check))) }
     ensures right { OnOk result (IsSoundMemo search.now memo.new) }
 {

@@ -3,14 +3,14 @@ ghost use Rattle.match_comparisons.specs.Selection.{EndsIn, IsReference, last_na
 
 use pattern_types::Step;
 
-/// Whether a name ends so.
+/// Whether a name ends in this suffix.
 pub fn ends_in(name: &str, suffix: &str) -> bool
     ensures { IsTrue result ↔ EndsIn suffix.now name.now }
 {
     name.as_bytes().ends_with(suffix.as_bytes())
 }
 
-/// Whether a last name is that of a reference, or of a list of them.
+/// Whether a property name is one of a reference, or of a list of references.
 pub(crate) fn is_reference(last: Option<&str>) -> bool
     ensures { IsTrue result ↔ IsReference (option_map (λ name. name.now) last.entry) }
 {
@@ -20,9 +20,10 @@ pub(crate) fn is_reference(last: Option<&str>) -> bool
     }
 }
 
-/// The last name behind a step.
+/// The last property name after a step.
 pub fn name_after<'a>(last: Option<&'a str>, step: &'a Step) -> Option<&'a str>
-    ensures { option_map (λ name. name.now) result ≡ last_name (option_map (λ name. name.now) last.entry) step.now }
+    ensures { option_map (λ name. name.now) result
+        ≡ last_name (option_map (λ name. name.now) last.entry) step.now }
 {
     match step {
         Step::Name(name) => Some(name.as_str()),

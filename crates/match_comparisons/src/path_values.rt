@@ -1,3 +1,5 @@
+//! The values of an object path, as an iterator (STIX 2.1, section 9.7).
+
 ghost use Rattle.std.specs.Prelude.{◌↔◌, List};
 ghost use Rattle.std.specs.Iterator.{at_most};
 ghost use Rattle.serde_json.specs.Data.{Data};
@@ -14,8 +16,8 @@ use pattern_types::Path;
 use stix_bundles::Bundle;
 use stix_json::Json;
 
-/// The values that a path selects, one after another. Depth first, and a value that two ways reach
-/// comes twice.
+/// The values that a path selects, by depth-first search with an explicit stack. A value that two
+/// ways reach occurs twice.
 #[derive(Drop)]
 pub struct PathValues<'a> {
     bundle: &'a Bundle,
@@ -36,11 +38,12 @@ impl<'a> Iterator for PathValues<'a> {
     }
 }
 
-/// The values that a path selects from the object at a position on. Takes no memory.
+/// The values that a path selects, from the object at this position. Takes no memory.
 pub fn values<'a>(bundle: &'a Bundle, root: u32, path: &'a Path) -> PathValues<'a>
     requires { IsShort path.now }
     ensures ready { IsReady result }
-    ensures all { (values : List Data) → Left result values ↔ Selects (data_in bundle.now) root path.now values }
+    ensures all { (values : List Data) → Left result values
+        ↔ Selects (data_in bundle.now) root path.now values }
 {
     let mut frames = Frames::new();
     frames.push(Frame {

@@ -5,14 +5,14 @@ use flow_values::NoMemory;
 use std::alloc::Global;
 use std::collections::BTreeSet;
 
-/// Positions in a bundle, as a set.
+/// A set of positions in a bundle.
 #[derive(Drop)]
 pub(crate) struct PositionSet {
     set: BTreeSet<u32>,
 }
 
 impl PositionSet {
-    /// No positions.
+    /// The empty set.
     pub(crate) fn new(alloc: Global) -> PositionSet
         ensures { (at : ℕ) → ¬ IsIn result at }
     {
@@ -21,17 +21,18 @@ impl PositionSet {
         }
     }
 
-    /// Whether a position is among them.
+    /// Whether a position is in the set.
     pub(crate) fn has(&self, at: u32) -> bool
         ensures { IsTrue result ↔ IsIn self.now at }
     {
         self.set.contains(&at)
     }
 
-    /// Adds one, and tells whether it is new.
+    /// Adds a position: whether it is new.
     pub(crate) fn add(&mut self, at: u32) -> Result<bool, NoMemory>
         ensures new { IfOk result (λ new. IsTrue new ↔ (¬ IsIn self.old at)) }
-        ensures added { OnOk result ((place : ℕ) → IsIn self.new place ↔ (IsIn self.old place ⊎ (place ≡ at))) }
+        ensures added { OnOk result ((place : ℕ) → IsIn self.new place
+            ↔ (IsIn self.old place ⊎ (place ≡ at))) }
     {
         let new = self.set.insert(at)?;
         Ok(new)

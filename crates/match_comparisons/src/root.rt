@@ -10,9 +10,10 @@ use crate::object::object_at;
 use stix_bundles::Bundle;
 use stix_json::{Json, get_ordered, text_of};
 
-/// The object at a position, where it has that type. Takes no memory.
+/// The object at this position, where it has this type. Takes no memory.
 pub fn root_of<'a>(bundle: &'a Bundle, root: u32, kind: &str) -> Option<&'a Json>
-    ensures found { FindsExactly (IsRoot (data_in bundle.now) root kind.now) (option_map (λ tree. data_of tree.now) result) }
+    ensures found { FindsExactly (IsRoot (data_in bundle.now) root kind.now)
+        (option_map (λ tree. data_of tree.now) result) }
     ensures ordered { IfSome result (λ tree. IsOrdered (data_of tree.now)) }
 {
     let object = object_at(bundle, root)?;
@@ -23,7 +24,7 @@ pub fn root_of<'a>(bundle: &'a Bundle, root: u32, kind: &str) -> Option<&'a Json
     }
 }
 
-/// Whether an object has that type.
+/// Whether an object has this type.
 fn is_typed(object: &Json, kind: &str) -> bool
     requires { IsOrdered (data_of object.now) }
     ensures { IsTrue result ↔ (text_at (codes "type") (data_of object.now) ≡ Some kind.now) }

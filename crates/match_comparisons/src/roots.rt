@@ -9,7 +9,8 @@ use stix_bundles::Observation;
 
 /// The roots of some observations, each once.
 pub(crate) fn roots_of(alloc: Global, observations: &[Observation]) -> Result<Vec<u32>, NoMemory>
-    ensures { IfOk result (λ roots. (at : ℕ) → Contains roots.items at ↔ IsSomeRoot observations.now at) }
+    ensures { IfOk result (λ roots. (at : ℕ) → Contains roots.items at
+        ↔ IsSomeRoot observations.now at) }
 {
     let mut seen = PositionSet::new(alloc);
     let mut roots = Vec::new(alloc);
@@ -21,7 +22,8 @@ pub(crate) fn roots_of(alloc: Global, observations: &[Observation]) -> Result<Ve
 
 /// The roots of one observation, each once.
 pub(crate) fn own_roots(alloc: Global, observation: &Observation) -> Result<Vec<u32>, NoMemory>
-    ensures { IfOk result (λ roots. (at : ℕ) → Contains roots.items at ↔ Contains observation.now.roots at) }
+    ensures { IfOk result (λ roots. (at : ℕ) → Contains roots.items at
+        ↔ Contains observation.now.roots at) }
 {
     let mut seen = PositionSet::new(alloc);
     let mut roots = Vec::new(alloc);
@@ -29,11 +31,12 @@ pub(crate) fn own_roots(alloc: Global, observation: &Observation) -> Result<Vec<
     Ok(roots)
 }
 
-/// Adds those of one observation that aren't there.
+/// Appends the roots of one observation that aren't in the list yet.
 fn add_roots(own: &[u32], seen: &mut PositionSet, roots: &mut Vec<u32>) -> Result<(), NoMemory>
     requires { AreOf roots.old.items seen.old }
     ensures same { OnOk result (AreOf roots.new.items seen.new) }
-    ensures added { OnOk result ((at : ℕ) → Contains roots.new.items at ↔ (Contains roots.old.items at ⊎ Contains own.now at)) }
+    ensures added { OnOk result ((at : ℕ) → Contains roots.new.items at
+        ↔ (Contains roots.old.items at ⊎ Contains own.now at)) }
 {
     for at in own {
         if seen.add(*at)? {

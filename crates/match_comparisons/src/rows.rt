@@ -14,7 +14,7 @@ use pattern_types::{Leaf, Pattern};
 use std::alloc::Global;
 use stix_bundles::{Bundle, Observation};
 
-/// The observations of a bundle, and their roots, each once.
+/// A bundle, with its observations and all their roots, each once.
 #[derive(Clone, Copy)]
 pub(crate) struct BundleView<'a> {
     pub(crate) bundle: &'a Bundle,
@@ -22,7 +22,7 @@ pub(crate) struct BundleView<'a> {
     pub(crate) roots: &'a [u32],
 }
 
-/// Adds the truths of a pattern's brackets, from left to right, to the row of each observation.
+/// Appends the truths of a pattern's brackets, from left to right, to the row of each observation.
 pub(crate) fn add_truths(
     alloc: Global,
     pattern: &Pattern,
@@ -30,9 +30,11 @@ pub(crate) fn add_truths(
     rows: &mut [Items<bool>],
 ) -> Result<(), NoMemory>
     requires sound { IsSoundPattern (plain_pattern pattern.now) }
-    requires roots { (at : ℕ) → Contains seen.now.roots.now at ↔ IsSomeRoot seen.now.observations.now at }
+    requires roots { (at : ℕ) → Contains seen.now.roots.now at
+        ↔ IsSomeRoot seen.now.observations.now at }
     requires rows { length rows.old ≡ length seen.now.observations.now }
-    ensures { OnOk result (AddsTruths (data_in seen.now.bundle.now) (plain_pattern pattern.now) seen.now.observations.now rows.old rows.new) }
+    ensures { OnOk result (AddsTruths (data_in seen.now.bundle.now) (plain_pattern pattern.now)
+        seen.now.observations.now rows.old rows.new) }
 {
     match pattern {
         Pattern::Leaf(leaf) => add_leaf(alloc, leaf, seen, rows),
@@ -46,7 +48,7 @@ pub(crate) fn add_truths(
     }
 }
 
-/// Adds those of one bracket.
+/// Appends the truth of one bracket to each row.
 fn add_leaf(
     alloc: Global,
     leaf: &Leaf,
@@ -54,9 +56,11 @@ fn add_leaf(
     rows: &mut [Items<bool>],
 ) -> Result<(), NoMemory>
     requires sound { IsSoundLeaf (plain_leaf leaf.now) }
-    requires roots { (at : ℕ) → Contains seen.now.roots.now at ↔ IsSomeRoot seen.now.observations.now at }
+    requires roots { (at : ℕ) → Contains seen.now.roots.now at
+        ↔ IsSomeRoot seen.now.observations.now at }
     requires rows { length rows.old ≡ length seen.now.observations.now }
-    ensures { OnOk result (AddsTruths (data_in seen.now.bundle.now) (a_leaf (plain_leaf leaf.now)) seen.now.observations.now rows.old rows.new) }
+    ensures { OnOk result (AddsTruths (data_in seen.now.bundle.now) (a_leaf (plain_leaf leaf.now))
+        seen.now.observations.now rows.old rows.new) }
 {
     let split = split_by(alloc, seen.bundle, leaf, seen.roots)?;
     let held = positions_of(alloc, split.held.as_slice())?;
@@ -66,7 +70,7 @@ fn add_leaf(
     Ok(())
 }
 
-/// Positions as a set.
+/// The set of the positions in a list.
 fn positions_of(alloc: Global, list: &[u32]) -> Result<PositionSet, NoMemory>
     ensures { IfOk result (AreOf list.now) }
 {
@@ -77,7 +81,7 @@ fn positions_of(alloc: Global, list: &[u32]) -> Result<PositionSet, NoMemory>
     Ok(position_set)
 }
 
-/// Whether one of the roots is among the positions.
+/// Whether one of the roots is in the set.
 fn has_some(position_set: &PositionSet, roots: &[u32]) -> bool
     ensures { IsTrue result ↔ ((root : ℕ) × Contains roots.now root × IsIn position_set.now root) }
 {

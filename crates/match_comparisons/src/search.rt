@@ -1,3 +1,10 @@
+//! The memoized depth-first search for a value that meets a check.
+//!
+//! The result from a referenced object depends only on the object and on how many steps are left,
+//! so the memo keeps one answer for each such pair. Each pair is searched once, however many ways
+//! lead there, which bounds the search by the number of steps times the size of the bundle.
+//! References don't make it loop, since each reference takes a step of the path.
+
 ghost use Rattle.std.specs.Prelude.{◌≡◌, ◌↔◌, ◌∷◌, List, IfOk, OnOk, IfSome, IsTrue, All};
 ghost use Rattle.stix_json.specs.DataOf.{data_of};
 ghost use Rattle.stix_json.specs.Ordered.{IsOrdered};
@@ -17,24 +24,24 @@ use std::alloc::Global;
 use stix_bundles::Bundle;
 use stix_json::Json;
 
-/// What is searched for, and by which steps: a value that meets a check, or where it is negated one
-/// that doesn't.
+/// A search: the steps of a path, and the check that a value at its end has to meet, or not to meet
+/// where `negated`.
 #[derive(Clone, Copy)]
 pub(crate) struct Search<'a> {
     pub(crate) alloc: Global,
     pub(crate) bundle: &'a Bundle,
     pub(crate) steps: &'a [Step],
-    /// The last name of the path.
+    /// The last property name of the path.
     pub(crate) last: Option<&'a str>,
     pub(crate) check: &'a Check,
     pub(crate) negated: bool,
-    /// Whether it may come to an object again, so that what is found out of it is kept.
+    /// Whether it may come to an object again, so that findings are worth keeping.
     pub(crate) revisits: bool,
 }
 
 impl<'a> Search<'a> {
-    /// The search that a test asks for, from so many roots. From one root and by a path with no `[*]` there is
-    /// one way at most, and it comes to no object again.
+    /// The search of a comparison, for `roots` roots. From one root and along a path without `[*]`
+    /// it comes to no object twice, and keeps no findings.
     pub(crate) fn new(alloc: Global, bundle: &'a Bundle, test: &'a Test, roots: usize) -> Search<'a>
         ensures is { IsSearchOf test.entry.now result }
         ensures bundle { result.bundle ≡ bundle.entry }
@@ -52,14 +59,14 @@ impl<'a> Search<'a> {
     }
 }
 
-/// Whether a test is NOT EXISTS.
+/// Whether a comparison is `NOT EXISTS`.
 pub(crate) fn is_absence(test: &Test) -> bool
     ensures { IsTrue result ↔ IsAbsence test.now }
 {
     test.negated && matches!(&test.check, Check::Exists)
 }
 
-/// Whether the steps reach such a value from that one, behind that last name.
+/// Whether the steps reach such a value from this one. `last` is the last property name before it.
 #[cycle(search)]
 pub(crate) fn finds(
     search: &Search<'_>,
@@ -70,7 +77,8 @@ pub(crate) fn finds(
 ) -> Result<bool, NoMemory>
     requires before { IsSearchState search.now steps.now memo.old }
     requires ordered { IsOrdered (data_of value.now) }
-    ensures found { IfOk result (λ found. IsTrue found ↔ Finds search.now (name_of last.entry) steps.now (data_of value.now)) }
+    ensures found { IfOk result (λ found. IsTrue found
+        ↔ Finds search.now (name_of last.entry) steps.now (data_of value.now)) }
     ensures right { OnOk result (IsSoundMemo search.now memo.new) }
 {
     let Some((step, rest)) = steps.split_first() else {
@@ -89,9 +97,10 @@ pub(crate) fn finds(
     some_finds(search, memo, name_after(last, step), rest, values)
 }
 
-/// The position of the object from which a step goes on, where it leads through a reference.
+/// The position of the referenced object, where the step leads through a reference.
 fn referred(search: &Search<'_>, last: Option<&str>, step: &Step, value: &Json) -> Option<u32>
-    ensures { IfSome result (λ at. (rest : List Step) → Finds search.now (name_of last.entry) (step.now ∷ rest) (data_of value.now)
+    ensures { IfSome result (λ at. (rest : List Step)
+        → Finds search.now (name_of last.entry) (step.now ∷ rest) (data_of value.now)
         ↔ FindsAt search.now (step.now ∷ rest) at) }
 {
     same_lead();
@@ -101,7 +110,7 @@ fn referred(search: &Search<'_>, last: Option<&str>, step: &Step, value: &Json) 
     }
 }
 
-/// Whether they reach one from some of the values.
+/// Whether the steps reach such a value from one of the values.
 #[cycle(search)]
 fn some_finds(
     search: &Search<'_>,
@@ -112,7 +121,8 @@ fn some_finds(
 ) -> Result<bool, NoMemory>
     requires before { IsSearchState search.now steps.now memo.old }
     requires ordered { All IsOrdered (data_in values.now) }
-    ensures found { IfOk result (λ found. IsTrue found ↔ SomeFinds search.now (name_of last.entry) steps.now (data_in values.now)) }
+    ensures found { IfOk result (λ found. IsTrue found
+        ↔ SomeFinds search.now (name_of last.entry) steps.now (data_in values.now)) }
     ensures right { OnOk result (IsSoundMemo search.now memo.new) }
 {
     for value in values {
@@ -123,8 +133,8 @@ fn some_finds(
     Ok(false)
 }
 
-/// Whether they reach one from the object at a position. What is found out is kept: so each object is
-/// searched once for each step, and not once for each way there.
+/// Whether the steps reach such a value from the object at this position. Looks into the memo
+/// first, and keeps the finding there.
 #[cycle(search)]
 fn finds_at(
     search: &Search<'_>,
@@ -134,7 +144,8 @@ fn finds_at(
     at: u32,
 ) -> Result<bool, NoMemory>
     requires { IsSearchState search.now (step.now ∷ rest.now) memo.old }
-    ensures found { IfOk result (λ found. IsTrue found ↔ FindsAt search.now (step.now ∷ rest.now) at) }
+    ensures found { IfOk result (λ found. IsTrue found
+        ↔ FindsAt search.now (step.now ∷ rest.now) at) }
     ensures right { OnOk result (IsSoundMemo search.now memo.new) }
 {
     if let Some(found) = memo.known(rest.len(), at) {

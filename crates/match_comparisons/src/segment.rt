@@ -1,4 +1,4 @@
-//! A segment of a pattern, in which no `%` stands, and where it fits a text.
+//! A segment of a LIKE pattern: a part without `%`, and where it matches a text.
 ghost use Rattle.std.specs.Prelude.{◌↔◌, ◌∷◌, List, ℕ, MatchOption, IsTrue};
 ghost use Rattle.std.specs.Str.{chars};
 ghost use Rattle.match_comparisons.specs.Like.{any_run, IsLike};
@@ -7,7 +7,7 @@ ghost use Rattle.match_comparisons.specs.inner.Segments.{Lacks, Leaves, LeavesMo
 use crate::characters::{split_first, split_last};
 use crate::wildcards::ANY_ONE;
 
-/// Whether the whole text is like the segment.
+/// Whether the whole text matches the segment.
 pub(crate) fn is_like_segment(text: &str, segment: &str) -> bool
     requires { Lacks (chars segment.now) any_run }
     ensures { IsTrue result ↔ IsLike (chars text.now) (chars segment.now) }
@@ -18,10 +18,11 @@ pub(crate) fn is_like_segment(text: &str, segment: &str) -> bool
     }
 }
 
-/// What the segment leaves of the text where it fits its front.
+/// The text after a prefix that matches the segment, if there is one.
 pub(crate) fn strip_front<'a>(whole_text: &'a str, whole_segment: &str) -> Option<&'a str>
     requires { Lacks (chars whole_segment.now) any_run }
-    ensures { MatchOption result ((left : List ℕ) → ¬ Leaves (chars whole_text.now) (chars whole_segment.now) left)
+    ensures { MatchOption result ((left : List ℕ)
+        → ¬ Leaves (chars whole_text.now) (chars whole_segment.now) left)
         (λ left. Leaves (chars whole_text.now) (chars whole_segment.now) (chars left.now)) }
 {
     let mut text = whole_text;
@@ -37,10 +38,11 @@ pub(crate) fn strip_front<'a>(whole_text: &'a str, whole_segment: &str) -> Optio
     Some(text)
 }
 
-/// What the segment leaves of the text at the first place where it fits, as behind a `%`.
+/// The text after the first match of the segment, as after a `%`.
 pub(crate) fn after_first_match<'a>(text: &'a str, segment: &str) -> Option<&'a str>
     requires { Lacks (chars segment.now) any_run }
-    ensures { MatchOption result ((left : List ℕ) → ¬ Leaves (chars text.now) (any_run ∷ chars segment.now) left)
+    ensures { MatchOption result ((left : List ℕ)
+        → ¬ Leaves (chars text.now) (any_run ∷ chars segment.now) left)
         (λ left. LeavesMost (chars text.now) (chars segment.now) (chars left.now)) }
 {
     if segment.contains(ANY_ONE) {
@@ -50,10 +52,11 @@ pub(crate) fn after_first_match<'a>(text: &'a str, segment: &str) -> Option<&'a 
     Some(left)
 }
 
-/// The same, of any segment: it is tried at each character in turn.
+/// As `after_first_match`, also with `_` in the segment: tries each character in turn.
 fn scan_first_match<'a>(whole_text: &'a str, segment: &str) -> Option<&'a str>
     requires { Lacks (chars segment.now) any_run }
-    ensures { MatchOption result ((left : List ℕ) → ¬ Leaves (chars whole_text.now) (any_run ∷ chars segment.now) left)
+    ensures { MatchOption result ((left : List ℕ)
+        → ¬ Leaves (chars whole_text.now) (any_run ∷ chars segment.now) left)
         (λ left. LeavesMost (chars whole_text.now) (chars segment.now) (chars left.now)) }
 {
     let mut text = whole_text;
@@ -66,7 +69,7 @@ fn scan_first_match<'a>(whole_text: &'a str, segment: &str) -> Option<&'a str>
     }
 }
 
-/// Whether the segment fits some end of the text, as behind a `%`.
+/// Whether some suffix of the text matches the segment, as after a `%`.
 pub(crate) fn has_end(whole_text: &str, whole_segment: &str) -> bool
     requires { Lacks (chars whole_segment.now) any_run }
     ensures { IsTrue result ↔ IsLike (chars whole_text.now) (any_run ∷ chars whole_segment.now) }

@@ -1,3 +1,7 @@
+//! Evaluates an expression at many positions together, as a partition. Each part of an `AND` sees
+//! only the positions that the parts before it left, and each part of an `OR` only those that
+//! failed so far.
+
 ghost use Rattle.std.specs.Prelude.{◌≡◌, ℕ, [], IfOk, OnOk};
 ghost use Rattle.stix_bundles.specs.Objects.{data_in};
 ghost use Rattle.pattern_types.specs.PlainLeaf.{plain_leaf, listed};
@@ -13,7 +17,7 @@ use pattern_types::{Leaf, Test};
 use std::alloc::Global;
 use stix_bundles::Bundle;
 
-/// The positions at which an expression holds, and those at which it doesn't.
+/// A partition of positions: where an expression holds, and where it fails.
 #[derive(Drop)]
 pub(crate) struct Split {
     pub(crate) held: Vec<u32>,
@@ -45,8 +49,8 @@ impl Split {
     }
 }
 
-/// Splits the positions that are asked for by whether an expression holds there. It costs at most the size
-/// of the bundle for each step of each test, however many positions there are.
+/// Partitions these positions by whether an expression holds there. Costs at most the size of the
+/// bundle for each step of each test, however many positions there are.
 #[cycle(leaves)]
 pub(crate) fn split_by(
     alloc: Global,
@@ -55,7 +59,8 @@ pub(crate) fn split_by(
     asked: &[u32],
 ) -> Result<Split, NoMemory>
     requires { IsSoundLeaf (plain_leaf leaf.now) }
-    ensures { IfOk result (Splits (λ (at : ℕ). HoldsAt (data_in bundle.now) at (plain_leaf leaf.now)) asked.now) }
+    ensures { IfOk result (Splits (λ (at : ℕ). HoldsAt (data_in bundle.now) at
+        (plain_leaf leaf.now)) asked.now) }
 {
     match leaf {
         Leaf::Test(test) => split_by_test(alloc, bundle, test, asked),
@@ -64,7 +69,7 @@ pub(crate) fn split_by(
     }
 }
 
-/// By whether a test holds.
+/// Partitions by one comparison.
 fn split_by_test(
     alloc: Global,
     bundle: &Bundle,
@@ -72,7 +77,8 @@ fn split_by_test(
     asked: &[u32],
 ) -> Result<Split, NoMemory>
     requires { IsSoundTest test.now }
-    ensures { IfOk result (Splits (λ (at : ℕ). TestHolds (data_in bundle.now) at test.now) asked.now) }
+    ensures { IfOk result (Splits (λ (at : ℕ). TestHolds (data_in bundle.now) at test.now)
+        asked.now) }
 {
     let search = Search::new(alloc, bundle, test, asked.len());
     let mut memo = SearchMemo::new(alloc);
@@ -84,7 +90,7 @@ fn split_by_test(
     Ok(split)
 }
 
-/// By whether each of the parts holds.
+/// Partitions by whether all parts hold.
 #[cycle(leaves)]
 fn split_by_all(
     alloc: Global,
@@ -93,7 +99,8 @@ fn split_by_all(
     asked: &[u32],
 ) -> Result<Split, NoMemory>
     requires { AreSoundLeaves (listed parts.now) }
-    ensures { IfOk result (Splits (λ (at : ℕ). AllHold (data_in bundle.now) at (listed parts.now)) asked.now) }
+    ensures { IfOk result (Splits (λ (at : ℕ). AllHold (data_in bundle.now) at (listed parts.now))
+        asked.now) }
 {
     let mut held = Vec::from_slice(alloc, asked)?;
     let mut failed = Vec::new(alloc);
@@ -105,7 +112,7 @@ fn split_by_all(
     Ok(Split { held, failed })
 }
 
-/// By whether some part holds.
+/// Partitions by whether some part holds.
 #[cycle(leaves)]
 fn split_by_some(
     alloc: Global,
@@ -114,7 +121,8 @@ fn split_by_some(
     asked: &[u32],
 ) -> Result<Split, NoMemory>
     requires { AreSoundLeaves (listed parts.now) }
-    ensures { IfOk result (Splits (λ (at : ℕ). SomeHold (data_in bundle.now) at (listed parts.now)) asked.now) }
+    ensures { IfOk result (Splits (λ (at : ℕ). SomeHold (data_in bundle.now) at (listed parts.now))
+        asked.now) }
 {
     let mut held = Vec::new(alloc);
     let mut failed = Vec::from_slice(alloc, asked)?;

@@ -1,3 +1,5 @@
+//! One step of an object path (STIX 2.1, section 9.7).
+
 ghost use Rattle.std.specs.Prelude.{◌≡◌, ◌↔◌, ◌<◌, ◌≤◌, ◌^◌, None, MatchOption, IfSome, All, Contains, length, option_map, option_to_list, slice_get};
 ghost use Rattle.serde_json.specs.Data.{Data};
 ghost use Rattle.serde_json.specs.Find.{as_str};
@@ -18,7 +20,8 @@ use stix_bundles::{Bundle, find};
 use stix_json::laws::ordered_parts;
 use stix_json::{Json, get_ordered, list_of};
 
-/// What one step selects from a value, behind that last name, in order. Takes no memory.
+/// The values that one step selects from a value, in order. `last` is the last property name before
+/// it. Takes no memory.
 pub fn selected<'a>(
     bundle: &'a Bundle,
     last: Option<&str>,
@@ -26,9 +29,11 @@ pub fn selected<'a>(
     value: &'a Json,
 ) -> &'a [Json]
     requires { IsOrdered (data_of value.now) }
-    ensures all { StepSelects (data_in bundle.now) (option_map (λ name. name.now) last.entry) step.now (data_of value.now) (data_in result.now) }
+    ensures all { StepSelects (data_in bundle.now) (option_map (λ name. name.now) last.entry)
+        step.now (data_of value.now) (data_in result.now) }
     ensures reached { (next : Data) → Contains (data_in result.now) next
-        ↔ StepReaches (data_in bundle.now) (option_map (λ name. name.now) last.entry) step.now (data_of value.now) next }
+        ↔ StepReaches (data_in bundle.now) (option_map (λ name. name.now) last.entry) step.now
+        (data_of value.now) next }
     ensures ordered { All IsOrdered (data_in result.now) }
     ensures counted { length result.now < 2 ^ 64 }
 {
@@ -36,10 +41,11 @@ pub fn selected<'a>(
     listed(bundle, last, step, value)
 }
 
-/// The same, of which no more is said than the list that it is.
+/// The values that one step selects, with a shorter contract.
 fn listed<'a>(bundle: &'a Bundle, last: Option<&str>, step: &Step, value: &'a Json) -> &'a [Json]
     requires { IsOrdered (data_of value.now) }
-    ensures all { StepSelects (data_in bundle.now) (option_map (λ name. name.now) last.entry) step.now (data_of value.now) (data_in result.now) }
+    ensures all { StepSelects (data_in bundle.now) (option_map (λ name. name.now) last.entry)
+        step.now (data_of value.now) (data_in result.now) }
     ensures ordered { All IsOrdered (data_in result.now) }
     ensures counted { length result.now < 2 ^ 64 }
 {
@@ -50,10 +56,12 @@ fn listed<'a>(bundle: &'a Bundle, last: Option<&str>, step: &Step, value: &'a Js
     }
 }
 
-/// One value as a slice.
+/// An optional value as a slice.
 pub(crate) fn slice_of<'a>(found: Option<&'a Json>) -> &'a [Json]
-    ensures all { data_in result.now ≡ option_to_list (option_map (λ tree. data_of tree.now) found.entry) }
-    ensures ordered { IfSome found.entry (λ tree. IsOrdered (data_of tree.now)) → All IsOrdered (data_in result.now) }
+    ensures all { data_in result.now
+        ≡ option_to_list (option_map (λ tree. data_of tree.now) found.entry) }
+    ensures ordered { IfSome found.entry (λ tree. IsOrdered (data_of tree.now))
+        → All IsOrdered (data_in result.now) }
     ensures counted { length result.now ≤ 1 }
 {
     match found {
@@ -62,7 +70,7 @@ pub(crate) fn slice_of<'a>(found: Option<&'a Json>) -> &'a [Json]
     }
 }
 
-/// The members of a list.
+/// The members of a list. Empty for any other value.
 fn members_of(value: &Json) -> &[Json]
     ensures all { data_in result.now ≡ members (data_of value.now) }
     ensures ordered { IsOrdered (data_of value.now) → All IsOrdered (data_in result.now) }
@@ -78,15 +86,18 @@ fn members_of(value: &Json) -> &[Json]
     }
 }
 
-/// The member of a list at a place.
+/// The member of a list at an index.
 fn member_at(value: &Json, at: u32) -> Option<&Json>
-    ensures found { option_map (λ tree. data_of tree.now) result ≡ slice_get (members (data_of value.now)) at }
-    ensures ordered { IsOrdered (data_of value.now) → IfSome result (λ tree. IsOrdered (data_of tree.now)) }
+    ensures found { option_map (λ tree. data_of tree.now) result
+        ≡ slice_get (members (data_of value.now)) at }
+    ensures ordered { IsOrdered (data_of value.now)
+        → IfSome result (λ tree. IsOrdered (data_of tree.now)) }
 {
     value_at(members_of(value), at)
 }
 
-/// The value that a name leads to.
+/// The value that a property name leads to: of the object itself, or of the object that it refers
+/// to.
 fn named<'a>(
     bundle: &'a Bundle,
     last: Option<&str>,
@@ -94,7 +105,8 @@ fn named<'a>(
     value: &'a Json,
 ) -> Option<&'a Json>
     requires { IsOrdered (data_of value.now) }
-    ensures found { FindsExactly (LeadsTo (data_in bundle.now) (option_map (λ name. name.now) last.entry) name.now (data_of value.now))
+    ensures found { FindsExactly (LeadsTo (data_in bundle.now)
+        (option_map (λ name. name.now) last.entry) name.now (data_of value.now))
         (option_map (λ tree. data_of tree.now) result) }
     ensures ordered { IfSome result (λ tree. IsOrdered (data_of tree.now)) }
 {
@@ -108,9 +120,10 @@ fn named<'a>(
     }
 }
 
-/// The property of the object at a position.
+/// The property of the object at this position.
 fn property_at<'a>(bundle: &'a Bundle, at: u32, name: &str) -> Option<&'a Json>
-    ensures found { option_map (λ tree. data_of tree.now) result ≡ property_of (data_in bundle.now) name.now at }
+    ensures found { option_map (λ tree. data_of tree.now) result
+        ≡ property_of (data_in bundle.now) name.now at }
     ensures ordered { IfSome result (λ tree. IsOrdered (data_of tree.now)) }
 {
     match object_at(bundle, at) {
@@ -119,9 +132,11 @@ fn property_at<'a>(bundle: &'a Bundle, at: u32, name: &str) -> Option<&'a Json>
     }
 }
 
-/// The position of the object that a value refers to, behind that last name. Takes no memory.
+/// The position of the object that a value refers to, where `last`, the last property name before
+/// it, is one of references. Takes no memory.
 pub fn reference(bundle: &Bundle, last: Option<&str>, value: &Json) -> Option<u32>
-    ensures { FindsExactly (RefersTo (data_in bundle.now) (option_map (λ name. name.now) last.entry) (data_of value.now)) result }
+    ensures { FindsExactly (RefersTo (data_in bundle.now)
+        (option_map (λ name. name.now) last.entry) (data_of value.now)) result }
 {
     one_meaning();
     if is_reference(last) {
@@ -131,7 +146,7 @@ pub fn reference(bundle: &Bundle, last: Option<&str>, value: &Json) -> Option<u3
     }
 }
 
-/// The position that a value means, where it is a text.
+/// The position of the object that a text names.
 fn position_of(bundle: &Bundle, value: &Json) -> Option<u32>
     ensures { MatchOption (as_str (data_of value.now)) (result ≡ None)
         (λ text. Means (data_in bundle.now) text result) }

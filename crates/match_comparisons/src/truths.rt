@@ -11,8 +11,9 @@ use pattern_types::Pattern;
 use std::alloc::Global;
 use stix_bundles::{Bundle, Observation};
 
-/// For each observation of a bundle whether each bracket of a pattern holds, from left to right. What is found
-/// out of an object serves all observations: a test costs at most the size of the bundle for each of its steps.
+/// For each observation of a bundle: whether each bracket of a pattern holds, from left to right.
+/// Findings at an object serve all observations, so a test costs at most the size of the bundle for
+/// each of its steps.
 pub fn leaf_truths(
     alloc: Global,
     pattern: &Pattern,
@@ -20,7 +21,8 @@ pub fn leaf_truths(
     bundle: &Bundle,
 ) -> Result<Items<Items<bool>>, NoMemory>
     requires { IsSoundPattern (plain_pattern pattern.now) }
-    ensures { IfOk result (AreTruthsOfEach (data_in bundle.now) observations.now (plain_pattern pattern.now)) }
+    ensures { IfOk result (AreTruthsOfEach (data_in bundle.now) observations.now
+        (plain_pattern pattern.now)) }
 {
     let roots = roots_of(alloc, observations)?;
     let seen = BundleView {

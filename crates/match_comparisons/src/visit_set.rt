@@ -5,15 +5,15 @@ use flow_values::NoMemory;
 use std::alloc::Global;
 use std::collections::BTreeSet;
 
-/// Objects that a search went to by a reference: of each its position, and how many steps stood behind the
-/// name that led on from there.
+/// A set of visits to referenced objects: pairs of a position and of how many steps were left
+/// there.
 #[derive(Drop)]
 pub(crate) struct VisitSet {
     pairs: BTreeSet<(usize, u32)>,
 }
 
 impl VisitSet {
-    /// No places.
+    /// The empty set.
     pub(crate) fn new(alloc: Global) -> VisitSet
         ensures { (left at : ℕ) → ¬ Has result left at }
     {
@@ -22,14 +22,14 @@ impl VisitSet {
         }
     }
 
-    /// Whether the object at a position is one, with so many steps left.
+    /// Whether the object at this position was visited with `left` steps left.
     pub(crate) fn has(&self, left: usize, at: u32) -> bool
         ensures { IsTrue result ↔ Has self.now left at }
     {
         self.pairs.contains(&(left, at))
     }
 
-    /// Adds one.
+    /// Adds a visit.
     pub(crate) fn add(&mut self, left: usize, at: u32) -> Result<(), NoMemory>
         ensures { OnOk result ((count place : ℕ) → Has self.new count place
             ↔ (Has self.old count place ⊎ ((count ≡ left) × (place ≡ at)))) }

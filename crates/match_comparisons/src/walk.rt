@@ -1,3 +1,5 @@
+//! A depth-first walk along the steps of a path, with an explicit stack of frames.
+
 ghost use Rattle.std.specs.Prelude.{◌↔◌, ◌<◌, [], ◌∷◌, IfSome, IfNone, List, reverse};
 ghost use Rattle.serde_json.specs.Data.{Data};
 ghost use Rattle.stix_json.specs.DataOf.{data_of};
@@ -12,15 +14,19 @@ use stix_bundles::Bundle;
 use stix_bundles::laws::one_meaning;
 use stix_json::Json;
 
-/// The next value of a walk.
+/// The next value of the walk.
 pub(crate) fn next_value<'a>(bundle: &'a Bundle, frames: &mut Frames<'a>) -> Option<&'a Json>
     requires { Fits (reverse frames.old.items) }
-    ensures some { IfSome result (λ value. (values : List Data) → LeftIn (data_in bundle.now) (reverse frames.old.items) values
-        ↔ Follows (data_of value.now ∷ []) (LeftIn (data_in bundle.now) (reverse frames.new.items)) values) }
-    ensures none { IfNone result ((values : List Data) → LeftIn (data_in bundle.now) (reverse frames.old.items) values
+    ensures some { IfSome result (λ value. (values : List Data)
+        → LeftIn (data_in bundle.now) (reverse frames.old.items) values
+        ↔ Follows (data_of value.now ∷ []) (LeftIn (data_in bundle.now) (reverse frames.new.items))
+        values) }
+    ensures none { IfNone result ((values : List Data)
+        → LeftIn (data_in bundle.now) (reverse frames.old.items) values
         ↔ LeftIn (data_in bundle.now) [] values) }
     ensures fits { Fits (reverse frames.new.items) }
-    ensures falls { IfSome result (λ value. weight (reverse frames.new.items) < weight (reverse frames.old.items)) }
+    ensures falls { IfSome result (λ value. weight (reverse frames.new.items)
+        < weight (reverse frames.old.items)) }
 {
     while let Some(frame) = frames.pop() {
         if let Some(value) = visit(bundle, frame, frames) {
@@ -30,16 +36,20 @@ pub(crate) fn next_value<'a>(bundle: &'a Bundle, frames: &mut Frames<'a>) -> Opt
     None
 }
 
-/// Visits the first value of a frame: gives it where no step leads on, else adds a frame of what the
-/// next step selects from it. The frame stays with its other values.
+/// Visits the first value of a frame: returns it where no step is left, else pushes a frame with
+/// what the next step selects from it. The frame's other values stay on the stack.
 fn visit<'a>(bundle: &'a Bundle, frame: Frame<'a>, frames: &mut Frames<'a>) -> Option<&'a Json>
     requires { Fits (frame ∷ reverse frames.old.items) }
-    ensures some { IfSome result (λ value. (values : List Data) → LeftIn (data_in bundle.now) (frame.entry ∷ reverse frames.old.items) values
-        ↔ Follows (data_of value.now ∷ []) (LeftIn (data_in bundle.now) (reverse frames.new.items)) values) }
-    ensures none { IfNone result ((values : List Data) → LeftIn (data_in bundle.now) (frame.entry ∷ reverse frames.old.items) values
+    ensures some { IfSome result (λ value. (values : List Data)
+        → LeftIn (data_in bundle.now) (frame.entry ∷ reverse frames.old.items) values
+        ↔ Follows (data_of value.now ∷ []) (LeftIn (data_in bundle.now) (reverse frames.new.items))
+        values) }
+    ensures none { IfNone result ((values : List Data)
+        → LeftIn (data_in bundle.now) (frame.entry ∷ reverse frames.old.items) values
         ↔ LeftIn (data_in bundle.now) (reverse frames.new.items) values) }
     ensures fits { Fits (reverse frames.new.items) }
-    ensures falls { weight (reverse frames.new.items) < weight (frame.entry ∷ reverse frames.old.items) }
+    ensures falls { weight (reverse frames.new.items)
+        < weight (frame.entry ∷ reverse frames.old.items) }
 {
     one_meaning();
     let Some((value, others)) = frame.values.split_first() else {

@@ -1,4 +1,4 @@
-//! The two characters of a pattern that do not stand for themselves.
+//! The wildcards of LIKE.
 ghost use Rattle.std.specs.Prelude.{◌≡◌, ◌++◌, ◌∷◌, MatchOption};
 ghost use Rattle.std.specs.Str.{chars};
 ghost use Rattle.match_comparisons.specs.Like.{any_run};
@@ -6,14 +6,14 @@ ghost use Rattle.match_comparisons.specs.inner.Segments.{Lacks, OccursAfter};
 
 use memchr::memchr;
 
-/// Any one character.
+/// Matches any one character.
 pub(crate) const ANY_ONE: char = '_';
 
-/// What stands before the first `%` of a pattern, and what behind it; None where so many bytes stand
-/// before it, or more.
+/// Splits the pattern at its first `%`. None where there is no `%` after at most `most` bytes.
 pub(crate) fn split_at_run(pattern: &str, most: usize) -> Option<(&str, &str)>
     ensures { MatchOption result (OccursAfter pattern.now any_run most)
-        (λ (segment, rest). (chars pattern.now ≡ chars segment.now ++ any_run ∷ chars rest.now) × Lacks (chars segment.now) any_run) }
+        (λ (segment, rest). (chars pattern.now ≡ chars segment.now ++ any_run ∷ chars rest.now)
+        × Lacks (chars segment.now) any_run) }
 {
     let bytes = pattern.as_bytes();
     let near = &bytes[..bytes.len().min(most.saturating_add(1))];

@@ -7,20 +7,20 @@ use Rattle.stix_times.specs.Timestamp.{two_digits}
 abbrev pub next_state : ℕ → ℕ
 next_state state = (1_103_515_245 * state + 12_345) % 2 ^ 31
 
--- the number that a draw gives, of the state that it leaves
+-- the number drawn, computed from the new state
 abbrev pub drawn_number : ℕ → ℕ
 drawn_number state = state / 65_536
 
--- an observation that is to come: how many seconds after the one before, and the digit of its login
+-- an observation to come: how many seconds after the one before, and the digit of its login
 pub record Event : Type 0 where
   pub wait : ℕ
   pub digit : ℕ
 
--- the event of the two draws that leave these states
+-- the event drawn with these states
 abbrev pub event_of : ℕ → ℕ → Event
 event_of first second = record { wait = drawn_number first % 10; digit = drawn_number second % 4 }
 
--- the events of so many pairs of draws from a state on
+-- the events of k pairs of draws from a state
 unfoldable pub events : ℕ → ℕ → List Event
 events state zero = []
 events state (suc count) =
@@ -28,7 +28,8 @@ events state (suc count) =
     let second = next_state first in
     event_of first second ∷ events second count
 
--- the text of the time so many seconds after the log begins, in January: of 100,000 events none comes as late as February
+-- the text of the time this many seconds after the start of the log, in January: of 100,000 events
+-- none is as late as February
 unfoldable pub time_text : ℕ → List ℕ
 time_text seconds =
     codes "2021-01-" ++ two_digits (1 + seconds / 86_400) ++ codes "T" ++ two_digits (seconds / 3600 % 24)
@@ -46,13 +47,14 @@ line_text seconds digit =
     ++ codes "\",\"number_observed\":1,\"object_refs\":[\"user-account--00000000-0000-4000-8000-000000000001\"]},{\"type\":\"user-account\",\"id\":\"user-account--00000000-0000-4000-8000-000000000001\",\"account_login\":\"u"
     ++ (48 + digit) ∷ [] ++ codes "\"}]}\n"
 
--- the lines of some events, of which the first follows an observation so many seconds after the log begins
+-- the lines of some events; the observation before the first was this many seconds after the start
+-- of the log
 unfoldable pub lines_text : ℕ → List Event → List ℕ
 lines_text seconds [] = []
 lines_text seconds (event ∷ more) =
     let now = seconds + event.wait in
     line_text now event.digit ++ lines_text now more
 
--- the log of a seed with so many lines
+-- the log of a seed with this many lines
 abbrev pub log_text : ℕ → ℕ → List ℕ
 log_text seed count = lines_text 0 (events seed count)

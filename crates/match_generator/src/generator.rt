@@ -1,7 +1,8 @@
 ghost use Rattle.std.specs.Prelude.{◌≡◌};
 ghost use Rattle.match_generator.specs.GeneratedLog.{next_state, drawn_number};
 
-/// A generator of numbers, each of which comes from its state.
+/// A linear congruential generator: each state is computed from the one before, and each number
+/// from its state.
 #[derive(Clone, Copy)]
 pub(crate) struct Generator {
     pub(crate) state: u32,

@@ -4,22 +4,22 @@ ghost use Rattle.match_generator.specs.GeneratedLog.{time_text, line_text};
 
 use std::marker::Model;
 
-/// The line as far as its first time.
+/// The line up to its first time.
 const LINE_START: &[u8] =
     br#"{"type":"bundle","id":"bundle--00000000-0000-4000-8000-000000000001","objects":[{"type":"observed-data","spec_version":"2.1","id":"observed-data--00000000-0000-4000-8000-000000000001","created":"2021-06-10T00:00:00.000Z","modified":"2021-06-10T00:00:00.000Z","first_observed":""#;
 
 const BETWEEN_TIMES: &[u8] = br#"","last_observed":""#;
 
-/// What stands between the second time and the digit.
+/// The text between the second time and the digit.
 const BEFORE_DIGIT: &[u8] =
     br#"","number_observed":1,"object_refs":["user-account--00000000-0000-4000-8000-000000000001"]},{"type":"user-account","id":"user-account--00000000-0000-4000-8000-000000000001","account_login":"u"#;
 
 const LINE_END: &[u8] = b"\"}]}\n";
 
-/// How many bytes a line has.
+/// The length of a line in bytes.
 const LINE_LENGTH: usize = 533;
 
-/// A line as it is written.
+/// A buffer for one line.
 #[derive(Drop)]
 pub(crate) struct Line {
     bytes: [u8; LINE_LENGTH],
@@ -47,21 +47,22 @@ impl Line {
         }
     }
 
-    /// The bytes, lent.
+    /// Its bytes.
     pub(crate) fn as_slice(&self) -> &[u8]
         ensures { result.now ≡ self.now }
     {
         &self.bytes[..self.end]
     }
 
-    /// How many bytes there are.
+    /// How many bytes it has.
     pub(crate) fn len(&self) -> usize
         ensures { result ≡ length self.now }
     {
         self.end
     }
 
-    /// Writes the line of an observation so many seconds after the start of the log, over what was there.
+    /// Writes the line of an observation this many seconds after the start of the log, over the
+    /// previous one.
     #[tactic(auto, using(crate::proofs::LinesTextLemmas::lengths))]
     pub(crate) fn write(&mut self, seconds: u32, digit: u8)
         requires early { seconds < 31 * 86_400 }
@@ -78,7 +79,7 @@ impl Line {
         self.push(LINE_END);
     }
 
-    /// Adds the time so many seconds after the start of the log, which lies in January.
+    /// Appends the time this many seconds after the start of the log, in January.
     fn push_time(&mut self, seconds: u32)
         requires early { seconds < 31 * 86_400 }
         requires room { length self.old + 20 ≤ LINE_LENGTH }
@@ -95,7 +96,7 @@ impl Line {
         self.push(b"Z");
     }
 
-    /// Adds the two digits of a number.
+    /// Appends a number as two digits.
     fn push_pair(&mut self, number: u32)
         requires small { number < 100 }
         requires room { length self.old + 2 ≤ LINE_LENGTH }
@@ -104,7 +105,7 @@ impl Line {
         self.push(&[b'0' + (number / 10) as u8, b'0' + (number % 10) as u8]);
     }
 
-    /// Adds a piece.
+    /// Appends some bytes.
     fn push(&mut self, piece: &[u8])
         requires { length self.old + length piece.now ≤ LINE_LENGTH }
         ensures { self.new ≡ self.old ++ piece.now }
@@ -114,7 +115,7 @@ impl Line {
         self.end = end;
     }
 
-    /// Takes all bytes away.
+    /// Removes all bytes.
     fn clear(&mut self)
         ensures { self.new ≡ [] }
     {

@@ -15,15 +15,15 @@ pub const MAX_SEED: u32 = 2_147_483_647;
 /// The most lines of a generated log.
 pub const MAX_COUNT: u32 = 100_000;
 
-/// The generated log, as a source that makes its lines as they are read. It never fails and takes no
-/// memory. Contracts see the bytes that are left.
+/// A generated log as a `Source`. It never fails and takes no memory. Contracts observe the bytes
+/// that are left.
 #[derive(Drop)]
 pub struct GeneratedLog {
     line: Line,
-    /// How many bytes of the line are taken.
+    /// How many bytes of the line were read.
     at: usize,
     generator: Generator,
-    /// How long after the start of the log the line's observation stands.
+    /// The time of the line's observation, in seconds after the start of the log.
     seconds: u32,
     lines_to_come: u32,
 }
@@ -43,7 +43,7 @@ impl Model for GeneratedLog {
 }
 
 impl GeneratedLog {
-    /// The log of this seed with so many lines, of which none is read yet.
+    /// The log with this seed and number of lines, from its start.
     pub fn new(seed: u32, count: u32) -> GeneratedLog
         requires seed { seed ≤ MAX_SEED }
         requires count { count ≤ MAX_COUNT }
@@ -64,7 +64,8 @@ impl Source for GeneratedLog {
 
     ghost faults = { λ _. 0 };
 
-    /// Gives as many bytes of the current line as fit. The next line is made once that one is used up.
+    /// Copies as many bytes of the current line as fit. Generates the next line once this one is
+    /// used up.
     fn read(&mut self, buffer: &mut [u8]) -> Result<usize, Fault>
         requires room { 0 < length buffer.now }
 

@@ -1,4 +1,4 @@
--- Where a reader of bundles stands, and what its answers say of the lines that come yet.
+-- The observable state of a reader of bundles, and what its answers say about the remaining lines.
 use Rattle.std.specs.Prelude.{◌≡◌, ⊤, ℕ, ◌+◌, ◌<◌, ◌≤◌, ℤ, List, [], length, Result, Ok, Err, Option, Some, None, option_map, IfSome}
 use Rattle.flow_edges.specs.declared.source.TheConstants.{MAX_READ}
 use Rattle.flow_edges.specs.Flow.{IsAtEnd, TakesAtMost}
@@ -35,54 +35,55 @@ reader_start cut = record { stage = first_stage cut; observations = 0; last = No
 abbrev pub next_number : ReaderState → ℕ
 next_number state = state.observations + 1
 
--- the input is still to be read, or read on: its lines weren't refused
+-- the input is still open: no line was refused
 abbrev pub IsOpen : Stage → Type 0
 IsOpen (Lines lines) = lines.refusal ≡ None
 IsOpen Whole = ⊤
 IsOpen AtEnd = ⊥
 IsOpen Ended = ⊥
 
--- the lines that come yet, where the source tells its bytes
+-- the remaining lines, where the source's bytes are observable
 abbrev pub ahead : Stage → Option (List ℕ) → Option LineStream
 ahead (Lines lines) left = lines_remaining lines left
 ahead Whole left = option_map one_line left
 ahead AtEnd left = option_map (λ bytes. ended) left
 ahead Ended left = option_map (λ bytes. ended) left
 
--- whole lines stand among the bytes taken
+-- the buffer holds whole lines
 abbrev pub HoldsLines : Stage → Type 0
 HoldsLines (Lines lines) = HoldsLine lines.held
 HoldsLines _ = ⊥
 
--- when these bytes were left, the line of that number hadn't come whole; of an input that is read whole, nothing was left any more
+-- when these bytes were left, this line wasn't complete yet; in Mode::Whole, nothing was left
 abbrev pub LacksLineIn : Stage → ℕ → Option (List ℕ) → List ℕ → Type 0
 LacksLineIn (Lines before) number left bytes = LacksLine before number left bytes
 LacksLineIn Whole number left bytes = bytes ≡ []
 LacksLineIn _ number left bytes = ⊥
 
--- the line of that number went by: no byte is lost, and few bytes are taken and not yet given; an input that is read whole
--- is then at its end
+-- the line was consumed: no byte is lost, and few bytes are buffered; in Mode::Whole the reader is
+-- then at its end
 abbrev pub Moves : ℕ → Stage → Stage → Option (List ℕ) → Option (List ℕ) → Type 0
 Moves number (Lines before) (Lines after) left left_after = (after.refusal ≡ None) × (number ≡ after.count) × (before.given < after.given)
     × (after.given ≤ MAX_INPUT) × (length after.held ≤ MAX_READ) × ContinuesAccounting before after left left_after
 Moves number Whole AtEnd left left_after = (number ≡ 1) × IsAtEnd left_after × TakesAtMost (MAX_WHOLE_INPUT + MAX_READ) left left_after
 Moves number _ _ left left_after = ⊥
 
--- no more lines went by than up to that one, and little more is taken: of what follows no more bytes than a line may have
--- and one read gives
+-- no line after this one was consumed, and no more is buffered than a line may have and one read
+-- returns
 pub record StopsAt (before : LinesState) (line : ℕ) (left left_after : Option (List ℕ)) : Type 0 where
   pub at : LinesState
   pub lines : at.count ≤ line
   pub few : length at.held ≤ MAX_LINE + MAX_READ
   pub accounts : ContinuesAccounting before at left left_after
 
--- what was taken where a line is refused
+-- how much was read where a line is refused
 abbrev pub TakesLittle : Stage → ℕ → Option (List ℕ) → Option (List ℕ) → Type 0
 TakesLittle (Lines before) line left left_after = StopsAt before line left left_after
 TakesLittle Whole line left left_after = TakesAtMost (MAX_WHOLE_INPUT + MAX_READ) left left_after
 TakesLittle _ line left left_after = ⊥
 
--- a read failed: the lines that come yet are the same, no byte is lost, and the bytes taken and not yet given hold no whole line
+-- a read failed: the remaining lines are unchanged, no byte is lost, and the buffer holds no whole
+-- line
 pub record KeepsBytes (before : LinesState) (left left_after : Option (List ℕ)) : Type 0 where
   pub at : LinesState
   pub keeps : KeepsLines before at left left_after
@@ -93,13 +94,13 @@ BreaksOff (Lines before) left left_after = KeepsBytes before left left_after
 BreaksOff Whole left left_after = TakesAtMost (MAX_WHOLE_INPUT + MAX_READ) left left_after
 BreaksOff _ left left_after = ⊥
 
--- no line came yet, and nothing is left
+-- no line remained, and nothing is left
 pub record ComesToEnd (before after : Stage) (left left_after : Option (List ℕ)) : Type 0 where
   pub none : IfSome (ahead before left) (λ lines. lines ≡ ended)
   pub drained : IsAtEnd left_after
   pub is_at_end : after ≡ AtEnd
 
--- the first of the lines that came yet is a bundle, which is given with its observations, and the others come yet
+-- the first of the remaining lines is a bundle, returned with its observations; the others remain
 pub record GivesBatch (before after : ReaderState) (left left_after : Option (List ℕ)) (batch : Batch) : Type 0 where
   pub bytes : List ℕ
   pub line : ahead before.stage left ≡ option_map (λ later. line_then batch.line bytes later) (ahead after.stage left_after)
@@ -108,12 +109,12 @@ pub record GivesBatch (before after : ReaderState) (left left_after : Option (Li
   pub last : after.last ≡ last_after before.last batch.observations
   pub moves : Moves batch.line before.stage after.stage left left_after
 
--- the first of the lines that came yet is refused
+-- the first of the remaining lines is refused
 pub record RefusesLine (before : ReaderState) (left left_after : Option (List ℕ)) (line : ℕ) (why : InputRule) : Type 0 where
   pub refused : IfSome (ahead before.stage left) (λ lines. IsRefusedAt before.last (next_number before) lines line why)
   pub little : TakesLittle before.stage line left left_after
 
--- what an answer says of the lines that came yet
+-- what an answer says about the remaining lines
 abbrev pub AnswersNext : ReaderState → ReaderState → Option (List ℕ) → Option (List ℕ) → Result (Option Batch) ReadEnd → Type 0
 AnswersNext before after left left_after (Ok (Some batch)) = GivesBatch before after left left_after batch
 AnswersNext before after left left_after (Ok None) = ComesToEnd before.stage after.stage left left_after

@@ -1,5 +1,6 @@
--- What the bytes of one line are: a bundle (STIX 2.1, section 8) with its observations, or why it is refused. `last` is when
--- the last observation of the lines before was last observed, where there was one, and `next` the number of the next one.
+-- The reading of one line: a bundle (STIX 2.1, section 8) with its observations, or why it is
+-- refused. `last` is when the observation before it was last observed, if any, and `next` is the
+-- number of its first observation.
 use Rattle.std.specs.Prelude.{◌≡◌, ◌≢◌, ⊤, ℕ, ◌-◌, ℤ, ◌≤ℤ◌, ◌<ℤ◌, List, [], ◌∷◌, length, slice_get, Option, Some, None, option_map}
 use Rattle.std.specs.Option.{option_or}
 use Rattle.serde_json.specs.Data.{Data}
@@ -14,13 +15,13 @@ use Rattle.stix_bundles.specs.Observations.{NoneEmbeds, IsFirstEmbedding, AreObs
 use Rattle.match_input.specs.declared.rule.InputRule.{InputRule}
 use Rattle.match_input.specs.declared.rule.InputRule.TheVariants.{LineTooLong, InputTooLong, Json as NoJson, Bundle as NoBundle, Embedded, OutOfOrder}
 
--- the bytes are a JSON value, which is a bundle of these objects
+-- the bytes are JSON for a bundle of these objects
 pub record IsTextOf (bytes : List ℕ) (objects : List Data) : Type 0 where
   pub value : Json
   pub json : IsJsonOf bytes value
   pub bundle : IsBundle (data_of value) objects
 
--- the first observation was last observed no earlier than the last one before
+-- the first observation was last observed no earlier than the one before it
 abbrev pub IsInOrder : Option ℤ → List Observation → Type 0
 IsInOrder None observations = ⊤
 IsInOrder (Some last) [] = ⊤
@@ -32,26 +33,26 @@ Decreases None observations before now = ⊥
 Decreases (Some last) [] before now = ⊥
 Decreases (Some last) (first ∷ observations) before now = (before ≡ last) × (now ≡ first.last) × (now <ℤ before)
 
--- when the last of these was last observed; what it was, where there are none
+-- when the last of these was last observed; `last` if there are none
 abbrev pub last_after : Option ℤ → List Observation → Option ℤ
 last_after last observations = option_or (option_map (λ observation. observation.last) (slice_get observations (length observations - 1))) last
 
--- the bytes are a bundle of these objects, with these observations, which may follow
+-- the bytes are a bundle of these objects, with these observations, in order
 pub record IsBundleLine (last : Option ℤ) (next : ℕ) (bytes : List ℕ) (objects : List Data) (observations : List Observation) : Type 0 where
   pub text : IsTextOf bytes objects
   pub apart : NoneEmbeds objects
   pub are : AreObservations objects next observations
   pub in_order : IsInOrder last observations
 
--- the value of the bytes is no bundle
+-- the JSON value is no bundle
 abbrev pub IsNoBundle : List ℕ → BundleRefusal → Type 0
 IsNoBundle bytes refusal = (value : Json) × IsJsonOf bytes value × IsBundleRefused (data_of value) refusal
 
--- an observed-data of the bundle holds its objects itself: the first one that does
+-- the first observed-data of the bundle that embeds its objects
 abbrev pub IsEmbedded : List ℕ → ℕ → Type 0
 IsEmbedded bytes object = (objects : List Data) × IsTextOf bytes objects × IsFirstEmbedding objects object
 
--- the first observation of the bundle is behind the last one before
+-- the first observation of the bundle is earlier than the one before it
 pub record IsOutOfOrder (last : Option ℤ) (next : ℕ) (bytes : List ℕ) (before now : ℤ) : Type 0 where
   pub objects : List Data
   pub text : IsTextOf bytes objects
@@ -60,7 +61,7 @@ pub record IsOutOfOrder (last : Option ℤ) (next : ℕ) (bytes : List ℕ) (bef
   pub are : AreObservations objects next observations
   pub behind : Decreases last observations before now
 
--- why the bytes are refused, of which there aren't too many: the first cause in this order
+-- why the bytes, if not too many, are refused: the first cause in this order
 abbrev pub IsRefusedFor : Option ℤ → ℕ → List ℕ → InputRule → Type 0
 IsRefusedFor last next bytes LineTooLong = ⊥
 IsRefusedFor last next bytes InputTooLong = ⊥

@@ -1,4 +1,5 @@
--- What an input is read as, whole: its bundles with their observations up to the first line that is refused, and why that is.
+-- The reading of a whole input: its bundles with their observations up to the first refused line,
+-- and why that is refused.
 use Rattle.std.specs.Prelude.{◌≡◌, ℕ, ◌+◌, ℤ, List, [], ◌∷◌, length, nat_lt, if◌then◌else◌, Option, None}
 use Rattle.serde_json.specs.Data.{Data}
 use Rattle.flow_lines.specs.Lines.{LineStream, ended, refused, line_then, lines_of}
@@ -18,12 +19,12 @@ pub record BundleOf : Type 0 where
   pub objects : List Data
   pub observations : List Observation
 
--- how an input ends: whole, or at the first line that is refused
+-- how an input ends: complete, or at the first refused line
 pub data InputEnd : Type 0 where
   Whole : InputEnd
   Refused : (line : ℕ) → InputRule → InputEnd
 
--- why a line is refused that is too long, or with which the input is
+-- why a line is refused that is too long, or that makes the input too long
 abbrev pub IsTooLong : LineRefusal → ℕ → InputRule → Type 0
 IsTooLong Fault line why = ⊥
 IsTooLong (LineTooLong number) line why = (line ≡ number) × (why ≡ rule.LineTooLong)
@@ -36,7 +37,7 @@ IsRefusedAt last next ended line why = ⊥
 IsRefusedAt last next (refused refusal) line why = IsTooLong refusal line why
 IsRefusedAt last next (line_then number bytes later) line why = (line ≡ number) × IsRefusedFor last next bytes why
 
--- The lines that come are read as these bundles, and end so.
+-- The reading of the remaining lines: these bundles, and this end.
 pub data Reads : Option ℤ → ℕ → LineStream → List BundleOf → InputEnd → Type 0 where
   -- the input ends
   at_end : {last : Option ℤ} {next : ℕ} → Reads last next ended [] Whole
@@ -49,15 +50,15 @@ pub data Reads : Option ℤ → ℕ → LineStream → List BundleOf → InputEn
       → Reads (last_after last observations) (next + length observations) later bundles end
       → Reads last next (line_then number bytes later) (record { line = number; objects = objects; observations = observations } ∷ bundles) end
 
--- an input that is read whole, as one line
+-- an input in Mode::Whole, as one line
 abbrev pub one_line : List ℕ → LineStream
 one_line bytes = if nat_lt MAX_WHOLE_INPUT (length bytes) then refused (InputTooLong 1) else line_then 1 bytes ended
 
--- the lines of an input, as it is cut
+-- the lines of an input, by the mode
 abbrev pub lines_in : Mode → List ℕ → LineStream
 lines_in Lines bytes = lines_of bytes
 lines_in WholeInput bytes = one_line bytes
 
--- the bytes of an input are read so: observations are numbered from 1
+-- the reading of the bytes of an input: observations are numbered from 1
 abbrev pub Reading : Mode → List ℕ → List BundleOf → InputEnd → Type 0
 Reading mode bytes bundles end = Reads None 1 (lines_in mode bytes) bundles end

@@ -10,7 +10,7 @@ use Rattle.stix_bundles.specs.declared.refusal.BundleRefusal.TheVariants as bund
 use Rattle.match_input.specs.declared.rule.InputRule.{InputRule}
 use Rattle.match_input.specs.declared.rule.InputRule.TheVariants.{LineTooLong, InputTooLong, Json, Bundle, Embedded, OutOfOrder}
 
--- a name, and the path of what it is told of, where that isn't the whole
+-- a name, and the path in the value, unless that is empty
 abbrev pub at_path : List ℕ → List ℕ → List ℕ
 at_path name [] = name
 at_path name (c ∷ path) = name ++ (codes " at " ++ c ∷ path)

@@ -1,3 +1,5 @@
+//! One line: from bytes to a bundle with its observations, or the rule by which it is refused.
+
 ghost use Rattle.std.specs.Prelude.{◌≡◌, ◌≤◌, ◌+◌, ◌^◌, ℤ, List, ℕ, Option, length, IfOk, IfErr, IfSome, IfNone};
 ghost use Rattle.stix_json.specs.DataOf.{data_of};
 ghost use Rattle.stix_json.specs.Ordered.{IsOrdered};
@@ -24,8 +26,8 @@ pub(crate) struct BundleLine {
     pub(crate) observations: Items<Observation>,
 }
 
-/// What the bytes of a line are, behind an observation that was last observed then, where the next
-/// observation has that number: a bundle with its observations, or why the line is refused.
+/// Parses a line. `last` is when the observation before it was last observed, `next` the number of
+/// its first observation.
 pub(crate) fn read_line(
     alloc: Global,
     reader: &mut JsonReader,
@@ -37,7 +39,8 @@ pub(crate) fn read_line(
     ensures ok { IfOk result (λ outcome. IfOk outcome (λ line.
         IsBundleLine last next bytes.now (data_in line.bundle) line.observations)) }
     ensures refused { IfOk result (λ outcome. IfErr outcome (IsRefusedFor last next bytes.now)) }
-    ensures few { IfOk result (λ outcome. IfOk outcome (λ line. length line.observations ≤ MAX_OBJECTS)) }
+    ensures few { IfOk result (λ outcome. IfOk outcome (λ line. length line.observations
+        ≤ MAX_OBJECTS)) }
 {
     let json = match json_of(reader, bytes)? {
         Ok(json) => json,
@@ -50,10 +53,11 @@ pub(crate) fn read_line(
     in_order(alloc, last, next, bundle)
 }
 
-/// The JSON value that the bytes are.
+/// Parses bytes as JSON.
 fn json_of(reader: &mut JsonReader, bytes: &[u8]) -> Result<Result<Json, InputRule>, NoMemory>
     ensures ok { IfOk result (λ outcome. IfOk outcome (IsJsonOf bytes.now)) }
-    ensures refused { (last : Option ℤ) (next : ℕ) → IfOk result (λ outcome. IfErr outcome (IsRefusedFor last next bytes.now)) }
+    ensures refused { (last : Option ℤ) (next : ℕ)
+        → IfOk result (λ outcome. IfErr outcome (IsRefusedFor last next bytes.now)) }
 {
     match reader.read(bytes) {
         Ok(json) => Ok(Ok(json)),
@@ -62,10 +66,11 @@ fn json_of(reader: &mut JsonReader, bytes: &[u8]) -> Result<Result<Json, InputRu
     }
 }
 
-/// The bundle that a JSON value is.
+/// Reads a JSON value as a bundle.
 fn bundle_of(alloc: Global, json: Json) -> Result<Result<Bundle, InputRule>, NoMemory>
     requires { IsOrdered (data_of json) }
-    ensures ok { IfOk result (λ outcome. IfOk outcome (λ bundle. IsBundle (data_of json) (data_in bundle))) }
+    ensures ok { IfOk result (λ outcome. IfOk outcome
+        (λ bundle. IsBundle (data_of json) (data_in bundle))) }
     ensures refused { (last : Option ℤ) (next : ℕ) (bytes : List ℕ) → IsJsonOf bytes json
         → IfOk result (λ outcome. IfErr outcome (IsRefusedFor last next bytes)) }
 {
@@ -76,7 +81,8 @@ fn bundle_of(alloc: Global, json: Json) -> Result<Result<Bundle, InputRule>, NoM
     }
 }
 
-/// A bundle with its observations, where none holds its objects itself, and the first one may follow.
+/// A bundle with its observations, where no observed-data embeds its objects, and the first
+/// observation isn't out of order.
 fn in_order(
     alloc: Global,
     last: Option<Instant>,
@@ -84,11 +90,13 @@ fn in_order(
     bundle: Bundle,
 ) -> Result<Result<BundleLine, InputRule>, NoMemory>
     requires { next + MAX_OBJECTS ≤ 2 ^ 64 }
-    ensures ok { (bytes : List ℕ) → IsTextOf bytes (data_in bundle) → IfOk result (λ outcome. IfOk outcome (λ line.
+    ensures ok { (bytes : List ℕ) → IsTextOf bytes (data_in bundle)
+        → IfOk result (λ outcome. IfOk outcome (λ line.
         IsBundleLine last next bytes (data_in line.bundle) line.observations)) }
     ensures refused { (bytes : List ℕ) → IsTextOf bytes (data_in bundle)
         → IfOk result (λ outcome. IfErr outcome (IsRefusedFor last next bytes)) }
-    ensures few { IfOk result (λ outcome. IfOk outcome (λ line. length line.observations ≤ MAX_OBJECTS)) }
+    ensures few { IfOk result (λ outcome. IfOk outcome (λ line. length line.observations
+        ≤ MAX_OBJECTS)) }
 {
     let _counted = bundle.objects();
     let observations = match observations(alloc, &bundle, next) {
@@ -107,7 +115,7 @@ fn in_order(
     }
 }
 
-/// The last time before and that of the first observation, where this one is earlier.
+/// The time before and the time of the first observation, where this is earlier.
 fn decreasing_time(
     last: Option<Instant>,
     observations: &[Observation],
@@ -126,7 +134,7 @@ fn decreasing_time(
     }
 }
 
-/// When the last of some observations was last observed; `last` where there are none.
+/// When the last of some observations was last observed; `last` if there are none.
 pub(crate) fn last_time(last: Option<Instant>, observations: &[Observation]) -> Option<Instant>
     ensures { result ≡ last_after last observations.now }
 {

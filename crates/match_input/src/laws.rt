@@ -1,5 +1,5 @@
-//! What follows from the definitions: the contracts are the laws, and the functions do nothing.
-//! That there is one is said as: not every one fails.
+//! Theorems about the definitions of this crate. The contracts state them; the functions do nothing
+//! at run time. Existence is stated as "not none".
 
 ghost use Rattle.std.specs.Prelude.{◌≡◌, ℕ, ◌+◌, ℤ, List, ◌∷◌, ◌++◌, length, Option};
 ghost use Rattle.serde_json.specs.Data.{Data};
@@ -18,9 +18,10 @@ use stix_bundles::laws::{
 };
 use stix_json::laws::{one_json, value_or_refusal};
 
-/// No input is without a reading.
+/// Every input has a reading.
 pub fn some_reading()
-    ensures { (mode : Mode) (bytes : List ℕ) → ¬ ((bundles : List BundleOf) (end : InputEnd) → ¬ Reading mode bytes bundles end) }
+    ensures { (mode : Mode) (bytes : List ℕ)
+        → ¬ ((bundles : List BundleOf) (end : InputEnd) → ¬ Reading mode bytes bundles end) }
 {
     value_or_refusal();
     bundle_or_refusal();
@@ -28,22 +29,27 @@ pub fn some_reading()
     some_observations();
 }
 
-/// An input is read in one way: its bytes have one list of bundles with their observations, and one end. So a
-/// line is refused exactly where it is said to be, for one cause.
+/// The reading of an input is unique: its bytes have one list of bundles with their observations,
+/// and one end. So a line is refused exactly where it is reported, for one cause.
 pub fn one_reading()
     ensures { (mode : Mode) (bytes : List ℕ) (bundles others : List BundleOf) (end other : InputEnd)
-        → Reading mode bytes bundles end → Reading mode bytes others other → (bundles ≡ others) × (end ≡ other) }
+        → Reading mode bytes bundles end → Reading mode bytes others other
+        → (bundles ≡ others) × (end ≡ other) }
 {
     one_json();
     one_bundle();
     one_list_of_observations();
 }
 
-/// Where the first line that comes is a bundle, all that comes is read as that bundle and what is behind it.
+/// Where the next line is a bundle, the input is read as this bundle followed by the reading of the
+/// rest.
 pub fn continues()
-    ensures { (last : Option ℤ) (next number : ℕ) (bytes : List ℕ) (later : LineStream) (objects : List Data) (observations : List Observation)
-        (all : List BundleOf) (end : InputEnd) → IsBundleLine last next bytes objects observations → Reads last next (line_then number bytes later) all end
-        → (rest : List BundleOf) × (all ≡ record { line = number; objects = objects; observations = observations } ∷ rest)
+    ensures { (last : Option ℤ) (next number : ℕ) (bytes : List ℕ) (later : LineStream)
+        (objects : List Data) (observations : List Observation)
+        (all : List BundleOf) (end : InputEnd) → IsBundleLine last next bytes objects observations
+        → Reads last next (line_then number bytes later) all end
+        → (rest : List BundleOf) × (all
+        ≡ record { line = number; objects = objects; observations = observations } ∷ rest)
         × Reads (last_after last observations) (next + length observations) later rest end }
 {
     one_json();
@@ -51,13 +57,16 @@ pub fn continues()
     one_list_of_observations();
 }
 
-/// The reading of a beginning that ends at a line feed begins the reading of the whole: its bundles stand first, and the
-/// refusal of one of its lines is the refusal of the whole.
+/// The reading of a prefix that ends at a line feed is a prefix of the reading of the whole. Its
+/// bundles come first, and its refused line, if any, is the refused line of the whole.
 pub fn readings_continue()
-    ensures whole { (bytes more : List ℕ) (bundles all : List BundleOf) (end : InputEnd) → AreWholeLines bytes → Reading Lines bytes bundles Whole
+    ensures whole { (bytes more : List ℕ) (bundles all : List BundleOf) (end : InputEnd)
+        → AreWholeLines bytes → Reading Lines bytes bundles Whole
         → Reading Lines (bytes ++ more) all end → (rest : List BundleOf) × (all ≡ bundles ++ rest) }
-    ensures refused { (bytes more : List ℕ) (bundles : List BundleOf) (line : ℕ) (why : InputRule) → AreWholeLines bytes
-        → Reading Lines bytes bundles (Refused line why) → Reading Lines (bytes ++ more) bundles (Refused line why) }
+    ensures refused { (bytes more : List ℕ) (bundles : List BundleOf) (line : ℕ) (why : InputRule)
+        → AreWholeLines bytes
+        → Reading Lines bytes bundles (Refused line why)
+        → Reading Lines (bytes ++ more) bundles (Refused line why) }
 {
     lines_continue();
     continues();

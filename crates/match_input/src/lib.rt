@@ -1,8 +1,16 @@
-//! The observations of an input: its lines, each a bundle of STIX 2.1, or the first line that is refused and why.
+//! Reads the input of a matcher: bundles of STIX 2.1 (section 8), one per line or one in all, with
+//! their observations numbered through the whole input.
 //!
-//! A `Reader` gives the bundles in turn with their observations, numbered through the whole input, and
-//! stops at the first line that is refused. It knows nothing of patterns. `write_input_refusal` writes
-//! why a line is refused.
+//! A `Reader` returns the bundles in turn, and stops at the first line that it refuses. Its result
+//! is a function of the bytes alone, however they are cut into reads (`laws`).
+//! `write_input_refusal` writes why a line is refused.
+//!
+//! ```text
+//! let mut reader = Reader::new(alloc, Mode::Lines)?;
+//! while let Some(batch) = reader.next(&mut source)? {
+//!     // batch.line, batch.bundle, batch.observations
+//! }
+//! ```
 #![tactic(auto)]
 
 mod batch;

@@ -11,33 +11,40 @@ use std::alloc::Global;
 use stix_json::JsonReader;
 use stix_times::Instant;
 
-/// How far an input is read, and what its observations so far leave to know.
+/// How far an input is read, and what the next line depends on.
 #[derive(Drop)]
 pub(crate) struct Progress {
     pub(crate) alloc: Global,
     pub(crate) stage: Stage,
-    /// What its lines are read with.
+    /// The JSON parser, reused for all lines.
     pub(crate) json: JsonReader,
-    /// How many observations were given.
+    /// How many observations were returned.
     pub(crate) observations: u64,
     /// When the last of them was last observed.
     pub(crate) last: Option<Instant>,
 }
 
 impl Progress {
-    /// The next bundle, with its observations; none at the end.
+    /// The next bundle with its observations. None at the end.
     pub(crate) fn next_batch<S: Source>(&mut self, source: &mut S) -> Result<Option<Batch>, ReadEnd>
         requires { AreFew self.old.stage self.old.observations }
         ensures next { IsOpen self.old.stage
-            → AnswersNext (state_of self.old) (state_of self.new) (S.left source.old) (S.left source.new) result }
+            → AnswersNext (state_of self.old) (state_of self.new) (S.left source.old)
+            (S.left source.new) result }
         ensures few { OnOk result (AreFew self.new.stage self.new.observations) }
         ensures unread { HoldsLines self.old.stage → source.new ≡ source.old }
-        ensures in_time { IsOpen self.old.stage → ¬ (HoldsLines self.old.stage) → IfOk result (λ found. IfSome found (λ batch.
-            IfSome (S.began source.new) (LacksLineIn self.old.stage batch.line (S.left source.old)))) }
-        ensures at_end { self.old.stage ≡ Stage.AtEnd → (result ≡ Ok None) × (state_of self.new ≡ state_of self.old) × (source.new ≡ source.old) }
+        ensures in_time { IsOpen self.old.stage → ¬ (HoldsLines self.old.stage)
+            → IfOk result (λ found. IfSome found (λ batch.
+            IfSome (S.began source.new) (LacksLineIn self.old.stage batch.line
+            (S.left source.old)))) }
+        ensures at_end { self.old.stage ≡ Stage.AtEnd
+            → (result ≡ Ok None) × (state_of self.new ≡ state_of self.old)
+            × (source.new ≡ source.old) }
         ensures ended { self.old.stage ≡ Stage.Ended
-            → (result ≡ Err ReadEnd.Ended) × (state_of self.new ≡ state_of self.old) × (source.new ≡ source.old) }
-        ensures causes { Counted (IsOpen self.old.stage × (result ≡ Err ReadEnd.ReadFault)) (S.faults source.old) (S.faults source.new) }
+            → (result ≡ Err ReadEnd.Ended) × (state_of self.new ≡ state_of self.old)
+            × (source.new ≡ source.old) }
+        ensures causes { Counted (IsOpen self.old.stage × (result ≡ Err ReadEnd.ReadFault))
+            (S.faults source.old) (S.faults source.new) }
     {
         let Some(line) = self.stage.next_line(self.alloc, source)? else {
             return Ok(None);
@@ -57,12 +64,14 @@ impl Progress {
         }
     }
 
-    /// Counts the observations of a bundle, and gives it.
+    /// Counts the observations of a bundle, and returns it.
     fn give(&mut self, line: u64, read: BundleLine) -> Batch
         requires { self.old.observations + length read.observations < 2 ^ 64 }
-        ensures batch { result ≡ record { line = line; bundle = read.bundle; observations = read.observations } }
+        ensures batch { result ≡ record
+            { line = line; bundle = read.bundle; observations = read.observations } }
         ensures stage { self.new.stage ≡ self.old.stage }
-        ensures observations { self.new.observations ≡ self.old.observations + length read.observations }
+        ensures observations { self.new.observations ≡ self.old.observations
+            + length read.observations }
         ensures last { self.new.last ≡ last_after self.old.last read.observations }
     {
         let BundleLine {

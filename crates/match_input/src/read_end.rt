@@ -4,16 +4,16 @@ ghost use Rattle.match_input.specs.declared.read_end.ReadEnd.TheVariants.{NoMemo
 use crate::InputRule;
 use flow_values::NoMemory;
 
-/// Why no further bundle is given.
+/// Why there is no next bundle.
 #[derive(Debug, Drop)]
 pub enum ReadEnd {
-    /// The line of that number is the first that is refused.
+    /// The line of this number is refused.
     Input { line: u64, rule: InputRule },
-    /// The source failed, and counted it.
+    /// The source failed, and counted the failure.
     ReadFault,
-    /// An earlier call answered a `ReadEnd`.
+    /// An earlier call returned a `ReadEnd`.
     Ended,
-    /// Memory ran out.
+    /// Out of memory.
     NoMemory,
 }
 

@@ -11,8 +11,8 @@ use std::alloc::Global;
 use std::marker::Model;
 use stix_json::JsonReader;
 
-/// A reader of the bundles of an input, with their observations. Contracts see how far the input is
-/// read, how many observations were given, and when the last of them was last observed.
+/// A reader of the bundles of an input. Contracts observe how far the input is read, how many
+/// observations were returned, and when the last of them was last observed.
 #[derive(Drop)]
 pub struct Reader {
     progress: Progress,
@@ -49,20 +49,26 @@ impl Reader {
         })
     }
 
-    /// The next bundle, with its observations; none at the end of the input, and at each later call. Reads
-    /// only where the bytes taken hold no whole line, so that the last read began before the bundle's line was whole. After a `ReadEnd` each later call answers `Ended`,
-    /// without reading.
+    /// The next bundle with its observations. None at the end of the input, and at each later call.
+    ///
+    /// Reads from the source only while the buffer holds no whole line, so it never reads further
+    /// than this bundle requires. After a `ReadEnd` each later call returns `Ended` without
+    /// reading.
     pub fn next<S: Source>(&mut self, source: &mut S) -> Result<Option<Batch>, ReadEnd>
         ensures next { IsOpen self.old.stage
             → AnswersNext self.old self.new (S.left source.old) (S.left source.new) result }
         ensures unread { HoldsLines self.old.stage → source.new ≡ source.old }
-        ensures in_time { IsOpen self.old.stage → ¬ (HoldsLines self.old.stage) → IfOk result (λ found. IfSome found (λ batch.
-            IfSome (S.began source.new) (LacksLineIn self.old.stage batch.line (S.left source.old)))) }
-        ensures at_end { self.old.stage ≡ Stage.AtEnd → (result ≡ Ok None) × (self.new ≡ self.old) × (source.new ≡ source.old) }
+        ensures in_time { IsOpen self.old.stage → ¬ (HoldsLines self.old.stage)
+            → IfOk result (λ found. IfSome found (λ batch.
+            IfSome (S.began source.new) (LacksLineIn self.old.stage batch.line
+            (S.left source.old)))) }
+        ensures at_end { self.old.stage ≡ Stage.AtEnd → (result ≡ Ok None) × (self.new ≡ self.old)
+            × (source.new ≡ source.old) }
         ensures ended { self.old.stage ≡ Stage.Ended
             → (result ≡ Err ReadEnd.Ended) × (self.new ≡ self.old) × (source.new ≡ source.old) }
         ensures ends { IfErr result (λ _. self.new.stage ≡ Stage.Ended) }
-        ensures causes { Counted (IsOpen self.old.stage × (result ≡ Err ReadEnd.ReadFault)) (S.faults source.old) (S.faults source.new) }
+        ensures causes { Counted (IsOpen self.old.stage × (result ≡ Err ReadEnd.ReadFault))
+            (S.faults source.old) (S.faults source.new) }
     {
         match self.progress.next_batch(source) {
             Ok(batch) => Ok(batch),

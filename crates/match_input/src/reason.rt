@@ -13,7 +13,7 @@ pub(crate) struct Breaking {
     pub(crate) rule: Rule,
 }
 
-/// What is said of a refusal: its name, the object that is broken, and the path to what it is told of.
+/// The parts of a refusal's text: its name, the object that breaks a rule, and a path in it.
 #[derive(Clone, Copy, Debug)]
 pub(crate) struct Reason<'a> {
     pub(crate) name: &'static str,
@@ -22,7 +22,7 @@ pub(crate) struct Reason<'a> {
 }
 
 impl<'a> Reason<'a> {
-    /// A name, and the path of what it is told of.
+    /// A name with a path.
     pub(crate) fn at(name: &'static str, path: &'a str) -> Reason<'a>
         ensures { reason_text result ≡ at_path name.now path.now }
     {
@@ -33,7 +33,7 @@ impl<'a> Reason<'a> {
         }
     }
 
-    /// What is said of an input that is no JSON value.
+    /// The text for bytes that are no JSON.
     pub(crate) fn of_json(refusal: &'a JsonRefusal) -> Reason<'a>
         ensures { reason_text result ≡ json_text refusal.now }
     {
@@ -48,7 +48,7 @@ impl<'a> Reason<'a> {
         }
     }
 
-    /// What is said of a JSON value that is no bundle.
+    /// The text for a JSON value that is no bundle.
     pub(crate) fn of_bundle(refusal: &'a BundleRefusal) -> Reason<'a>
         ensures { reason_text result ≡ bundle_text refusal.now }
     {
@@ -59,7 +59,7 @@ impl<'a> Reason<'a> {
         }
     }
 
-    /// The first break is told.
+    /// The text for the first of some broken rules.
     fn of_first(breaks: &'a [ObjectBreak]) -> Reason<'a>
         ensures { reason_text result ≡ codes "Breaks" ++ first_break_text breaks.now }
     {

@@ -1,3 +1,5 @@
+//! The texts of refused lines.
+
 ghost use Rattle.std.specs.Prelude.{◌≡◌, ◌++◌, List, ℕ, codes, decimal, IsErr, OnErr};
 ghost use Rattle.flow_edges.specs.Faults.{Counted};
 ghost use Rattle.flow_edges.specs.Flow.{WritesWhole, WritesPart};
@@ -12,12 +14,13 @@ use flow_values::Fault;
 use itoa::Buffer;
 use stix_times::Instant;
 
-/// Writes why a line is refused, as `line 2 refused: NotBundle at type` and a line feed. After a `Fault`
-/// a part of the text was written, and not all of it. Takes no memory.
+/// Writes why a line is refused, such as `line 2 refused: NotBundle at type` and a line feed. After
+/// a `Fault` a prefix of the text was written. Takes no memory.
 pub fn write_input_refusal<S: Sink>(line: u64, rule: &InputRule, sink: &mut S) -> Result<(), Fault>
     ensures text { (text : List ℕ) × IsInputRefusalText line rule.now text
         × WritesWhole text (S.written sink.old) (S.written sink.new) result }
-    ensures part { OnErr result ((text : List ℕ) × IsInputRefusalText line rule.now text × WritesPart text (S.written sink.old) (S.written sink.new)) }
+    ensures part { OnErr result ((text : List ℕ) × IsInputRefusalText line rule.now text
+        × WritesPart text (S.written sink.old) (S.written sink.new)) }
     ensures causes { Counted (IsErr result) (S.faults sink.old) (S.faults sink.new) }
 {
     match rule {
@@ -30,11 +33,14 @@ pub fn write_input_refusal<S: Sink>(line: u64, rule: &InputRule, sink: &mut S) -
     }
 }
 
-/// Writes the line of an observed-data that holds its objects itself.
+/// Writes the line for an observed-data that embeds its objects.
 fn write_embedded<S: Sink>(line: u64, object: u32, sink: &mut S) -> Result<(), Fault>
-    ensures text { WritesWhole (refused_line_text line (codes "EmbeddedObjects object " ++ decimal object))
+    ensures text { WritesWhole (refused_line_text line (codes "EmbeddedObjects object "
+        ++ decimal object))
         (S.written sink.old) (S.written sink.new) result }
-    ensures part { OnErr result (WritesPart (refused_line_text line (codes "EmbeddedObjects object " ++ decimal object)) (S.written sink.old) (S.written sink.new)) }
+    ensures part { OnErr result (WritesPart
+        (refused_line_text line (codes "EmbeddedObjects object " ++ decimal object))
+        (S.written sink.old) (S.written sink.new)) }
     ensures causes { Counted (IsErr result) (S.faults sink.old) (S.faults sink.new) }
 {
     let mut buffer = Buffer::new();
@@ -44,10 +50,13 @@ fn write_embedded<S: Sink>(line: u64, object: u32, sink: &mut S) -> Result<(), F
     write_object(line, object, sink)
 }
 
-/// Writes the same line, of the texts of both numbers.
+/// Writes this line, given the texts of both numbers.
 fn write_object<'a, S: Sink>(line: &'a str, object: &'a str, sink: &mut S) -> Result<(), Fault>
-    ensures text { WritesWhole (line_of_text line.now (codes "EmbeddedObjects object " ++ object.now)) (S.written sink.old) (S.written sink.new) result }
-    ensures part { OnErr result (WritesPart (line_of_text line.now (codes "EmbeddedObjects object " ++ object.now)) (S.written sink.old) (S.written sink.new)) }
+    ensures text { WritesWhole (line_of_text line.now (codes "EmbeddedObjects object "
+        ++ object.now)) (S.written sink.old) (S.written sink.new) result }
+    ensures part { OnErr result (WritesPart
+        (line_of_text line.now (codes "EmbeddedObjects object " ++ object.now))
+        (S.written sink.old) (S.written sink.new)) }
     ensures causes { Counted (IsErr result) (S.faults sink.old) (S.faults sink.new) }
 {
     write_all_vectored(
@@ -62,7 +71,7 @@ fn write_object<'a, S: Sink>(line: &'a str, object: &'a str, sink: &mut S) -> Re
     )
 }
 
-/// Writes the line of an observation that is behind the last one.
+/// Writes the line for an observation that is out of order.
 fn write_out_of_order<S: Sink>(
     line: u64,
     last: Instant,
@@ -71,7 +80,9 @@ fn write_out_of_order<S: Sink>(
 ) -> Result<(), Fault>
     ensures text { (text : List ℕ) × IsInputRefusalText line (InputRule.OutOfOrder last now) text
         × WritesWhole text (S.written sink.old) (S.written sink.new) result }
-    ensures part { OnErr result ((text : List ℕ) × IsInputRefusalText line (InputRule.OutOfOrder last now) text × WritesPart text (S.written sink.old) (S.written sink.new)) }
+    ensures part { OnErr result ((text : List ℕ)
+        × IsInputRefusalText line (InputRule.OutOfOrder last now) text
+        × WritesPart text (S.written sink.old) (S.written sink.new)) }
     ensures causes { Counted (IsErr result) (S.faults sink.old) (S.faults sink.new) }
 {
     let mut buffer = Buffer::new();
@@ -88,16 +99,19 @@ fn write_out_of_order<S: Sink>(
     )
 }
 
-/// Writes the same line, of the texts of the number and of both times.
+/// Writes this line, given the texts of the number and of both times.
 fn write_times<'a, S: Sink>(
     line: &'a str,
     last: &'a [u8],
     now: &'a [u8],
     sink: &mut S,
 ) -> Result<(), Fault>
-    ensures text { WritesWhole (line_of_text line.now (codes "OutOfOrder last " ++ (last.now ++ (codes " now " ++ now.now))))
+    ensures text { WritesWhole (line_of_text line.now (codes "OutOfOrder last "
+        ++ (last.now ++ (codes " now " ++ now.now))))
         (S.written sink.old) (S.written sink.new) result }
-    ensures part { OnErr result (WritesPart (line_of_text line.now (codes "OutOfOrder last " ++ (last.now ++ (codes " now " ++ now.now)))) (S.written sink.old) (S.written sink.new)) }
+    ensures part { OnErr result (WritesPart
+        (line_of_text line.now (codes "OutOfOrder last "
+        ++ (last.now ++ (codes " now " ++ now.now)))) (S.written sink.old) (S.written sink.new)) }
     ensures causes { Counted (IsErr result) (S.faults sink.old) (S.faults sink.new) }
 {
     write_all_vectored(
@@ -116,8 +130,10 @@ fn write_times<'a, S: Sink>(
 
 /// Writes the line of a reason.
 fn write_reason<S: Sink>(line: u64, said: Reason<'_>, sink: &mut S) -> Result<(), Fault>
-    ensures text { WritesWhole (refused_line_text line (reason_text said.entry)) (S.written sink.old) (S.written sink.new) result }
-    ensures part { OnErr result (WritesPart (refused_line_text line (reason_text said.entry)) (S.written sink.old) (S.written sink.new)) }
+    ensures text { WritesWhole (refused_line_text line (reason_text said.entry))
+        (S.written sink.old) (S.written sink.new) result }
+    ensures part { OnErr result (WritesPart (refused_line_text line (reason_text said.entry))
+        (S.written sink.old) (S.written sink.new)) }
     ensures causes { Counted (IsErr result) (S.faults sink.old) (S.faults sink.new) }
 {
     let mut buffer = Buffer::new();
@@ -132,15 +148,17 @@ fn write_reason<S: Sink>(line: u64, said: Reason<'_>, sink: &mut S) -> Result<()
     }
 }
 
-/// Writes the line of a name and a path.
+/// Writes the line for a name and a path.
 fn write_at<'a, S: Sink>(
     line: &'a str,
     name: &'a str,
     path: &'a str,
     sink: &mut S,
 ) -> Result<(), Fault>
-    ensures text { WritesWhole (line_of_text line.now (at_path name.now path.now)) (S.written sink.old) (S.written sink.new) result }
-    ensures part { OnErr result (WritesPart (line_of_text line.now (at_path name.now path.now)) (S.written sink.old) (S.written sink.new)) }
+    ensures text { WritesWhole (line_of_text line.now (at_path name.now path.now))
+        (S.written sink.old) (S.written sink.new) result }
+    ensures part { OnErr result (WritesPart (line_of_text line.now (at_path name.now path.now))
+        (S.written sink.old) (S.written sink.new)) }
     ensures causes { Counted (IsErr result) (S.faults sink.old) (S.faults sink.new) }
 {
     let at = lead_of(path);
@@ -158,7 +176,7 @@ fn write_at<'a, S: Sink>(
     )
 }
 
-/// Writes the line of a name, a broken object and a path in it.
+/// Writes the line for a name, a broken object and a path in it.
 fn write_broken<'a, S: Sink>(
     line: &'a str,
     name: &'a str,
@@ -167,8 +185,12 @@ fn write_broken<'a, S: Sink>(
     path: &'a str,
     sink: &mut S,
 ) -> Result<(), Fault>
-    ensures text { WritesWhole (line_of_text line.now (at_path (name.now ++ broken_words object.now rule.now) path.now)) (S.written sink.old) (S.written sink.new) result }
-    ensures part { OnErr result (WritesPart (line_of_text line.now (at_path (name.now ++ broken_words object.now rule.now) path.now)) (S.written sink.old) (S.written sink.new)) }
+    ensures text { WritesWhole (line_of_text line.now
+        (at_path (name.now ++ broken_words object.now rule.now) path.now)) (S.written sink.old)
+        (S.written sink.new) result }
+    ensures part { OnErr result (WritesPart
+        (line_of_text line.now (at_path (name.now ++ broken_words object.now rule.now) path.now))
+        (S.written sink.old) (S.written sink.new)) }
     ensures causes { Counted (IsErr result) (S.faults sink.old) (S.faults sink.new) }
 {
     let at = lead_of(path);
@@ -190,7 +212,7 @@ fn write_broken<'a, S: Sink>(
     )
 }
 
-/// What stands before a path.
+/// The text before a path.
 fn lead_of<'a>(path: &'a str) -> &'a str
     ensures { result.now ≡ path_lead path.now }
 {

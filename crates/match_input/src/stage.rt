@@ -12,9 +12,9 @@ use std::alloc::Global;
 /// How far an input is read.
 #[derive(Drop)]
 pub enum Stage {
-    /// Its lines are read in turn.
+    /// Lines are read in turn.
     Lines(Lines),
-    /// It is to be read whole.
+    /// The whole input is still to be read.
     Whole,
     /// Nothing is left.
     AtEnd,
@@ -23,20 +23,24 @@ pub enum Stage {
 }
 
 impl Stage {
-    /// The next line that isn't blank; of an input that is read whole all of it, as line 1. None at the
-    /// end.
+    /// The next line that isn't blank; in `Mode::Whole` the whole input as line 1. None at the end.
     pub(crate) fn next_line<S: Source>(
         &mut self,
         alloc: Global,
         source: &mut S,
     ) -> Result<Option<Line>, ReadEnd>
-        ensures lines { IsOpen self.old → AnswersTurn self.old self.new (S.left source.old) (S.left source.new) result }
+        ensures lines { IsOpen self.old
+            → AnswersTurn self.old self.new (S.left source.old) (S.left source.new) result }
         ensures unread { HoldsLines self.old → source.new ≡ source.old }
-        ensures in_time { IsOpen self.old → ¬ (HoldsLines self.old) → IfOk result (λ found. IfSome found (λ line.
+        ensures in_time { IsOpen self.old → ¬ (HoldsLines self.old)
+            → IfOk result (λ found. IfSome found (λ line.
             IfSome (S.began source.new) (LacksLineIn self.old line.number (S.left source.old)))) }
-        ensures at_end { self.old ≡ Stage.AtEnd → (result ≡ Ok None) × (self.new ≡ self.old) × (source.new ≡ source.old) }
-        ensures ended { self.old ≡ Stage.Ended → (result ≡ Err ReadEnd.Ended) × (self.new ≡ self.old) × (source.new ≡ source.old) }
-        ensures causes { Counted (IsOpen self.old × (result ≡ Err ReadEnd.ReadFault)) (S.faults source.old) (S.faults source.new) }
+        ensures at_end { self.old ≡ Stage.AtEnd → (result ≡ Ok None) × (self.new ≡ self.old)
+            × (source.new ≡ source.old) }
+        ensures ended { self.old ≡ Stage.Ended → (result ≡ Err ReadEnd.Ended)
+            × (self.new ≡ self.old) × (source.new ≡ source.old) }
+        ensures causes { Counted (IsOpen self.old × (result ≡ Err ReadEnd.ReadFault))
+            (S.faults source.old) (S.faults source.new) }
     {
         let line = match self {
             Stage::Lines(lines) => match lines.next_line(source) {
@@ -56,9 +60,11 @@ impl Stage {
 
 /// The whole input as line 1.
 fn whole_line<S: Source>(alloc: Global, source: &mut S) -> Result<Option<Line>, ReadEnd>
-    ensures lines { AnswersTurn Stage.Whole Stage.AtEnd (S.left source.old) (S.left source.new) result }
+    ensures lines { AnswersTurn Stage.Whole Stage.AtEnd (S.left source.old)
+        (S.left source.new) result }
     ensures to_end { IfOk result (λ _. IsAtEnd (S.began source.new)) }
-    ensures causes { Counted (result ≡ Err ReadEnd.ReadFault) (S.faults source.old) (S.faults source.new) }
+    ensures causes { Counted (result ≡ Err ReadEnd.ReadFault) (S.faults source.old)
+        (S.faults source.new) }
 {
     let bytes = read_whole(alloc, source)?;
     Ok(Some(Line { number: 1, bytes }))

@@ -1,12 +1,12 @@
--- The stores of a matcher of a pattern, each with what it may hold and the window in which it holds it: a store for each
--- side of an AND and a FOLLOWEDBY, and for a REPEATS of n one for each level from 1 to n - 1.
+-- The stores of a matcher, each with what it may hold and its window: one for each side of an AND
+-- and a FOLLOWEDBY, and for a REPEATS of n one for each level from 1 to n - 1.
 use Rattle.std.specs.Prelude.{ℕ, zero, suc, Bool, true, false, List, [], ◌∷◌, ◌++◌, map}
 use Rattle.match_bindings.specs.declared.bounds.Bounds.{Bounds}
 use Rattle.match_bindings.specs.Bounds.{no_bounds, within, between}
 use Rattle.match_bindings.specs.NumberedPattern.{NumberedPattern, Leaf, Both, Then, Either, Within, Between, Repeats}
 use Rattle.match_pruning.specs.declared.window.Window.{Window}
 
--- what a store holds: bindings of a side, or sets of so many bindings of what is repeated
+-- what a store holds: bindings of a side, or sets of j bindings of the repeated part
 pub data Part : Type 0 where
   a_side : (side : NumberedPattern) → Part
   a_level : (repeated : NumberedPattern) (count : ℕ) → Part
@@ -15,7 +15,7 @@ pub record Store : Type 0 where
   pub part : Part
   pub window : Window
 
--- the window that the bounds above a store leave it; what is after left is the right side of a FOLLOWEDBY
+-- the window of a store within these limits; the flag marks the right side of a FOLLOWEDBY
 abbrev pub window_of : Bounds → Bool → Window
 window_of above after_left = record { seconds = above.seconds; start = above.start; stop = above.stop; after_left = after_left }
 
@@ -25,13 +25,13 @@ side above after_left p = record { part = a_side p; window = window_of above aft
 abbrev pub level : Bounds → NumberedPattern → ℕ → Store
 level above p j = record { part = a_level p j; window = window_of above false }
 
--- the levels of so many repeats, from 1 to below their count
+-- the levels of a REPEATS, from 1 to below its count
 abbrev pub levels : Bounds → NumberedPattern → ℕ → List Store
 levels above p zero = []
 levels above p (suc zero) = []
 levels above p (suc (suc n)) = levels above p (suc n) ++ level above p (suc n) ∷ []
 
--- the stores of a part under these bounds: its own before those of the parts in it, the left side first
+-- the stores of a part within these limits: its own before those of its parts, the left side first
 abbrev pub stores_under : Bounds → NumberedPattern → List Store
 stores_under above (Leaf k) = []
 stores_under above (Both p q) = side above false p ∷ side above false q ∷ (stores_under above p ++ stores_under above q)

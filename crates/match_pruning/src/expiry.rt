@@ -1,3 +1,5 @@
+//! The expiry test for stored partial matches.
+
 ghost use Rattle.std.specs.Prelude.{◌↔◌, ◌≤ℤ◌, ◌<ℤ◌, IsTrue};
 ghost use Rattle.match_pruning.specs.Expiry.{HasExpired, ArePast, IsBeforeStart, IsStopped};
 
@@ -6,8 +8,8 @@ use stix_times::{Instant, nanos};
 
 const NANOS_PER_SECOND: i128 = 1_000_000_000;
 
-/// Whether a thing that is held, with this earliest time, has left the window at the time of the last
-/// observation. Takes no memory.
+/// Whether a stored partial match that begins at `earliest` has left the window at `now`, the end
+/// of the last observation. Takes no memory.
 pub fn expired(window: &Window, earliest: Instant, now: Instant) -> bool
     ensures { IsTrue result ↔ HasExpired window.now earliest now }
 {
@@ -17,7 +19,7 @@ pub fn expired(window: &Window, earliest: Instant, now: Instant) -> bool
         || (window.after_left && earliest < now)
 }
 
-/// Whether so many seconds are past.
+/// Whether the seconds of a `WITHIN` have passed.
 fn are_past(seconds: Option<u32>, earliest: Instant, now: Instant) -> bool
     ensures { IsTrue result ↔ ArePast seconds earliest now }
 {
@@ -27,7 +29,7 @@ fn are_past(seconds: Option<u32>, earliest: Instant, now: Instant) -> bool
     }
 }
 
-/// Whether a time lies before a start.
+/// Whether it begins before the `START`.
 fn is_before_start(start: Option<Instant>, earliest: Instant) -> bool
     ensures { IsTrue result ↔ IsBeforeStart start earliest }
 {
@@ -37,7 +39,7 @@ fn is_before_start(start: Option<Instant>, earliest: Instant) -> bool
     }
 }
 
-/// Whether a stop is reached.
+/// Whether the `STOP` is reached.
 fn is_stopped(stop: Option<Instant>, now: Instant) -> bool
     ensures { IsTrue result ↔ IsStopped stop now }
 {

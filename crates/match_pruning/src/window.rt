@@ -1,3 +1,5 @@
+//! The windows of a pattern's stores.
+
 ghost use Rattle.std.specs.Prelude.{◌≡◌, false, [], ◌∷◌, ◌++◌, ℕ, IfOk, OnOk};
 ghost use Rattle.match_bindings.specs.NumberedPattern.{NumberedPattern, numbered_pattern, numbered_from};
 ghost use Rattle.match_pruning.specs.Stores.{window_of, stores_of, stores_under, levels, windows_in};
@@ -8,34 +10,36 @@ use pattern_types::Pattern;
 use std::alloc::Global;
 use stix_times::Instant;
 
-/// How long a store holds a thing: what the qualifiers above the store leave it, and whether the store
-/// is the right side of a `FOLLOWEDBY`.
+/// The window of a store: the limits of all qualifiers above it, and whether it is the right side
+/// of a `FOLLOWEDBY`.
 #[derive(Clone, Copy, Debug, PartialEq, Eq)]
 pub struct Window {
-    /// The least seconds of a `WITHIN` above, where there is one.
+    /// The smallest number of seconds of a `WITHIN` above, if any.
     pub seconds: Option<u32>,
-    /// The latest start of a `START` above.
+    /// The latest `START` above, if any.
     pub start: Option<Instant>,
-    /// The earliest stop of a `STOP` above.
+    /// The earliest `STOP` above, if any.
     pub stop: Option<Instant>,
-    /// Whether what is held here comes after left the other side.
+    /// Whether what is stored here has to follow the left side.
     pub after_left: bool,
 }
 
-/// The windows of the stores of a pattern: those of a part before those of the parts in it, the left
-/// side first, the levels of a `REPEATS` ascending.
+/// The windows of the stores of a pattern, in preorder: a part's own stores before those of its
+/// parts, the left side first, the levels of a `REPEATS` ascending.
 pub fn windows(alloc: Global, pattern: &Pattern) -> Result<Items<Window>, NoMemory>
-    ensures { IfOk result (λ windows. windows ≡ windows_in (stores_of (numbered_pattern pattern.now))) }
+    ensures { IfOk result (λ windows. windows
+        ≡ windows_in (stores_of (numbered_pattern pattern.now))) }
 {
     let mut windows = Vec::new(alloc);
     add_windows(pattern, &Bounds::open(), &mut windows)?;
     Ok(Items::from_vec(windows))
 }
 
-/// Adds the windows of the stores of a part under these bounds.
+/// Appends the windows of the stores of a part within these limits.
 #[tactic(auto, using(crate::proofs::StoresLemmas::two_sides))]
 fn add_windows(pattern: &Pattern, above: &Bounds, out: &mut Vec<Window>) -> Result<(), NoMemory>
-    ensures { (first : ℕ) → OnOk result (out.new.items ≡ out.old.items ++ windows_in (stores_under above.now (numbered_from first pattern.now))) }
+    ensures { (first : ℕ) → OnOk result (out.new.items ≡ out.old.items
+        ++ windows_in (stores_under above.now (numbered_from first pattern.now))) }
 {
     match pattern {
         Pattern::Leaf(_) => Ok(()),
@@ -64,17 +68,19 @@ fn add_windows(pattern: &Pattern, above: &Bounds, out: &mut Vec<Window>) -> Resu
     }
 }
 
-/// Adds the windows of the sides of an `AND` or a `FOLLOWEDBY`.
+/// Appends the windows of the sides of an `AND` or a `FOLLOWEDBY`.
 fn add_sides(above: &Bounds, after_left: bool, out: &mut Vec<Window>) -> Result<(), NoMemory>
-    ensures { OnOk result (out.new.items ≡ out.old.items ++ window_of above.now false ∷ window_of above.now after_left ∷ []) }
+    ensures { OnOk result (out.new.items ≡ out.old.items ++ window_of above.now false
+        ∷ window_of above.now after_left ∷ []) }
 {
     add_window(above, false, out)?;
     add_window(above, after_left, out)
 }
 
-/// Adds the windows of the levels of a `REPEATS`.
+/// Appends the windows of the levels of a `REPEATS`.
 fn add_levels(above: &Bounds, count: u32, out: &mut Vec<Window>) -> Result<(), NoMemory>
-    ensures { (part : NumberedPattern) → OnOk result (out.new.items ≡ out.old.items ++ windows_in (levels above.now part count)) }
+    ensures { (part : NumberedPattern)
+        → OnOk result (out.new.items ≡ out.old.items ++ windows_in (levels above.now part count)) }
 {
     for level in 1..count {
         let _ = level;
@@ -83,7 +89,7 @@ fn add_levels(above: &Bounds, count: u32, out: &mut Vec<Window>) -> Result<(), N
     Ok(())
 }
 
-/// Adds the window of a store under these bounds.
+/// Appends the window of one store.
 fn add_window(above: &Bounds, after_left: bool, out: &mut Vec<Window>) -> Result<(), NoMemory>
     ensures { OnOk result (out.new.items ≡ out.old.items ++ window_of above.now after_left ∷ []) }
 {

@@ -1,4 +1,4 @@
--- What is written of a log: the line of each of its bindings.
+-- What is written for a log: the line of each of its bindings.
 use Rattle.std.specs.Prelude.{ℕ, List, [], ◌∷◌}
 use Rattle.std.specs.List.{flat_map}
 use Rattle.pattern_types.specs.declared.pattern.Pattern.{Pattern}
@@ -9,7 +9,7 @@ use Rattle.match_bindings.specs.Log.{observed_in}
 use Rattle.match_bindings.specs.Listing.{IsListing}
 use Rattle.match_bindings.specs.Line.{line_text}
 
--- these are the bindings of a pattern over a log, each once, in order of their last observation
+-- the bindings of a pattern over a log, each once, in the order of their last observations
 abbrev pub AreBindings : Pattern → List LogEntry → List BindTree → Type 0
 AreBindings p log trees = IsListing (observed_in log) (numbered_pattern p) trees
 

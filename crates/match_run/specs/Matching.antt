@@ -1,4 +1,5 @@
--- What a run over an input has done, by how it ended: what was read, what was written, and what the matcher stands for.
+-- The result of a run over an input, by how it ended: what was read, what was written, and the log
+-- that the matcher represents.
 use Rattle.std.specs.Prelude.{◌≡◌, ◌⊎◌, ℕ, ℤ, ◌+◌, ◌≤◌, ◌<◌, false, List, [], ◌∷◌, ◌++◌, length, Option, None, Some, IfSome}
 use Rattle.flow_edges.specs.declared.source.TheConstants.{MAX_READ}
 use Rattle.flow_edges.specs.Flow.{IsAtEnd, TakesAtMost, WritesPrefix, written_with}
@@ -24,16 +25,16 @@ use Rattle.match_run.specs.Listing.{AreBindings, listing_text, last_number}
 use Rattle.match_run.specs.declared.match_end.MatchEnd.{MatchEnd}
 use Rattle.match_run.specs.declared.match_end.MatchEnd.TheVariants.{Done, Input, ReadFault, WriteFault, OverLimit, NoMemory}
 
--- the bytes of the input are read so, where the source tells them
+-- the reading of the input, where its bytes are observable
 abbrev pub ReadsInput : Mode → Option (List ℕ) → List BundleOf → InputEnd → Type 0
 ReadsInput mode left bundles end = IfSome left (λ bytes. Reading mode bytes bundles end)
 
--- whatever the input is read as begins with these bundles
+-- any reading of the input begins with these bundles
 abbrev pub HasPrefix : Mode → Option (List ℕ) → List BundleOf → Type 0
 HasPrefix mode left bundles = (all : List BundleOf) (end : InputEnd) → ReadsInput mode left all end
     → IfSome left (λ bytes. (later : List BundleOf) × (all ≡ bundles ++ later))
 
--- the live count passes the retained limit at no row of a log
+-- the retained count exceeds the limit at no row of the log
 abbrev pub IsNeverOverLimit : Pattern → ℕ → List LogEntry → Type 0
 IsNeverOverLimit p retained_limit log = (rows more : List LogEntry) (row : LogEntry) → log ≡ rows ++ row ∷ more
     → IsWithinLimit (numbered_pattern p) (rows ++ row ∷ []) retained_limit
@@ -45,7 +46,7 @@ pub record ListsLog (p : Pattern) (retained_limit : ℕ) (bundles : List BundleO
   pub bindings : AreBindings p log trees
   pub text : written_after ≡ written_with (listing_text trees) written
 
--- the whole input was read, its bindings were written, and the matcher stands for its log
+-- the whole input was read, its bindings were written, and the matcher represents its log
 pub record ListsWhole (mode : Mode) (p : Pattern) (retained_limit : ℕ) (before after : Streams) (state : MatcherState) (observations bindings last : ℕ) : Type 0 where
   pub bundles : List BundleOf
   pub reading : ReadsInput mode before.left bundles Whole
@@ -58,8 +59,8 @@ pub record ListsWhole (mode : Mode) (p : Pattern) (retained_limit : ℕ) (before
   pub bindings_are : bindings ≡ length trees
   pub last_is : last ≡ last_number trees
 
--- no more lines went by than up to that one, and of what follows no more bytes are taken than a line may have and one read
--- gives; of an input that is read whole no more than it may have and one read
+-- no line after this one was consumed, and no more is buffered than a line may have and one read
+-- returns; in Mode::Whole no more than the input may have and one read
 pub record StopsIn (line : ℕ) (left left_after : Option (List ℕ)) : Type 0 where
   pub at : LinesState
   pub lines : at.count ≤ line
@@ -70,8 +71,8 @@ abbrev pub TakesLittle : Mode → ℕ → Option (List ℕ) → Option (List ℕ
 TakesLittle Lines line left left_after = StopsIn line left left_after
 TakesLittle WholeInput line left left_after = TakesAtMost (MAX_WHOLE_INPUT + MAX_READ) left left_after
 
--- the input was read up to the first line that is refused, the bindings of what stands before it were written, and the
--- matcher stands for its log
+-- the input was read up to the first refused line, the bindings before it were written, and the
+-- matcher represents that log
 pub record ListsBefore (mode : Mode) (p : Pattern) (retained_limit : ℕ) (before after : Streams) (state : MatcherState) (line : ℕ) (why : InputRule) : Type 0 where
   pub bundles : List BundleOf
   pub reading : ReadsInput mode before.left bundles (Refused line why)
@@ -81,8 +82,8 @@ pub record ListsBefore (mode : Mode) (p : Pattern) (retained_limit : ℕ) (befor
   pub represents : Represents state log
   pub little : TakesLittle mode line before.left after.left
 
--- these bundles are what the whole lines in the bytes taken are read as: what comes yet is read behind them, and the bytes held
--- are a part of a line, which isn't refused by what came of it
+-- these bundles are the reading of the whole lines among the bytes read: the reading goes on after
+-- them, and the rest of the buffer is part of a line that isn't refused so far
 pub record ReadsTaken (bundles : List BundleOf) (left left_after : Option (List ℕ)) : Type 0 where
   pub at : LinesState
   pub part : NoLineFeed at.held
@@ -97,8 +98,8 @@ abbrev pub HasTaken : Mode → List BundleOf → Option (List ℕ) → Option (L
 HasTaken Lines bundles left left_after = ReadsTaken bundles left left_after
 HasTaken WholeInput bundles left left_after = (bundles ≡ []) × TakesAtMost (MAX_WHOLE_INPUT + MAX_READ) left left_after
 
--- a read failed: the bindings of the whole lines in the bytes taken were written, and the matcher stands for their log; where
--- the input is read whole there are none
+-- a read failed: the bindings of the whole lines read were written, and the matcher represents
+-- their log; in Mode::Whole there are none
 pub record ListsTaken (mode : Mode) (p : Pattern) (retained_limit : ℕ) (before after : Streams) (state : MatcherState) : Type 0 where
   pub bundles : List BundleOf
   pub begins : HasPrefix mode before.left bundles
@@ -108,7 +109,7 @@ pub record ListsTaken (mode : Mode) (p : Pattern) (retained_limit : ℕ) (before
   pub represents : Represents state log
   pub taken : HasTaken mode bundles before.left after.left
 
--- the rows are those of the earlier bundles, and of the first observations of the next one
+-- the rows of the earlier bundles, and of the first observations of the next one
 pub record AreFirstEntries (p : PlainPattern) (bundles : List BundleOf) (log : List LogEntry) : Type 0 where
   pub earlier : List BundleOf
   pub bundle : BundleOf
@@ -122,7 +123,7 @@ pub record AreFirstEntries (p : PlainPattern) (bundles : List BundleOf) (log : L
   pub entries : AreEntries p earlier before
   pub own_entries : AreEntriesOf p bundle.objects seen own
 
--- the lines up to that one went by, and few bytes are taken behind it
+-- the lines up to this one were consumed, and few bytes after it are buffered
 pub record HoldsFew (line : ℕ) (left left_after : Option (List ℕ)) : Type 0 where
   pub at : LinesState
   pub line_is : at.count ≡ line
@@ -133,25 +134,26 @@ abbrev pub TakesFew : Mode → ℕ → Option (List ℕ) → Option (List ℕ) �
 TakesFew Lines line left left_after = HoldsFew line left left_after
 TakesFew WholeInput line left left_after = TakesAtMost (MAX_WHOLE_INPUT + MAX_READ) left left_after
 
--- when these bytes were left, that line was still to come whole: fewer lines had, and a part of the next
+-- when these bytes were left, this line wasn't complete yet: fewer lines were, and a part of the
+-- next
 pub record IsToCome (line : ℕ) (left : Option (List ℕ)) (bytes : List ℕ) : Type 0 where
   pub at : LinesState
   pub fewer : at.count < line
   pub part : NoLineFeed at.held
   pub accounts : AccountsFor lines_start at left (Some bytes)
 
--- the last read began before that line had come whole; of an input that is read whole, when nothing was left
+-- the last read began before this line was complete; in Mode::Whole, when nothing was left
 abbrev pub BeganInTime : Mode → ℕ → Option (List ℕ) → Option (List ℕ) → Type 0
 BeganInTime Lines line left began = IfSome began (IsToCome line left)
 BeganInTime WholeInput line left began = IsAtEnd began
 
--- no more was read than the bundle of that line asks for
+-- no more was read than the bundle of this line requires
 pub record ReadsNoFurther (mode : Mode) (line : ℕ) (before after : Streams) : Type 0 where
   pub few : TakesFew mode line before.left after.left
   pub in_time : BeganInTime mode line before.left after.began
 
--- more was live at the row of that number than the retained limit allows, and at no row before it: the bindings of these were written,
--- no more was read, and the matcher ended so
+-- the limit was exceeded at the row of this number, and at no row before it: the bindings of those
+-- were written, no more was read, and the matcher ended
 pub record StopsOverLimit (mode : Mode) (p : Pattern) (retained_limit : ℕ) (before after : Streams) (state : MatcherState) (number named : ℕ) : Type 0 where
   pub bundles : List BundleOf
   pub begins : HasPrefix mode before.left bundles
@@ -168,8 +170,8 @@ pub record StopsOverLimit (mode : Mode) (p : Pattern) (retained_limit : ℕ) (be
   pub text : after.written ≡ written_with (listing_text trees) before.written
   pub ended : state.ended ≡ Some (ending.OverLimit number retained_limit)
 
--- the run stopped within a bundle: the bindings of the bundles before it were written, and of those that end at its first
--- observations a prefix; too much is live at none of these, and no more was read
+-- the run stopped within a bundle: the bindings before the bundle were written, and a prefix of
+-- those that end at its first observations; none of these exceeds the limit, and no more was read
 pub record StopsWithin (mode : Mode) (p : Pattern) (retained_limit : ℕ) (before after : Streams) : Type 0 where
   pub earlier : List BundleOf
   pub bundle : BundleOf
@@ -197,7 +199,7 @@ pub record StopsBetween (mode : Mode) (p : Pattern) (retained_limit : ℕ) (befo
   pub trees : List BindTree
   pub lists : ListsLog p retained_limit bundles log trees before.written after.written
 
--- what an end says
+-- what the end of a run says
 abbrev pub AnswersMatch : Mode → Pattern → ℕ → Streams → Streams → MatcherState → MatchEnd → Type 0
 AnswersMatch mode p retained_limit before after state (Done observations bindings last) = ListsWhole mode p retained_limit before after state observations bindings last
 AnswersMatch mode p retained_limit before after state (Input line why) = ListsBefore mode p retained_limit before after state line why

@@ -1,4 +1,4 @@
--- What is written of an input, whole.
+-- The complete output of an input.
 use Rattle.std.specs.Prelude.{◌≡◌, ℕ, List}
 use Rattle.pattern_types.specs.declared.pattern.Pattern.{Pattern}
 use Rattle.pattern_types.specs.PlainPattern.{plain_pattern}
@@ -9,7 +9,8 @@ use Rattle.match_input.specs.Reading.{BundleOf, InputEnd, Reading}
 use Rattle.match_run.specs.Entries.{AreEntries}
 use Rattle.match_run.specs.Listing.{AreBindings, listing_text}
 
--- the lines of all bindings of a pattern over the log of the input, up to its end or to the first line that is refused
+-- the lines of all bindings of a pattern over the log of the input, up to its end or to the first
+-- refused line
 pub record IsOutputOf (mode : Mode) (p : Pattern) (bytes text : List ℕ) : Type 0 where
   pub bundles : List BundleOf
   pub end : InputEnd

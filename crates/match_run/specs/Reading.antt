@@ -1,5 +1,5 @@
--- How far an input that is cut into lines is read, and what the answers of its reader say of it. `first` are the bytes of the
--- input, where they are told.
+-- How far an input of lines is read, and what the answers of its reader say about it. `first` are
+-- the bytes of the input, where they are observable.
 use Rattle.std.specs.Prelude.{◌≡◌, ◌⊎◌, ⊤, ℕ, ◌+◌, ◌-◌, ◌<◌, ◌≤◌, ℤ, ◌≤ℤ◌, List, [], ◌∷◌, ◌++◌, length, Option, None, Some, IfSome, Result, Ok, Err}
 use Rattle.std.specs.List.{flat_map}
 use Rattle.flow_edges.specs.Flow.{IsAtEnd}
@@ -29,7 +29,8 @@ bundle_of batch = record { line = batch.line; objects = data_in batch.bundle; ob
 abbrev pub observations_of : List BundleOf → List Observation
 observations_of bundles = flat_map (λ bundle. bundle.observations) bundles
 
--- these may come next: none ends before it begins, they have the numbers from `next` on, and their last times don't fall
+-- these may come next: none ends before it begins, they have the numbers from `next` on, and their
+-- last times don't decrease
 abbrev pub MayFollow : Option ℤ → ℕ → List Observation → Type 0
 MayFollow last next [] = ⊤
 MayFollow last next (o ∷ observations) = (o.first ≤ℤ o.last) × (o.number ≡ next) × (¬ (Falls last o.last))
@@ -37,24 +38,25 @@ MayFollow last next (o ∷ observations) = (o.first ≤ℤ o.last) × (o.number 
 
 -- ---- how far an input is read
 
--- what comes yet is read so
+-- the reading of what remains
 abbrev pub ReadsOn : ReaderState → Option (List ℕ) → List BundleOf → InputEnd → Type 0
 ReadsOn reader left bundles end = IfSome (ahead reader.stage left) (λ lines. Reads reader.last (next_number reader) lines bundles end)
 
--- these bundles come first, and what comes yet is read as the others
+-- these bundles come first, and the rest is the reading of what remains
 abbrev pub ReadsRest : ReaderState → Option (List ℕ) → List BundleOf → List BundleOf → InputEnd → Type 0
 ReadsRest reader left bundles all end = IfSome (ahead reader.stage left) (λ lines. (later : List BundleOf) × (all ≡ bundles ++ later)
     × Reads reader.last (next_number reader) lines later end)
 
--- the reader of lines stands behind those that went by: none was refused, no byte is lost, and the last read began before the
--- last of them had come whole, unless nothing was read
+-- the reader of lines has consumed the first ones: none was refused, no byte is lost, and the last
+-- read began before the last of them was complete, unless nothing was read
 pub record HasConsumed (first left began : Option (List ℕ)) (lines : LinesState) : Type 0 where
   pub unrefused : lines.refusal ≡ None
   pub accounts : AccountsFor lines_start lines first left
   pub within : lines.given ≤ MAX_INPUT
   pub in_time : (lines ≡ lines_start) ⊎ IfSome began (IsToCome lines.count first)
 
--- these bundles were read from the input: whatever it is read as, they come first, and the reader stands behind them
+-- these bundles were read from the input: they come first in any reading of it, and the reader is
+-- after them
 pub record HasRead (first : Option (List ℕ)) (reader : ReaderState) (left began : Option (List ℕ)) (bundles : List BundleOf) : Type 0 where
   pub forward : (more : List BundleOf) (end : InputEnd) → ReadsOn reader left more end → ReadsInput Lines first (bundles ++ more) end
   pub backward : (all : List BundleOf) (end : InputEnd) → ReadsInput Lines first all end → ReadsRest reader left bundles all end
@@ -71,17 +73,17 @@ IsReading reader left began = (first : Option (List ℕ)) × (bundles : List Bun
 
 -- ---- what the next bundle is
 
--- no more was read than the bundle of that line asks for: few bytes behind it are taken, and the last read began before the line
--- had come whole
+-- no more was read than the bundle of this line requires: few bytes after it are buffered, and the
+-- last read began before the line was complete
 abbrev pub ReadsOnlyTo : ℕ → Option (List ℕ) → Option (List ℕ) → Option (List ℕ) → Type 0
 ReadsOnlyTo line first left began = HoldsFew line first left × IfSome began (IsToCome line first)
 
--- how many bytes the lines that come yet may have
+-- how many bytes the remaining lines may have
 abbrev pub room_in : Stage → ℕ
 room_in (stage.Lines lines) = MAX_INPUT - lines.given
 room_in _ = 0
 
--- a bundle more was read, and no more than that; its observations may follow those before
+-- one more bundle was read, and no more; its observations may follow those before
 pub record GivesNext (first : Option (List ℕ)) (earlier : List BundleOf) (before after : ReaderState) (left_after began_after : Option (List ℕ)) (batch : Batch) : Type 0 where
   pub read : HasRead first after left_after began_after (earlier ++ bundle_of batch ∷ [])
   pub only : ReadsOnlyTo batch.line first left_after began_after
@@ -90,7 +92,7 @@ pub record GivesNext (first : Option (List ℕ)) (earlier : List BundleOf) (befo
   pub last : after.last ≡ last_after before.last batch.observations
   pub less_room : room_in after.stage < room_in before.stage
 
--- what an answer says of the input of which these bundles were read before
+-- what an answer says about the input of which these bundles were read before
 abbrev pub NextAnswers : Option (List ℕ) → List BundleOf → ReaderState → ReaderState → Option (List ℕ) → Option (List ℕ) → Result (Option Batch) ReadEnd → Type 0
 NextAnswers first earlier before after left_after began_after (Ok (Some batch)) = GivesNext first earlier before after left_after began_after batch
 NextAnswers first earlier before after left_after began_after (Ok None) = ReadsInput Lines first earlier Whole × IsAtEnd left_after × (after.stage ≡ stage.AtEnd)

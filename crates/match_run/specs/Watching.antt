@@ -20,11 +20,11 @@ use Rattle.match_run.specs.Reading.{ReadsOnlyTo}
 abbrev pub Says : (List ℕ → Type 0) → Option (List ℕ) → Option (List ℕ) → Type 0
 Says IsSaid before after = (text : List ℕ) × IsSaid text × (after ≡ written_with text before)
 
--- of such a text a prefix was written
+-- a prefix of such a text was written
 abbrev pub BreaksOff : (List ℕ → Type 0) → Option (List ℕ) → Option (List ℕ) → Type 0
 BreaksOff IsSaid before after = (text : List ℕ) × IsSaid text × WritesPrefix text before after
 
--- what was written of a bundle in which the watcher ended so
+-- what was written about the bundle in which the watcher ended
 abbrev pub EndsSeeing : {S : Type 0} → (S → List ℕ → Type 0) → (List ℕ → Type 0) → Option (List ℕ) → Option (List ℕ) → SeeEnd S → Type 0
 EndsSeeing stops begins before after (see.Stopped why) = Says (stops why) before after
 EndsSeeing stops begins before after see.WriteFault = BreaksOff begins before after
@@ -32,7 +32,7 @@ EndsSeeing stops begins before after see.NoMemory = BreaksOff begins before afte
 
 -- ---- what is said of an input
 
--- it saw these bundles in turn, stands so behind them, and says this text of them
+-- it saw these bundles in turn, and wrote this text about them
 abbrev pub SeesAll : {W : Type 0} → (W → BundleOf → W → List ℕ → Type 0) → W → List BundleOf → W → List ℕ → Type 0
 SeesAll sees watcher [] behind text = (behind ≡ watcher) × (text ≡ [])
 SeesAll {W} sees watcher (bundle ∷ bundles) behind text = (next : W) × (own : List ℕ) × (later : List ℕ)
@@ -40,35 +40,36 @@ SeesAll {W} sees watcher (bundle ∷ bundles) behind text = (next : W) × (own :
 
 module _ {W : Type 0} (sees : W → BundleOf → W → List ℕ → Type 0) (first : Option (List ℕ)) (earlier : List BundleOf)
     (watcher behind : W) (written : Option (List ℕ)) (after : Streams) where
-  -- the input was read to its end, and of all its bundles behind the earlier ones was written what the watcher says
+  -- the whole input was read, and the text about all its bundles was written
   pub record WatchesWhole : Type 0 where
     pub bundles : List BundleOf
     pub reading : ReadsInput Lines first (earlier ++ bundles) Whole
     pub says : Says (SeesAll sees watcher bundles behind) written after.written
     pub drained : IsAtEnd after.left
 
-  -- the input was read up to the first line that is refused, and of the bundles before it was written what the watcher says
+  -- the input was read up to the first refused line, and the text about the bundles before it was
+  -- written
   pub record WatchesBefore (line : ℕ) (why : InputRule) : Type 0 where
     pub bundles : List BundleOf
     pub reading : ReadsInput Lines first (earlier ++ bundles) (Refused line why)
     pub says : Says (SeesAll sees watcher bundles behind) written after.written
     pub little : StopsIn line first after.left
 
-  -- a read failed: of the whole lines in the bytes taken was written what the watcher says
+  -- a read failed: the text about the whole lines read was written
   pub record WatchesTaken : Type 0 where
     pub bundles : List BundleOf
     pub begins : HasPrefix Lines first (earlier ++ bundles)
     pub says : Says (SeesAll sees watcher bundles behind) written after.written
     pub taken : ReadsTaken (earlier ++ bundles) first after.left
 
-  -- it stopped between two bundles: of those before was written what the watcher says
+  -- it stopped between two bundles: the text about those before was written
   pub record StopsBetween : Type 0 where
     pub bundles : List BundleOf
     pub begins : HasPrefix Lines first (earlier ++ bundles)
     pub says : Says (SeesAll sees watcher bundles behind) written after.written
 
--- it stopped within a bundle, before more was read: of the bundles before it was written what the watcher says, and behind that,
--- from where the watcher stood, what holds of this one
+-- it stopped within a bundle, before more was read: the text about the bundles before it was
+-- written, and then what Within says about this one
 pub record StopsWithin {W : Type 0} (sees : W → BundleOf → W → List ℕ → Type 0) (Within : W → BundleOf → Option (List ℕ) → Option (List ℕ) → Type 0)
     (first : Option (List ℕ)) (earlier : List BundleOf) (watcher : W) (written : Option (List ℕ)) (after : Streams) : Type 0 where
   pub bundles : List BundleOf
@@ -80,7 +81,7 @@ pub record StopsWithin {W : Type 0} (sees : W → BundleOf → W → List ℕ �
   pub says : Says (SeesAll sees watcher bundles at) written before
   pub within : Within at bundle before after.written
 
--- what an end says
+-- what the end of a run says
 module _ {W S : Type 0} (sees : W → BundleOf → W → List ℕ → Type 0) (stops : W → BundleOf → S → List ℕ → Type 0) (begins : W → BundleOf → List ℕ → Type 0)
     (first : Option (List ℕ)) (earlier : List BundleOf) (watcher behind : W) (written : Option (List ℕ)) (after : Streams) where
   abbrev pub AnswersWatch : WatchEnd S → Type 0

@@ -1,3 +1,5 @@
+//! One observation: from the truths of the brackets to the bindings that end there.
+
 ghost use Rattle.std.specs.Prelude.{◌≡◌, ◌≢◌, ◌+◌, ◌≤ℤ◌, Err, List, map, IfOk, IfErr};
 ghost use Rattle.serde_json.specs.Data.{Data};
 ghost use Rattle.pattern_types.specs.PlainPattern.{plain_pattern};
@@ -14,8 +16,7 @@ use match_bindings::Bind;
 use match_stream::{Ending, MatchRefusal, Matcher};
 use stix_bundles::Observation;
 
-/// Gives an observation to the matcher, for which these truths of the brackets were found, and counts the bindings that
-/// end there.
+/// Gives an observation with these truths to the matcher, and counts the bindings that end there.
 pub(crate) fn answer(
     matcher: &mut Matcher<'_>,
     observation: &Observation,
@@ -26,12 +27,17 @@ pub(crate) fn answer(
     requires span { observation.now.first ≤ℤ observation.now.last }
     requires number { observation.now.number ≡ matcher.old.rows + 1 }
     requires order { ¬ (Falls matcher.old.last observation.now.last) }
-    ensures row { (objects : List Data) → AreTruths objects observation.now.roots (plain_pattern matcher.old.pattern) truths.now
-        → IfOk result (λ binds. TakesRow objects observation.now (so_far matcher.old tally.old) (so_far matcher.new tally.new) (map tree_of binds)) }
-    ensures end { (objects : List Data) → AreTruths objects observation.now.roots (plain_pattern matcher.old.pattern) truths.now
-        → IfErr result (StopsAtRow objects observation.now (so_far matcher.old tally.old) matcher.new) }
+    ensures row { (objects : List Data)
+        → AreTruths objects observation.now.roots (plain_pattern matcher.old.pattern) truths.now
+        → IfOk result (λ binds. TakesRow objects observation.now (so_far matcher.old tally.old)
+        (so_far matcher.new tally.new) (map tree_of binds)) }
+    ensures end { (objects : List Data)
+        → AreTruths objects observation.now.roots (plain_pattern matcher.old.pattern) truths.now
+        → IfErr result (StopsAtRow objects observation.now (so_far matcher.old tally.old)
+        matcher.new) }
     ensures unwritten { result ≢ Err MatchEnd.WriteFault }
-    ensures kept { (matcher.new.pattern ≡ matcher.old.pattern) × (matcher.new.retained_limit ≡ matcher.old.retained_limit) }
+    ensures kept { (matcher.new.pattern ≡ matcher.old.pattern)
+        × (matcher.new.retained_limit ≡ matcher.old.retained_limit) }
 {
     let number = observation.number;
     match matcher.take(observation.first, observation.last, truths) {

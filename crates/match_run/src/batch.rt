@@ -1,3 +1,5 @@
+//! One bundle: from its observations to the lines of the bindings that end there.
+
 ghost use Rattle.std.specs.Prelude.{◌≡◌, ◌↔◌, ◌+◌, [], Err, IsTrue, OnOk, IfErr};
 ghost use Rattle.flow_edges.specs.Faults.{Counted};
 ghost use Rattle.stix_bundles.specs.Objects.{data_in};
@@ -16,9 +18,9 @@ use match_input::Batch;
 use match_stream::Matcher;
 use std::alloc::Global;
 
-/// Gives the observations of a bundle to the matcher, and writes the lines of the bindings that end there, in pieces: where too
-/// much is live at one of them, those of the observations before it. Where memory ran out or a write failed, nothing more is
-/// written.
+/// Gives the observations of a bundle to the matcher, and writes the lines of the bindings that end
+/// there, buffered. Where an observation exceeds the limit, writes the lines of those before it.
+/// After lack of memory or a failed write nothing more is written.
 pub(crate) fn match_batch<O: Sink>(
     alloc: Global,
     matcher: &mut Matcher<'_>,
@@ -29,12 +31,16 @@ pub(crate) fn match_batch<O: Sink>(
     requires sound { IsSoundPattern (plain_pattern matcher.old.pattern) }
     requires behind { IsAtSome (so_far matcher.old tally.old) }
     requires follow { MayFollow matcher.old.last (matcher.old.rows + 1) batch.now.observations }
-    ensures rows { OnOk result (WritesBundle (bundle_of batch.now) (so_far matcher.old tally.old) (so_far matcher.new tally.new)
+    ensures rows { OnOk result (WritesBundle (bundle_of batch.now) (so_far matcher.old tally.old)
+        (so_far matcher.new tally.new)
         (O.written output.old) (O.written output.new)) }
-    ensures end { IfErr result (StopsInBundle (bundle_of batch.now) (so_far matcher.old tally.old) matcher.new
+    ensures end { IfErr result (StopsInBundle (bundle_of batch.now) (so_far matcher.old tally.old)
+        matcher.new
         (O.written output.old) (O.written output.new)) }
-    ensures kept { (matcher.new.pattern ≡ matcher.old.pattern) × (matcher.new.retained_limit ≡ matcher.old.retained_limit) }
-    ensures causes { Counted (result ≡ Err MatchEnd.WriteFault) (O.faults output.old) (O.faults output.new) }
+    ensures kept { (matcher.new.pattern ≡ matcher.old.pattern)
+        × (matcher.new.retained_limit ≡ matcher.old.retained_limit) }
+    ensures causes { Counted (result ≡ Err MatchEnd.WriteFault) (O.faults output.old)
+        (O.faults output.new) }
 {
     let mut pending = Vec::new(alloc);
     let ended = answer_all(alloc, matcher, batch, tally, &mut pending, output);
@@ -45,14 +51,14 @@ pub(crate) fn match_batch<O: Sink>(
     ended
 }
 
-/// Whether an end came in the middle of lines: memory ran out, or a write failed.
+/// Whether an end comes in the middle of lines: out of memory, or a failed write.
 fn has_cut_lines(ended: &Result<(), MatchEnd>) -> bool
     ensures { IsTrue result ↔ HasCutLines ended.now }
 {
     matches!(ended, Err(MatchEnd::NoMemory | MatchEnd::WriteFault))
 }
 
-/// Gives the observations of a bundle to the matcher, and adds the lines of the bindings that end there to what is pending.
+/// Gives the observations to the matcher, and appends the lines to the buffer.
 fn answer_all<O: Sink>(
     alloc: Global,
     matcher: &mut Matcher<'_>,
@@ -65,12 +71,17 @@ fn answer_all<O: Sink>(
     requires behind { IsAtSome (so_far matcher.old tally.old) }
     requires follow { MayFollow matcher.old.last (matcher.old.rows + 1) batch.now.observations }
     requires empty { pending.old.items ≡ [] }
-    ensures rows { OnOk result (GoesThrough (data_in batch.now.bundle) batch.now.observations (so_far matcher.old tally.old)
-        (so_far matcher.new tally.new) pending.new.items (O.written output.old) (O.written output.new)) }
-    ensures end { IfErr result (StopsAtOne (data_in batch.now.bundle) batch.now.observations (so_far matcher.old tally.old)
+    ensures rows { OnOk result (GoesThrough (data_in batch.now.bundle) batch.now.observations
+        (so_far matcher.old tally.old)
+        (so_far matcher.new tally.new) pending.new.items (O.written output.old)
+        (O.written output.new)) }
+    ensures end { IfErr result (StopsAtOne (data_in batch.now.bundle) batch.now.observations
+        (so_far matcher.old tally.old)
         matcher.new pending.new.items (O.written output.old) (O.written output.new)) }
-    ensures kept { (matcher.new.pattern ≡ matcher.old.pattern) × (matcher.new.retained_limit ≡ matcher.old.retained_limit) }
-    ensures causes { Counted (result ≡ Err MatchEnd.WriteFault) (O.faults output.old) (O.faults output.new) }
+    ensures kept { (matcher.new.pattern ≡ matcher.old.pattern)
+        × (matcher.new.retained_limit ≡ matcher.old.retained_limit) }
+    ensures causes { Counted (result ≡ Err MatchEnd.WriteFault) (O.faults output.old)
+        (O.faults output.new) }
 {
     let observations = batch.observations.as_slice();
     let truths = leaf_truths(alloc, matcher.pattern(), observations, &batch.bundle)?;

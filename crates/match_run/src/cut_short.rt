@@ -3,12 +3,12 @@ ghost use Rattle.match_run.specs.declared.cut_short.CutShort.TheVariants as cut;
 
 use flow_values::{Fault, NoMemory};
 
-/// Why a text wasn't written whole.
+/// Why a text wasn't written completely.
 #[derive(Debug, Drop)]
 pub enum CutShort {
-    /// The output failed, and counted it.
+    /// The output failed, and counted the failure.
     WriteFault,
-    /// Memory ran out.
+    /// Out of memory.
     NoMemory,
 }
 

@@ -1,15 +1,18 @@
-//! A log to the lines of its bindings: from the bytes in to the bytes out.
+//! Runs a matcher over an input: from the bytes in to the lines of the bindings out.
 //!
-//! `match_stream` reads an input, bundle by bundle, gives each of its observations to a matcher, and writes
-//! the line of each binding that ends there, those of a bundle before more is read. What it writes is a function of the bytes alone, however
-//! they are cut into reads; the first line that is refused, or the first observation at which too much is
-//! live, ends it.
+//! `match_stream` reads an input bundle by bundle, gives each observation to a matcher, and writes
+//! the line of each binding that ends there. `follow` does the same for any `Watcher`. It reads the
+//! bundles with `next_bundle`, one for each line (STIX 2.1, section 8), and the watcher writes a
+//! text about each. `Pending` buffers these texts.
 //!
-//! An input followed by a watcher, bundle by bundle: what is said of a bundle is written before more is read.
+//! Both write everything about a bundle before they read more than its line. What they write is a
+//! function of the bytes alone, however these are cut into reads. They stop at the end of the
+//! input, at the first refused line, or where the matcher exceeds its limit or the watcher stops.
 //!
-//! The input is cut into lines, each of which is a bundle (STIX 2.1, section 8). `next_bundle` gives the next one, and
-//! tells what the bytes of the whole input are read as so far. `follow` hands each in turn to a `Watcher`, up to the end of
-//! the input, its first refused line, or where the watcher stops. `Pending` gathers the texts that a watcher writes.
+//! ```text
+//! let mut matcher = Matcher::new(alloc, &pattern, 100_000)?;
+//! let end = match_stream(alloc, &mut matcher, &mut input, &mut output, Mode::Lines); // a MatchEnd
+//! ```
 #![tactic(auto)]
 
 mod answers;

@@ -1,4 +1,4 @@
-//! The lines of bindings on their way to the output.
+//! A write buffer for the lines of bindings.
 
 ghost use Rattle.std.specs.Prelude.{◌≡◌, ◌⊎◌, ◌++◌, [], ℕ, List, Option, Err, map, IfErr, OnOk, OnErr};
 ghost use Rattle.flow_edges.specs.Faults.{Counted};
@@ -15,22 +15,27 @@ use flow_values::NoMemory;
 use match_bindings::{Bind, line_of};
 use std::alloc::Global;
 
-/// How many bytes of lines are gathered before they are written.
+/// How many bytes are buffered before they are written.
 const PIECE: usize = 65_536;
 
-/// Adds the line of each bind to what is pending, which is written as it comes to a piece.
+/// Appends the line of each binding to the buffer, and writes the buffer whenever it is full.
 pub(crate) fn add_lines<O: Sink>(
     alloc: Global,
     binds: &[Bind],
     pending: &mut Vec<u8>,
     output: &mut O,
 ) -> Result<(), MatchEnd>
-    ensures ok { (text : List ℕ) (first : Option (List ℕ)) → IsBuffered text pending.old.items first (O.written output.old)
-        → OnOk result (IsBuffered (text ++ listing_text (map tree_of binds.now)) pending.new.items first (O.written output.new)) }
-    ensures err { (text : List ℕ) (first : Option (List ℕ)) → IsBuffered text pending.old.items first (O.written output.old)
-        → OnErr result (WritesPrefix (text ++ listing_text (map tree_of binds.now)) first (O.written output.new)) }
+    ensures ok { (text : List ℕ) (first : Option (List ℕ))
+        → IsBuffered text pending.old.items first (O.written output.old)
+        → OnOk result (IsBuffered (text ++ listing_text (map tree_of binds.now)) pending.new.items
+        first (O.written output.new)) }
+    ensures err { (text : List ℕ) (first : Option (List ℕ))
+        → IsBuffered text pending.old.items first (O.written output.old)
+        → OnErr result (WritesPrefix (text ++ listing_text (map tree_of binds.now)) first
+        (O.written output.new)) }
     ensures end { IfErr result CutsLines }
-    ensures causes { Counted (result ≡ Err MatchEnd.WriteFault) (O.faults output.old) (O.faults output.new) }
+    ensures causes { Counted (result ≡ Err MatchEnd.WriteFault) (O.faults output.old)
+        (O.faults output.new) }
 {
     for bind in binds {
         add_line(alloc, bind, pending, output)?;
@@ -38,19 +43,24 @@ pub(crate) fn add_lines<O: Sink>(
     Ok(())
 }
 
-/// Adds the line of a bind.
+/// Appends the line of one binding.
 fn add_line<O: Sink>(
     alloc: Global,
     bind: &Bind,
     pending: &mut Vec<u8>,
     output: &mut O,
 ) -> Result<(), MatchEnd>
-    ensures ok { (text : List ℕ) (first : Option (List ℕ)) → IsBuffered text pending.old.items first (O.written output.old)
-        → OnOk result (IsBuffered (text ++ line_text (tree_of bind.now)) pending.new.items first (O.written output.new)) }
-    ensures err { (text : List ℕ) (first : Option (List ℕ)) → IsBuffered text pending.old.items first (O.written output.old)
-        → OnErr result (WritesPrefix (text ++ line_text (tree_of bind.now)) first (O.written output.new)) }
+    ensures ok { (text : List ℕ) (first : Option (List ℕ))
+        → IsBuffered text pending.old.items first (O.written output.old)
+        → OnOk result (IsBuffered (text ++ line_text (tree_of bind.now)) pending.new.items first
+        (O.written output.new)) }
+    ensures err { (text : List ℕ) (first : Option (List ℕ))
+        → IsBuffered text pending.old.items first (O.written output.old)
+        → OnErr result (WritesPrefix (text ++ line_text (tree_of bind.now)) first
+        (O.written output.new)) }
     ensures end { IfErr result CutsLines }
-    ensures causes { Counted (result ≡ Err MatchEnd.WriteFault) (O.faults output.old) (O.faults output.new) }
+    ensures causes { Counted (result ≡ Err MatchEnd.WriteFault) (O.faults output.old)
+        (O.faults output.new) }
 {
     push_line(alloc, bind, pending)?;
     if pending.len() < PIECE {
@@ -59,7 +69,7 @@ fn add_line<O: Sink>(
     write_pending(pending, output)
 }
 
-/// Puts the line of a bind behind what is pending.
+/// Appends a line to the buffer.
 fn push_line(alloc: Global, bind: &Bind, pending: &mut Vec<u8>) -> Result<(), NoMemory>
     ensures { OnOk result (pending.new.items ≡ pending.old.items ++ line_text (tree_of bind.now)) }
 {
@@ -68,12 +78,15 @@ fn push_line(alloc: Global, bind: &Bind, pending: &mut Vec<u8>) -> Result<(), No
     Ok(())
 }
 
-/// Writes what is pending.
+/// Writes the buffer.
 pub(crate) fn write_pending<O: Sink>(pending: &mut Vec<u8>, output: &mut O) -> Result<(), MatchEnd>
-    ensures ok { OnOk result ((pending.new.items ≡ []) × (O.written output.new ≡ written_with pending.old.items (O.written output.old))) }
-    ensures err { OnErr result (WritesPrefix pending.old.items (O.written output.old) (O.written output.new)) }
+    ensures ok { OnOk result ((pending.new.items ≡ [])
+        × (O.written output.new ≡ written_with pending.old.items (O.written output.old))) }
+    ensures err { OnErr result (WritesPrefix pending.old.items (O.written output.old)
+        (O.written output.new)) }
     ensures end { IfErr result (λ end. end ≡ MatchEnd.WriteFault) }
-    ensures causes { Counted (result ≡ Err MatchEnd.WriteFault) (O.faults output.old) (O.faults output.new) }
+    ensures causes { Counted (result ≡ Err MatchEnd.WriteFault) (O.faults output.old)
+        (O.faults output.new) }
 {
     match write_whole(output, pending) {
         Ok(()) => {

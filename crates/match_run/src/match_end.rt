@@ -8,28 +8,28 @@ use match_input::{InputRule, ReadEnd};
 /// How a run over a log ended.
 #[derive(Debug, Drop)]
 pub enum MatchEnd {
-    /// The input was read to its end and all was written: how many observations there were, how many
-    /// bindings, and the greatest number of the last binding, or 0.
+    /// The whole input was read and all was written: how many observations and bindings there were,
+    /// and the greatest number of the last binding, or 0.
     Done {
         observations: u64,
         bindings: u128,
         last: u64,
     },
-    /// The line of that number is the first that is refused.
+    /// The line of this number is refused.
     Input {
         line: u64,
         rule: InputRule,
     },
-    /// The input failed, and counted it.
+    /// The input failed, and counted the failure.
     ReadFault,
-    /// The output failed, and counted it.
+    /// The output failed, and counted the failure.
     WriteFault,
-    /// More is live after the observation of that number than the retained limit allows.
+    /// After the observation of this number the matcher would retain more than its limit.
     OverLimit {
         number: u64,
         retained_limit: u64,
     },
-    /// Memory ran out.
+    /// Out of memory.
     NoMemory,
 }
 

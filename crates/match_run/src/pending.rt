@@ -41,12 +41,15 @@ impl Pending {
     /// Puts a text behind what is pending, which is written as it comes to a piece. After an `Err` a prefix was written of
     /// what was on its way and the text.
     pub fn add<O: Sink>(&mut self, text: &[u8], output: &mut O) -> Result<(), CutShort>
-        ensures ok { (before : List ℕ) (first : Option (List ℕ)) → IsBuffered before self.old first (O.written output.old)
+        ensures ok { (before : List ℕ) (first : Option (List ℕ))
+            → IsBuffered before self.old first (O.written output.old)
             → OnOk result (IsBuffered (before ++ text.now) self.new first (O.written output.new)) }
-        ensures err { (before : List ℕ) (first : Option (List ℕ)) → IsBuffered before self.old first (O.written output.old)
+        ensures err { (before : List ℕ) (first : Option (List ℕ))
+            → IsBuffered before self.old first (O.written output.old)
             → OnErr result (WritesPrefix (before ++ text.now) first (O.written output.new)) }
         ensures few { OnOk result (length self.new < PIECE) }
-        ensures causes { Counted (result ≡ Err CutShort.WriteFault) (O.faults output.old) (O.faults output.new) }
+        ensures causes { Counted (result ≡ Err CutShort.WriteFault) (O.faults output.old)
+            (O.faults output.new) }
     {
         self.push(text)?;
         if self.bytes.len() < PIECE {
@@ -58,10 +61,13 @@ impl Pending {
 
     /// Writes what is pending. After a `Fault` a prefix of it was written.
     pub fn write<O: Sink>(&mut self, output: &mut O) -> Result<(), Fault>
-        ensures ok { OnOk result ((self.new ≡ []) × (O.written output.new ≡ written_with self.old (O.written output.old))) }
-        ensures all { (before : List ℕ) (first : Option (List ℕ)) → IsBuffered before self.old first (O.written output.old)
+        ensures ok { OnOk result ((self.new ≡ [])
+            × (O.written output.new ≡ written_with self.old (O.written output.old))) }
+        ensures all { (before : List ℕ) (first : Option (List ℕ))
+            → IsBuffered before self.old first (O.written output.old)
             → OnOk result (O.written output.new ≡ written_with before first) }
-        ensures err { (before : List ℕ) (first : Option (List ℕ)) → IsBuffered before self.old first (O.written output.old)
+        ensures err { (before : List ℕ) (first : Option (List ℕ))
+            → IsBuffered before self.old first (O.written output.old)
             → OnErr result (WritesPrefix before first (O.written output.new)) }
         ensures causes { Counted (IsErr result) (O.faults output.old) (O.faults output.new) }
     {

@@ -5,14 +5,14 @@ ghost use Rattle.match_run.specs.inner.WatchEnds.{end_of_cut};
 use crate::CutShort;
 use flow_values::{Fault, NoMemory};
 
-/// Why a watcher sees no further.
+/// Why a watcher stops.
 #[derive(Debug, Drop)]
 pub enum SeeEnd<S> {
-    /// It stops by itself, for a reason of its own.
+    /// It stops for its own reason.
     Stopped(S),
-    /// The output failed, and counted it.
+    /// The output failed, and counted the failure.
     WriteFault,
-    /// Memory ran out.
+    /// Out of memory.
     NoMemory,
 }
 

@@ -1,3 +1,5 @@
+//! The loop of a matcher over an input.
+
 ghost use Rattle.std.specs.Prelude.{◌≡◌, []};
 ghost use Rattle.flow_edges.specs.Faults.{Counted};
 ghost use Rattle.flow_edges.specs.Streams.{streams};
@@ -18,9 +20,9 @@ use match_stream::laws::answers_are_the_listing;
 use std::alloc::Global;
 use stix_bundles::laws::observations_are_spans;
 
-/// Matches a pattern against an input, and writes the bindings in order of their last observation, those of
-/// a bundle before more is read than its line. The first line that is refused ends it, or the first observation
-/// at which more is live than the matcher's retained limit allows, whichever comes first.
+/// Matches a pattern against an input, and writes the bindings in the order of their last
+/// observations, those of a bundle before more is read than its line. Ends with the input, at the
+/// first refused line, or at the first observation where the matcher exceeds its limit.
 pub fn match_stream<I: Source, O: Sink>(
     alloc: Global,
     matcher: &mut Matcher<'_>,
@@ -30,11 +32,15 @@ pub fn match_stream<I: Source, O: Sink>(
 ) -> MatchEnd
     requires start { Represents matcher.old [] }
     requires sound { IsSoundPattern (plain_pattern matcher.old.pattern) }
-    ensures end { AnswersMatch mode matcher.old.pattern matcher.old.retained_limit (streams (I.left input.old) (I.began input.old) (O.written output.old))
+    ensures end { AnswersMatch mode matcher.old.pattern matcher.old.retained_limit
+        (streams (I.left input.old) (I.began input.old) (O.written output.old))
         (streams (I.left input.new) (I.began input.new) (O.written output.new)) matcher.new result }
-    ensures kept { (matcher.new.pattern ≡ matcher.old.pattern) × (matcher.new.retained_limit ≡ matcher.old.retained_limit) }
-    ensures input { Counted (result ≡ MatchEnd.ReadFault) (I.faults input.old) (I.faults input.new) }
-    ensures output { Counted (result ≡ MatchEnd.WriteFault) (O.faults output.old) (O.faults output.new) }
+    ensures kept { (matcher.new.pattern ≡ matcher.old.pattern)
+        × (matcher.new.retained_limit ≡ matcher.old.retained_limit) }
+    ensures input { Counted (result ≡ MatchEnd.ReadFault) (I.faults input.old)
+        (I.faults input.new) }
+    ensures output { Counted (result ≡ MatchEnd.WriteFault) (O.faults output.old)
+        (O.faults output.new) }
 {
     continues();
     observations_are_spans();

@@ -3,7 +3,8 @@ ghost use Rattle.match_run.specs.inner.Rows.{no_tally, counted};
 
 use crate::MatchEnd;
 
-/// How many observations and bindings there were, and the greatest number of the last binding, or 0.
+/// Counts of a run: how many observations and bindings there were, and the greatest number of the
+/// last binding, or 0.
 #[derive(Clone, Copy)]
 pub(crate) struct Tally {
     pub(crate) observations: u64,
@@ -12,7 +13,7 @@ pub(crate) struct Tally {
 }
 
 impl Tally {
-    /// The tally of no observations.
+    /// All zero.
     pub(crate) fn new() -> Tally
         ensures { result ≡ no_tally }
     {
@@ -23,7 +24,7 @@ impl Tally {
         }
     }
 
-    /// Counts the observation of a number, at which so many bindings end.
+    /// Counts the observation of this number, at which `bindings` bindings end.
     pub(crate) fn count(&mut self, number: u64, bindings: usize)
         requires observations { self.old.observations + 1 < 2 ^ 64 }
         requires bindings { self.old.bindings + bindings < 2 ^ 128 }
@@ -36,7 +37,7 @@ impl Tally {
         }
     }
 
-    /// The end of a run over an input that was read to its end.
+    /// The end of a run that read its whole input.
     pub(crate) fn done(self) -> MatchEnd
         ensures { result ≡ MatchEnd.Done self.observations self.bindings self.last }
     {

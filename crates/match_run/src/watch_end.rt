@@ -4,20 +4,20 @@ ghost use Rattle.match_run.specs.inner.WatchEnds.{end_of_read, end_of_see};
 use crate::{InputRule, SeeEnd};
 use match_input::ReadEnd;
 
-/// How an input was followed to an end.
+/// How a run of a watcher ended.
 #[derive(Debug, Drop)]
 pub enum WatchEnd<S> {
-    /// The input was read to its end.
+    /// The whole input was read.
     Done,
-    /// The line of that number is the first that is refused.
+    /// The line of this number is refused.
     Input { line: u64, rule: InputRule },
-    /// The input failed, and counted it.
+    /// The input failed, and counted the failure.
     ReadFault,
-    /// The output failed, and counted it.
+    /// The output failed, and counted the failure.
     WriteFault,
-    /// The watcher stopped by itself.
+    /// The watcher stopped for its own reason.
     Stopped(S),
-    /// Memory ran out.
+    /// Out of memory.
     NoMemory,
 }
 

@@ -11,17 +11,18 @@ use Rattle.match_stream.specs.PartialMatchTree.{PartialMatchTree}
 use Rattle.match_stream.specs.RetainedPart.{IsRetainedPart, held_count}
 use Rattle.match_stream.specs.MatcherState.{MatcherState, Represents}
 
--- a binding whose greatest number is that of the last row
+-- a binding whose greatest observation number is the last row's
 abbrev pub EndsAtLast : NumberedPattern → List LogEntry → BindTree → Type 0
 EndsAtLast p log x = IsBinding (observed_in log) p x × (greatest x ≡ length log)
 
--- each of these once and nothing else, by flat list
+-- all of these, each once, and nothing else, in the order of flat lists
 pub record IsAnswer (p : NumberedPattern) (log : List LogEntry) (xs : List BindTree) : Type 0 where
   pub each_once : (x : BindTree) → EndsAtLast p log x → count x xs ≡ 1
   pub no_other : (x : BindTree) → ¬ (EndsAtLast p log x) → count x xs ≡ 0
   pub ascends : Ascends xs
 
--- the retained count: so many things are in the retained part, and so many bindings end at the last row
+-- the retained count: how many partial matches the stores hold, plus how many bindings end at the
+-- last row
 pub record IsRetainedCount (p : NumberedPattern) (log : List LogEntry) (n : ℕ) : Type 0 where
   pub contents : List (List PartialMatchTree)
   pub answer : List BindTree
@@ -29,30 +30,30 @@ pub record IsRetainedCount (p : NumberedPattern) (log : List LogEntry) (n : ℕ)
   pub ending : IsAnswer p log answer
   pub sum : n ≡ held_count contents + length answer
 
--- the retained count passes the retained limit
+-- the retained count exceeds the limit
 abbrev pub IsOverLimit : NumberedPattern → List LogEntry → ℕ → Type 0
 IsOverLimit p log retained_limit = (n : ℕ) × IsRetainedCount p log n × (retained_limit < n)
 
--- it doesn't
+-- the retained count doesn't exceed the limit
 abbrev pub IsWithinLimit : NumberedPattern → List LogEntry → ℕ → Type 0
 IsWithinLimit p log retained_limit = (n : ℕ) × IsRetainedCount p log n × (n ≤ retained_limit)
 
--- a matcher answers the last row of a log: it then stands for the log, whose rows are in order, and no more is retained there than
--- its retained limit allows
+-- a matcher answers the last row of a log: it then represents the log, whose rows are in order, and
+-- the retained count is within its limit
 pub record AnswersRow (before after : MatcherState) (log : List LogEntry) (answer : List BindTree) : Type 0 where
   pub represents : Represents after log
   pub order : IsInOrder log
   pub answers : IsAnswer (numbered_pattern before.pattern) log answer
   pub within_limit : IsWithinLimit (numbered_pattern before.pattern) log before.retained_limit
 
--- it is over limit at that row, whose number it names: more is retained there than its retained limit allows
+-- the limit is exceeded at the last row, whose number is reported
 pub record IsOverLimitAtRow (before : MatcherState) (log : List LogEntry) (number retained_limit : ℕ) : Type 0 where
   pub order : IsInOrder log
   pub numbered : number ≡ length log
   pub retained_limit_is : retained_limit ≡ before.retained_limit
   pub over_limit : IsOverLimit (numbered_pattern before.pattern) log retained_limit
 
--- an answer for each row of a log, where these rows were taken before
+-- an answer for each row of a log, after the rows `before`
 abbrev pub AnswersAfter : NumberedPattern → List LogEntry → List LogEntry → List (List BindTree) → Type 0
 AnswersAfter p before [] [] = ⊤
 AnswersAfter p before (row ∷ log) (xs ∷ answers) = IsAnswer p (before ++ row ∷ []) xs × AnswersAfter p (before ++ row ∷ []) log answers
@@ -62,7 +63,7 @@ AnswersAfter p before _ _ = ⊥
 abbrev pub AreAnswers : NumberedPattern → List LogEntry → List (List BindTree) → Type 0
 AreAnswers p log answers = AnswersAfter p [] log answers
 
--- answers one after another
+-- answers, concatenated
 abbrev pub joined_answers : List (List BindTree) → List BindTree
 joined_answers [] = []
 joined_answers (xs ∷ answers) = xs ++ joined_answers answers

@@ -1,4 +1,4 @@
--- What a store of a matcher holds: binds, each with its earliest and latest time.
+-- A partial match as plain data: a binding with its earliest and latest time.
 use Rattle.std.specs.Prelude.{ℤ, List, map}
 use Rattle.match_bindings.specs.BindTree.{BindTree}
 use Rattle.match_bindings.specs.Log.{Observed}
@@ -9,7 +9,7 @@ pub record PartialMatchTree : Type 0 where
   pub earliest : ℤ
   pub latest : ℤ
 
--- a tree with its times in a log
+-- a binding with its times in a log
 abbrev pub hold : Observed → BindTree → PartialMatchTree
 hold o x = record { tree = x; earliest = earliest o.first x; latest = latest o.last x }
 

@@ -1,5 +1,5 @@
--- The retained part of a pattern after a log: what can still become part of a binding. For each store, all that it may hold and
--- that hasn't expired.
+-- The retained part of a pattern after a log: what can still become part of a binding. Each store
+-- holds all that it may hold and that hasn't expired.
 use Rattle.std.specs.Prelude.{◌≡◌, ℕ, ◌+◌, ℤ, ⊤, List, [], ◌∷◌, map, length}
 use Rattle.match_bindings.specs.declared.log_entry.LogEntry.{LogEntry}
 use Rattle.match_bindings.specs.NumberedPattern.{NumberedPattern}
@@ -12,7 +12,8 @@ use Rattle.match_pruning.specs.Stores.{Part, a_side, a_level, Store, stores_of}
 use Rattle.match_pruning.specs.Expiry.{HasExpired}
 use Rattle.match_stream.specs.PartialMatchTree.{PartialMatchTree, hold, trees_in}
 
--- a store of a side holds bindings of that side; one of a level sets of so many bindings, as they stand in a REPEATS
+-- a side's store may hold bindings of that side; a level's store sets of bindings, as they occur in
+-- a REPEATS
 abbrev pub MayHold : Observed → Part → BindTree → Type 0
 MayHold o (a_side p) x = IsBinding o p x
 MayHold o (a_level p j) x = AreRepeats (IsBinding o p) j x
@@ -21,7 +22,7 @@ MayHold o (a_level p j) x = AreRepeats (IsBinding o p) j x
 abbrev pub IsRetained : Observed → ℤ → Store → BindTree → Type 0
 IsRetained o now store x = MayHold o store.part x × ¬ (HasExpired store.window (earliest o.first x) now)
 
--- a store holds each retained thing once and nothing else, with its times
+-- the store holds each of these once, with its times, and nothing else
 pub record HoldsRetained (o : Observed) (now : ℤ) (store : Store) (held : List PartialMatchTree) : Type 0 where
   pub times : held ≡ map (hold o) (trees_in held)
   pub each_once : (x : BindTree) → IsRetained o now store x → count x (trees_in held) ≡ 1
@@ -33,14 +34,14 @@ AreRetained o now [] [] = ⊤
 AreRetained o now (store ∷ stores) (held ∷ contents) = HoldsRetained o now store held × AreRetained o now stores contents
 AreRetained o now _ _ = ⊥
 
--- the time of a log is the last time of its last row
+-- the time of a log: the end of its last row
 abbrev pub time_of : List LogEntry → ℤ
 time_of log = last_time (numbered log (length log))
 
 abbrev pub IsRetainedPart : NumberedPattern → List LogEntry → List (List PartialMatchTree) → Type 0
 IsRetainedPart p log contents = AreRetained (observed_in log) (time_of log) (stores_of p) contents
 
--- how many things are held
+-- how many partial matches the stores hold
 abbrev pub held_count : List (List PartialMatchTree) → ℕ
 held_count [] = 0
 held_count (held ∷ contents) = length held + held_count contents

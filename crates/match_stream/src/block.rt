@@ -1,3 +1,10 @@
+//! Blocks of a sorted list of keys, as in a block-range index (zone map): each block keeps a
+//! summary that holds for all its keys.
+//!
+//! The summary is conservative. `common` has only observation numbers that every key of the block
+//! has, and `begin` isn't before the begin of any of them. So a test that excludes a key by its
+//! numbers and its begin, and excludes the summary, excludes the whole block.
+
 ghost use Rattle.std.specs.Prelude.{◌≡◌, ◌≤◌, ◌<◌, length, IfOk, IfSome};
 ghost use Rattle.std.specs.List.{Contains};
 ghost use Rattle.match_stream.specs.declared.key.Key.{Key};
@@ -8,19 +15,20 @@ use flow_values::NoMemory;
 use std::alloc::Global;
 use stix_times::Instant;
 
-/// The keys from one place on up to another one, and what all of them have.
+/// A run of keys of the sorted list, from `start` up to but not including `end`, with what all of
+/// them have in common.
 #[derive(Drop)]
 pub(crate) struct Block {
     pub start: usize,
     pub end: usize,
-    /// Numbers of each of them.
+    /// Observation numbers that every key of the block has.
     pub common: Vec<u64>,
-    /// None of them begins later.
+    /// The latest begin of its keys: none begins later.
     pub begin: Instant,
 }
 
 impl Block {
-    /// That of the keys from one place on up to another one.
+    /// The block of the keys from `start` up to `end`.
     fn new(alloc: Global, keys: &[Key], start: usize, end: usize) -> Result<Block, NoMemory>
         requires { (start < end) × (end ≤ length keys.now) }
         ensures start { IfOk result (λ block. block.start ≡ start) }
@@ -41,7 +49,8 @@ impl Block {
         Ok(block)
     }
 
-    /// The same over one key more.
+    /// Extends the summary to one more key: keeps the numbers that the key has too, and the later
+    /// begin.
     fn add(&mut self, key: &Key)
         ensures kept { (other : Key) → IsCommonTo self.old other → IsCommonTo self.new other }
         ensures added { IsCommonTo self.new key.now }
@@ -54,7 +63,7 @@ impl Block {
     }
 }
 
-/// The blocks of one size, one after the other.
+/// The blocks of one size, in the order of the keys.
 #[derive(Drop)]
 pub(crate) struct Blocks {
     pub size: usize,
@@ -62,7 +71,7 @@ pub(crate) struct Blocks {
 }
 
 impl Blocks {
-    /// The blocks of this size of some keys.
+    /// Cuts the keys into blocks of `size` keys. The last block may be shorter.
     pub fn new(alloc: Global, keys: &[Key], size: usize) -> Result<Blocks, NoMemory>
         requires { 0 < size }
         ensures { IfOk result (λ blocks. AreBlocksOf keys.now blocks) }
@@ -78,9 +87,10 @@ impl Blocks {
         Ok(Blocks { size, blocks })
     }
 
-    /// The block that begins at a place, if one does.
+    /// The block that starts at this index, if there is one. O(1).
     pub fn at(&self, place: usize) -> Option<&Block>
-        ensures { IfSome result (λ block. Contains self.now.blocks.items block.now × (block.now.start ≡ place) × (place < block.now.end)) }
+        ensures { IfSome result (λ block. Contains self.now.blocks.items block.now
+            × (block.now.start ≡ place) × (place < block.now.end)) }
     {
         if place.checked_rem(self.size)? != 0 {
             return None;

@@ -9,14 +9,14 @@ use crate::store::is_retained;
 use match_pruning::Window;
 use stix_times::Instant;
 
-/// What the retained limit leaves for partial matches that aren't counted yet.
+/// How many more partial matches the matcher may hold at this row before it exceeds its limit.
 #[derive(Drop)]
 pub(crate) struct Budget {
     pub left: u64,
 }
 
 impl Budget {
-    /// Counts so many partial matches.
+    /// Charges this many partial matches. `Stop::OverLimit` where the budget has fewer left.
     pub fn take(&mut self, partial_matches: usize) -> Result<(), Stop>
         ensures taken { OnOk result (self.new.left + partial_matches ≡ self.old.left) }
         ensures over_limit { result ≡ Err stop.OverLimit → self.old.left < partial_matches }
@@ -30,7 +30,7 @@ impl Budget {
         }
     }
 
-    /// Counts those of some new partial matches that retained in a window.
+    /// Charges the new partial matches that a store with this window retains.
     #[inline(never)]
     pub fn take_admitted(
         &mut self,
@@ -38,8 +38,10 @@ impl Budget {
         window: &Window,
         now: Instant,
     ) -> Result<(), Stop>
-        ensures taken { OnOk result (self.new.left + length (kept window.now now (partial_match_trees new.now)) ≡ self.old.left) }
-        ensures over_limit { result ≡ Err stop.OverLimit → self.old.left < length (kept window.now now (partial_match_trees new.now)) }
+        ensures taken { OnOk result (self.new.left
+            + length (kept window.now now (partial_match_trees new.now)) ≡ self.old.left) }
+        ensures over_limit { result ≡ Err stop.OverLimit
+            → self.old.left < length (kept window.now now (partial_match_trees new.now)) }
     {
         for partial_match in new {
             if is_retained(window, partial_match.earliest, now) {
@@ -49,7 +51,7 @@ impl Budget {
         Ok(())
     }
 
-    /// Counts so many partial matches no longer.
+    /// Refunds this many partial matches.
     pub fn give_back(&mut self, partial_matches: usize)
         requires { self.old.left + partial_matches < 2 ^ 64 }
         ensures { self.new.left ≡ self.old.left + partial_matches }

@@ -1,7 +1,15 @@
-//! A new thing on the right of `FOLLOWEDBY`s makes sequences with what is held on their left: one thing of
-//! each left side, and the new one. Whether there may be one that is needed is judged here at one look at
-//! each thing held, by their times and by how many observations they need at one instant. To try them one
-//! by one can take a time that doubles with each thing.
+//! An admissible bound for branch and bound: it never rules out a partial match that is needed.
+//!
+//! A new partial match on the right of nested `FOLLOWEDBY`s is needed only where stored partial
+//! matches complete it, one from each left side. An exhaustive search (`needed`) takes time that is
+//! exponential in the nesting. This bound looks at each stored partial match once per left side.
+//!
+//! It relaxes the problem in two ways. It keeps the latest time at which a completion so far can
+//! begin: a left side can only move it earlier. And where a completion begins exactly then, each of
+//! its left sides lies at that one instant, and needs distinct observations there: a bipartite
+//! `Matching`. Where no left operand fits, or Hall's condition fails, no completion begins then, so
+//! the bound moves to the next earlier begin. `may_continue` answers false only where every
+//! completion is ruled out. True proves nothing: the caller searches on.
 
 ghost use Rattle.std.specs.Prelude.{◌≡◌, ◌≤ℤ◌, ◌<ℤ◌, ℕ, ℤ, true, false, Some, IfOk, OnOk};
 ghost use Rattle.std.specs.List.{Contains};
@@ -26,42 +34,44 @@ use match_bindings::are_disjoint;
 use std::alloc::Global;
 use stix_times::Instant;
 
-/// More pending lefts there are not, earliest start no more parentheses are.
+/// The deepest nesting of `FOLLOWEDBY`s: a pattern has no deeper parentheses.
 const MAX_PENDING_LEFTS: usize = 64;
 
-/// Numbers are put in order where they are more than so many.
+/// A list of candidate numbers is sorted and deduplicated once it is longer than this.
 const MANY: usize = 2 * MAX_PENDING_LEFTS;
 
-/// So many places of a thing are looked at.
+/// How many positions of the stored partial matches are looked at per left side.
 const MAX_PLACES: usize = 8;
 
-/// So many choices are noted: two for each pending left.
+/// How many vertices the bipartite matching may have: two for each left side.
 const MAX_CHOICES: usize = 2 * MAX_PENDING_LEFTS;
 
-/// The numbers at one place of some things, where each thing's stand from left to right.
+/// The observation numbers that stand at one position of some stored partial matches. Positions are
+/// counted from the left of the binding.
 #[derive(Drop)]
 pub(crate) enum CandidateSet {
-    /// These, each once.
+    /// The numbers, in order and each once.
     Few(Vec<u64>),
-    /// More than there are pending lefts.
+    /// More numbers than left sides: they never constrain the matching.
     Many,
-    /// One of the things has no such place.
+    /// Some partial match has fewer positions.
     Short,
 }
 
-/// What bounds all sequences so far.
+/// The state of the relaxed search: what bounds all completions so far.
 #[derive(Drop)]
 pub(crate) struct CompletionBound {
-    /// None of them begins later.
+    /// No completion begins later.
     pub earliest: Instant,
-    /// One that begins then has a number of its own of each.
+    /// A completion that begins exactly then assigns a distinct observation to each vertex.
     pub matching: Matching,
 }
 
 impl CompletionBound {
-    /// That of a new thing alone. Takes no memory.
+    /// The bound of a new partial match alone. Takes no memory.
     pub fn new(alloc: Global, partial_match: &PartialMatch) -> CompletionBound
-        ensures { IsReached (partial_match_tree partial_match.now) result (partial_match_tree partial_match.now) }
+        ensures { IsReached (partial_match_tree partial_match.now) result
+            (partial_match_tree partial_match.now) }
     {
         CompletionBound {
             earliest: partial_match.earliest,
@@ -69,8 +79,8 @@ impl CompletionBound {
         }
     }
 
-    /// Whether a greedy completion may go on to what is needed above: where one does, it may. The innermost pending left is the
-    /// last.
+    /// Whether a completion may exist. False is a proof that there is none; true is no promise. The
+    /// innermost left side is the last of `pending_lefts`.
     pub fn may_continue(
         &mut self,
         alloc: Global,
@@ -78,8 +88,10 @@ impl CompletionBound {
         now: Instant,
         pending_lefts: &[PendingLeft],
     ) -> Result<bool, NoMemory>
-        ensures { IfOk result (λ may. (greedy_completion : PartialMatchTree) → IsReached (partial_match_tree partial_match.now) self.old greedy_completion
-            → is_needed now (pending_lefts_of pending_lefts.now) greedy_completion ≡ true → may ≡ true) }
+        ensures { IfOk result (λ may. (greedy_completion : PartialMatchTree)
+            → IsReached (partial_match_tree partial_match.now) self.old greedy_completion
+            → is_needed now (pending_lefts_of pending_lefts.now) greedy_completion ≡ true
+            → may ≡ true) }
     {
         let Some((innermost, above)) = pending_lefts.split_last() else {
             return Ok(true);
@@ -94,17 +106,21 @@ impl CompletionBound {
         Ok(may)
     }
 
-    /// Takes one more thing into each greedy completion, of those held on the next left side: whether there may be one.
-    /// It lies wholly where the sequences begin, unless there are too few numbers for that.
+    /// Extends all completions by one stored partial match from the next left side: whether one may
+    /// exist. First it assumes that the left operand begins at the bound; where the matching rules
+    /// this out, it moves the bound to the next earlier begin.
     fn take(
         &mut self,
         alloc: Global,
         partial_match: &PartialMatch,
         held: &[PartialMatch],
     ) -> Result<bool, NoMemory>
-        ensures { IfOk result (λ may. (greedy_completion left : PartialMatchTree) → IsReached (partial_match_tree partial_match.now) self.old greedy_completion
-            → Contains (partial_match_trees held.now) left → may_join join.Then left greedy_completion ≡ true
-            → (may ≡ true) × IsReached (partial_match_tree partial_match.now) self.new (joined join.Then left greedy_completion)) }
+        ensures { IfOk result (λ may. (greedy_completion left : PartialMatchTree)
+            → IsReached (partial_match_tree partial_match.now) self.old greedy_completion
+            → Contains (partial_match_trees held.now) left
+            → may_join join.Then left greedy_completion ≡ true
+            → (may ≡ true) × IsReached (partial_match_tree partial_match.now) self.new
+            (joined join.Then left greedy_completion)) }
     {
         let bound = self.earliest;
         if self.record_candidates(alloc, bound, partial_match, held)? {
@@ -119,7 +135,7 @@ impl CompletionBound {
         }
     }
 
-    /// Takes things that begin at this time, the latest before the one at which the sequences begin.
+    /// Moves the bound to this time, the latest begin before it, and starts a new matching there.
     fn lower_to(
         &mut self,
         alloc: Global,
@@ -127,9 +143,13 @@ impl CompletionBound {
         partial_match: &PartialMatch,
         held: &[PartialMatch],
     ) -> Result<(), NoMemory>
-        ensures { OnOk result ((before : CompletionBound) (greedy_completion left : PartialMatchTree) → before.earliest ≡ self.old.earliest
-            → IsReached (partial_match_tree partial_match.now) before greedy_completion → Contains (partial_match_trees held.now) left → may_join join.Then left greedy_completion ≡ true
-            → left.earliest ≤ℤ earliest → IsReached (partial_match_tree partial_match.now) self.new (joined join.Then left greedy_completion)) }
+        ensures { OnOk result ((before : CompletionBound)
+            (greedy_completion left : PartialMatchTree) → before.earliest ≡ self.old.earliest
+            → IsReached (partial_match_tree partial_match.now) before greedy_completion
+            → Contains (partial_match_trees held.now) left
+            → may_join join.Then left greedy_completion ≡ true
+            → left.earliest ≤ℤ earliest → IsReached (partial_match_tree partial_match.now) self.new
+            (joined join.Then left greedy_completion)) }
     {
         let bound = self.earliest;
         self.earliest = earliest;
@@ -138,8 +158,9 @@ impl CompletionBound {
         Ok(())
     }
 
-    /// Notes which numbers may stand at each of the first places of the things that begin where the sequences
-    /// do, and may go before one that begins at the bound at the latest: whether there may be enough of them.
+    /// Adds a vertex to the matching for each of the first positions of the left operands that
+    /// begin at the bound: its neighbors are the numbers that stand there. False where Hall's
+    /// condition then fails.
     fn record_candidates(
         &mut self,
         alloc: Global,
@@ -148,9 +169,12 @@ impl CompletionBound {
         held: &[PartialMatch],
     ) -> Result<bool, NoMemory>
         ensures earliest { OnOk result (self.new.earliest ≡ self.old.earliest) }
-        ensures noted { IfOk result (λ may. (left : PartialMatchTree) (x : BindTree) → Contains (partial_match_trees held.now) left
-            → may_precede left bound (partial_match_tree partial_match.now) ≡ true → left.earliest ≡ self.old.earliest → disjoint left.tree x ≡ true
-            → HasPerfectMatching self.old.matching.list.items x → (may ≡ true) × HasPerfectMatching self.new.matching.list.items (Pair left.tree x)) }
+        ensures noted { IfOk result (λ may. (left : PartialMatchTree) (x : BindTree)
+            → Contains (partial_match_trees held.now) left
+            → may_precede left bound (partial_match_tree partial_match.now) ≡ true
+            → left.earliest ≡ self.old.earliest → disjoint left.tree x ≡ true
+            → HasPerfectMatching self.old.matching.list.items x
+            → (may ≡ true) × HasPerfectMatching self.new.matching.list.items (Pair left.tree x)) }
     {
         for place in 0..MAX_PLACES {
             if self.matching.list.len() >= MAX_CHOICES {
@@ -176,14 +200,17 @@ impl CompletionBound {
     }
 }
 
-/// Whether a thing may go before a greedy completion that joins this new thing, and begins at this time at the latest.
+/// Whether a stored partial match may precede a completion that contains the new one and begins at
+/// `bound` at the latest.
 fn may_precede(left: &PartialMatch, bound: Instant, partial_match: &PartialMatch) -> bool
-    ensures { result ≡ may_precede (partial_match_tree left.now) bound (partial_match_tree partial_match.now) }
+    ensures { result ≡ may_precede (partial_match_tree left.now) bound
+        (partial_match_tree partial_match.now) }
 {
     left.latest <= bound && are_disjoint(&left.bind, &partial_match.bind)
 }
 
-/// The candidate set at a place of the things that begin at this time, and may go before such a greedy completion.
+/// The candidate numbers at one position, over the left operands that begin at this time and may
+/// precede such a completion.
 fn candidate_set_at(
     alloc: Global,
     place: usize,
@@ -192,7 +219,9 @@ fn candidate_set_at(
     partial_match: &PartialMatch,
     held: &[PartialMatch],
 ) -> Result<CandidateSet, NoMemory>
-    ensures { IfOk result (λ candidate_set. (left : PartialMatchTree) → Contains (partial_match_trees held.now) left → may_precede left bound (partial_match_tree partial_match.now) ≡ true
+    ensures { IfOk result (λ candidate_set. (left : PartialMatchTree)
+        → Contains (partial_match_trees held.now) left
+        → may_precede left bound (partial_match_tree partial_match.now) ≡ true
         → left.earliest ≡ earliest → IsInCandidateSet candidate_set place left.tree) }
 {
     let mut found = Vec::new(alloc);
@@ -214,7 +243,8 @@ fn candidate_set_at(
     Ok(CandidateSet::Few(found))
 }
 
-/// Whether numbers, each taken once, are more than pending lefts. They are put in order now and then.
+/// Whether there are more distinct numbers than left sides. Sorts and deduplicates the list once it
+/// is long, so that a push costs amortized O(log n).
 fn are_many(numbers: &mut Vec<u64>) -> bool
     ensures { (n : ℕ) → Contains numbers.old.items n → Contains numbers.new.items n }
 {
@@ -225,15 +255,16 @@ fn are_many(numbers: &mut Vec<u64>) -> bool
     numbers.len() > MAX_PENDING_LEFTS
 }
 
-/// The latest time before this one at which something begins that may go before a greedy completion, which itself
-/// begins at this time at the latest. What came last is looked at first, and whether it binds something of
-/// the new thing only where it is later than all so far.
+/// The latest begin before `bound` of a stored partial match that may precede a completion which
+/// begins at `bound` at the latest. Looks at the newest first, and tests disjointness only where
+/// the begin improves the result.
 fn latest_before(
     bound: Instant,
     partial_match: &PartialMatch,
     held: &[PartialMatch],
 ) -> Option<Instant>
-    ensures { (left : PartialMatchTree) → Contains (partial_match_trees held.now) left → may_precede left bound (partial_match_tree partial_match.now) ≡ true
+    ensures { (left : PartialMatchTree) → Contains (partial_match_trees held.now) left
+        → may_precede left bound (partial_match_tree partial_match.now) ≡ true
         → left.earliest <ℤ bound → (time : ℤ) × (result ≡ Some time) × (left.earliest ≤ℤ time) }
 {
     let mut latest = None;
@@ -248,10 +279,11 @@ fn latest_before(
     latest
 }
 
-/// Whether a time is later than one, where there is one, and before the other.
+/// Whether a time lies after `one`, if any, and before `other`.
 fn is_between(one: &Option<Instant>, time: Instant, other: Instant) -> bool
     ensures later { result ≡ true → (start : ℤ) → one.now ≡ Some start → start ≤ℤ time }
-    ensures out { result ≡ false → time <ℤ other → (start : ℤ) × (one.now ≡ Some start) × (time ≤ℤ start) }
+    ensures out { result ≡ false → time <ℤ other → (start : ℤ) × (one.now ≡ Some start)
+        × (time ≤ℤ start) }
 {
     match one {
         Some(start) => *start < time && time < other,

@@ -1,3 +1,11 @@
+//! A lower bound on the begin of needed partial matches, so that the join never builds one that
+//! begins too early.
+//!
+//! It takes one pass over the stored left operands, from the outermost `FOLLOWEDBY` inwards. A
+//! partial match on the right is needed where its own store retains it, so where it begins now.
+//! Otherwise some left operand precedes it, and it begins no earlier than the first of them ends.
+//! Each step takes the minimum of both over all candidates, so nothing needed begins before it.
+
 ghost use Rattle.std.specs.Prelude.{◌≡◌, ◌≤ℤ◌, ℕ, ℤ, true, false, Some, None, IfSome};
 ghost use Rattle.std.specs.List.{Contains};
 ghost use Rattle.match_bindings.specs.BindTree.{tree_of, has};
@@ -12,20 +20,22 @@ use crate::pending_left::PendingLeft;
 use match_bindings::{Bind, are_disjoint, greatest_number};
 use stix_times::Instant;
 
-/// Earliest start when a new thing must begin to be needed, by what is held on the left sides ahead of it: found at
-/// one look at each, so that what begins too early is never made.
+/// The earliest time at which a needed partial match can begin.
 #[derive(Clone, Copy)]
 pub(crate) struct EarliestStart {
-    /// `None` where a thing may begin at any time.
+    /// `None` where it may begin at any time.
     pub start: Option<Instant>,
-    /// A number that no such thing binds which begins right then, if there is one.
+    /// An observation number that no needed partial match has which begins exactly at `start`: each
+    /// left operand that ends then has it.
     pub taken: Option<u64>,
 }
 
 impl EarliestStart {
-    /// That of all pending lefts, of which the innermost is the last.
+    /// The bound under all enclosing `FOLLOWEDBY`s. The innermost is the last of `pending_lefts`.
     pub fn new(now: Instant, pending_lefts: &[PendingLeft]) -> EarliestStart
-        ensures { (partial_match : PartialMatchTree) → is_needed now (pending_lefts_of pending_lefts.now) partial_match ≡ true → MayBegin result partial_match }
+        ensures { (partial_match : PartialMatchTree)
+            → is_needed now (pending_lefts_of pending_lefts.now) partial_match ≡ true
+            → MayBegin result partial_match }
     {
         let mut earliest_start = EarliestStart {
             start: None,
@@ -37,14 +47,15 @@ impl EarliestStart {
         earliest_start
     }
 
-    /// The same of one pending left more, where what is joined on its left must begin earliest start this: the store on its
-    /// right keeps what begins now or later; else it takes something on its left, which ends no later than
-    /// the thing begins.
+    /// The bound one `FOLLOWEDBY` further in: the earlier of now and the first end of a left
+    /// operand which itself may begin so.
     fn under(&self, now: Instant, pending_left: &PendingLeft) -> EarliestStart
-        ensures held { pending_left.now.window.after_left ≡ true → (left : PartialMatchTree) → Contains (partial_match_trees pending_left.now.left.held.items) left
+        ensures held { pending_left.now.window.after_left ≡ true → (left : PartialMatchTree)
+            → Contains (partial_match_trees pending_left.now.left.held.items) left
             → MayBegin self.now left → MayEnd result left }
         ensures now { pending_left.now.window.after_left ≡ true → covers result.start now ≡ true }
-        ensures free { pending_left.now.window.after_left ≡ true → result.start ≡ Some now → result.taken ≡ None }
+        ensures free { pending_left.now.window.after_left ≡ true → result.start ≡ Some now
+            → result.taken ≡ None }
         ensures any { pending_left.now.window.after_left ≡ false → result.start ≡ None }
     {
         if !pending_left.window.after_left {
@@ -60,13 +71,16 @@ impl EarliestStart {
         }
     }
 
-    /// The first end, up to this time, of what may begin so.
+    /// The first end, up to now, of a left operand that may begin so.
     fn first_end(&self, now: Instant, held: &[PartialMatch]) -> End
         ensures now { result.time ≤ℤ now }
         ensures free { result.time ≡ now → result.number ≡ None }
-        ensures held { (left : PartialMatchTree) → Contains (partial_match_trees held.now) left → MayBegin self.now left → result.time ≤ℤ left.latest }
-        ensures number { (left : PartialMatchTree) → Contains (partial_match_trees held.now) left → MayBegin self.now left
-            → (n : ℕ) → result.number ≡ Some n → result.time ≡ left.latest → has n left.tree ≡ true }
+        ensures held { (left : PartialMatchTree) → Contains (partial_match_trees held.now) left
+            → MayBegin self.now left → result.time ≤ℤ left.latest }
+        ensures number { (left : PartialMatchTree) → Contains (partial_match_trees held.now) left
+            → MayBegin self.now left
+            → (n : ℕ) → result.number ≡ Some n → result.time ≡ left.latest
+            → has n left.tree ≡ true }
     {
         let mut end = End {
             time: now,
@@ -83,7 +97,8 @@ impl EarliestStart {
         end
     }
 
-    /// Whether a thing may begin so.
+    /// Whether a partial match may be needed, by its begin and, at the bound itself, by the
+    /// excluded number.
     pub fn may_begin(&self, partial_match: &PartialMatch) -> bool
         ensures { MayBegin self.now (partial_match_tree partial_match.now) → result ≡ true }
     {
@@ -96,7 +111,8 @@ impl EarliestStart {
         }
     }
 
-    /// Whether it is this time or later. What begins then ends no sooner, so there is nothing to look for.
+    /// Whether the bound is now or later. Nothing that begins then ends sooner, so the left
+    /// operands needn't be searched.
     fn is_now(&self, now: Instant) -> bool
         ensures { result ≡ true → (time : ℤ) → covers self.now.start time ≡ true → now ≤ℤ time }
     {
@@ -106,7 +122,7 @@ impl EarliestStart {
         }
     }
 
-    /// Whether a time isn't before it.
+    /// Whether a time isn't before the bound.
     pub fn covers(&self, time: Instant) -> bool
         ensures { result ≡ covers self.now.start time }
     {
@@ -117,7 +133,8 @@ impl EarliestStart {
     }
 }
 
-/// The first end of some things, and a number that all bind which end then, if there is one.
+/// The minimum of the ends seen so far, and a number that all partial matches with this end have,
+/// if one was found.
 #[derive(Clone, Copy)]
 struct End {
     time: Instant,
@@ -125,12 +142,14 @@ struct End {
 }
 
 impl End {
-    /// That of one thing more.
+    /// Includes one more partial match.
     fn with(&self, partial_match: &PartialMatch) -> End
         ensures before { result.time ≤ℤ self.now.time }
         ensures first { result.time ≤ℤ partial_match.now.latest }
-        ensures kept { (n : ℕ) → result.number ≡ Some n → result.time ≡ self.now.time → self.now.number ≡ Some n }
-        ensures bound { (n : ℕ) → result.number ≡ Some n → result.time ≡ partial_match.now.latest → has n (tree_of partial_match.now.bind) ≡ true }
+        ensures kept { (n : ℕ) → result.number ≡ Some n → result.time ≡ self.now.time
+            → self.now.number ≡ Some n }
+        ensures bound { (n : ℕ) → result.number ≡ Some n → result.time ≡ partial_match.now.latest
+            → has n (tree_of partial_match.now.bind) ≡ true }
     {
         if partial_match.latest < self.time {
             return End {
@@ -150,9 +169,10 @@ impl End {
         }
     }
 
-    /// Its number, where a bind binds it, too.
+    /// Its number, where the binding has it too.
     fn common(&self, bind: &Bind) -> Option<u64>
-        ensures { (n : ℕ) → result ≡ Some n → (self.now.number ≡ Some n) × (has n (tree_of bind.now) ≡ true) }
+        ensures { (n : ℕ) → result ≡ Some n → (self.now.number ≡ Some n)
+            × (has n (tree_of bind.now) ≡ true) }
     {
         match self.number {
             Some(number) if binds(bind, number) => Some(number),
@@ -161,15 +181,15 @@ impl End {
     }
 }
 
-/// Whether a bind binds a number.
+/// Whether a binding has an observation number.
 fn binds(bind: &Bind, number: u64) -> bool
     ensures { result ≡ has number (tree_of bind.now) }
 {
     !are_disjoint(&Bind::One(number), bind)
 }
 
-/// One of the numbers that a bind binds: that of the observation that came last, so that what can't begin when
-/// the bind ends is seen. It is looked up, earliest start nothing says that a bind has any.
+/// One of the numbers of a binding: the greatest, so that what can't begin when the binding ends is
+/// recognized. It is checked, since no contract says that a binding has any number.
 fn a_number(bind: &Bind) -> Option<u64>
     ensures { IfSome result (λ number. has number (tree_of bind.now) ≡ true) }
 {

@@ -3,16 +3,17 @@ ghost use Rattle.std.specs.Prelude.{◌≡◌};
 use stix_times::Instant;
 use thiserror::Error;
 
-/// Why a matcher has ended.
+/// Why a matcher has ended. A matcher that ended answers nothing more.
 #[derive(Clone, Copy, Debug, Error)]
 pub enum Ending {
-    /// More is retained after the row of this number than the retained limit allows.
+    /// After the row of this number the matcher would retain more partial matches, with the
+    /// bindings that end there, than its limit.
     #[error("more than {retained_limit} are live after row {number}")]
     OverLimit { number: u64, retained_limit: u64 },
-    /// A row whose last time is earlier than that of the row before.
+    /// A row ended earlier than the row before it.
     #[error("the row ends earlier than the one before")]
     OutOfOrder { last: Instant, now: Instant },
-    /// There was no memory.
+    /// Out of memory.
     #[error("out of memory")]
     NoMemory,
 }
@@ -29,7 +30,7 @@ pub enum MatchRefusal {
 }
 
 impl Ending {
-    /// An equal one. The borrow checker takes no copy of what is lent for a part of another value.
+    /// A copy. The borrow checker allows no `Copy` out of a borrowed part of another value here.
     pub(crate) fn copied(&self) -> Ending
         ensures { result ≡ self.now }
     {

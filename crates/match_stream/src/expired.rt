@@ -1,4 +1,4 @@
-//! What a node holds once what has expired is taken out.
+//! Removes expired partial matches from the stores of an operator tree.
 
 ghost use Rattle.std.specs.Prelude.{◌≡◌, map, length};
 ghost use Rattle.match_stream.specs.inner.Steps.{kept, all_levels, expired};
@@ -11,9 +11,9 @@ use crate::store::Store;
 use match_pruning::Window;
 use stix_times::Instant;
 
-/// Takes out of all stores of a node what has expired, and leaves the rest of each in any order. Takes
-/// no memory. What is done to the stores of one node stands in functions of their own, so that little of
-/// the stack is taken at each of 1,024 brackets.
+/// Removes what has expired from all stores of a node, and leaves the rest of each store in any
+/// order. Takes no memory. Each kind of node is handled in a function that isn't inlined, so that a
+/// frame of the recursion stays small: a pattern nests up to 1,024 brackets.
 pub(crate) fn clear(node: &mut Node, now: Instant)
     ensures { IsSameUpToOrder (expired now (state_of node.old)) (state_of node.new) }
 {
@@ -36,10 +36,11 @@ pub(crate) fn clear(node: &mut Node, now: Instant)
     }
 }
 
-/// The same of all levels.
+/// Clears the stores of all levels of a `REPEATS`.
 #[inline(never)]
 fn clear_levels(levels: &mut Levels, now: Instant)
-    ensures same { AreSameLevels (map (kept levels.old.window now) (all_levels levels.old.count (store_lists levels.old.stores.items)))
+    ensures same { AreSameLevels (map (kept levels.old.window now)
+        (all_levels levels.old.count (store_lists levels.old.stores.items)))
         (all_levels levels.new.count (store_lists levels.new.stores.items)) }
     ensures count { levels.new.count ≡ levels.old.count }
     ensures window { levels.new.window ≡ levels.old.window }
@@ -48,9 +49,10 @@ fn clear_levels(levels: &mut Levels, now: Instant)
     clear_stores(&mut levels.stores, &window, now);
 }
 
-/// The same of stores.
+/// Clears each of these stores.
 fn clear_stores(stores: &mut Vec<Store>, window: &Window, now: Instant)
-    ensures same { AreSameLevels (map (kept window.now now) (store_lists stores.old.items)) (store_lists stores.new.items) }
+    ensures same { AreSameLevels (map (kept window.now now) (store_lists stores.old.items))
+        (store_lists stores.new.items) }
     ensures length { length stores.new.items ≡ length stores.old.items }
 {
     for store in stores.iter_mut() {

@@ -1,3 +1,10 @@
+//! A greedy completion: a sufficient test for being needed, in time linear in what is stored.
+//!
+//! From the innermost `FOLLOWEDBY` outwards it takes the newest stored left operand that ends
+//! before the completion begins and shares no observation with it. Where this succeeds up to a
+//! store that retains the result, a completion exists, and `true` is a proof. Where it gets stuck,
+//! another choice might have worked, so `false` proves nothing.
+
 ghost use Rattle.std.specs.Prelude.{◌≡◌, ◌≤◌, ℕ, true, false, length, take, drop, IfOk, OnOk};
 ghost use Rattle.std.specs.List.{Contains};
 ghost use Rattle.match_bindings.specs.BindTree.{tree_of, has};
@@ -18,19 +25,21 @@ use match_bindings::Bind;
 use std::alloc::Global;
 use stix_times::Instant;
 
-/// A new thing on the right of `FOLLOWEDBY`s, and one thing of each left side so far, as one.
+/// A new partial match with one stored left operand from each `FOLLOWEDBY` so far. Only its begin
+/// and its numbers are kept.
 #[derive(Drop)]
 pub(crate) struct GreedyCompletion {
     /// When it begins.
     pub earliest: Instant,
-    /// All that it binds.
+    /// The observation numbers that it binds.
     pub numbers: Vec<u64>,
 }
 
 impl GreedyCompletion {
-    /// That of a new thing alone.
+    /// The completion that has the new partial match alone.
     pub fn new(alloc: Global, partial_match: &PartialMatch) -> Result<GreedyCompletion, NoMemory>
-        ensures { IfOk result (λ greedy_completion. IsGreedyCompletion greedy_completion (partial_match_tree partial_match.now)) }
+        ensures { IfOk result (λ greedy_completion. IsGreedyCompletion greedy_completion
+            (partial_match_tree partial_match.now)) }
     {
         Ok(GreedyCompletion {
             earliest: partial_match.earliest,
@@ -38,14 +47,15 @@ impl GreedyCompletion {
         })
     }
 
-    /// Whether it goes on to what is needed above, by what was held last on each left side. The innermost
-    /// pending left is the last.
+    /// Whether the greedy choice reaches a completion. True is a proof that the partial match is
+    /// needed; false proves nothing. The innermost left side is the last of `pending_lefts`.
     pub fn continues(
         &mut self,
         now: Instant,
         pending_lefts: &[PendingLeft],
     ) -> Result<bool, NoMemory>
-        ensures { IfOk result (λ on. on ≡ true → (partial_match : PartialMatchTree) → IsGreedyCompletion self.old partial_match
+        ensures { IfOk result (λ on. on ≡ true → (partial_match : PartialMatchTree)
+            → IsGreedyCompletion self.old partial_match
             → is_needed now (pending_lefts_of pending_lefts.now) partial_match ≡ true) }
     {
         let Some((innermost, above)) = pending_lefts.split_last() else {
@@ -61,10 +71,13 @@ impl GreedyCompletion {
         Ok(on)
     }
 
-    /// Takes the last thing held that ends before it and binds nothing that it binds: whether there is one.
+    /// Adds the newest stored partial match that ends no later than the completion begins and
+    /// shares no number with it. False if there is none.
     fn take_last(&mut self, held: &[PartialMatch]) -> Result<bool, NoMemory>
-        ensures { IfOk result (λ took. took ≡ true → (partial_match : PartialMatchTree) → IsGreedyCompletion self.old partial_match
-            → (left : PartialMatchTree) × Contains (partial_match_trees held.now) left × (may_join join.Then left partial_match ≡ true)
+        ensures { IfOk result (λ took. took ≡ true → (partial_match : PartialMatchTree)
+            → IsGreedyCompletion self.old partial_match
+            → (left : PartialMatchTree) × Contains (partial_match_trees held.now) left
+            × (may_join join.Then left partial_match ≡ true)
             × IsGreedyCompletion self.new (joined join.Then left partial_match)) }
     {
         let mut lefts = held;
@@ -78,13 +91,16 @@ impl GreedyCompletion {
         Ok(false)
     }
 
-    /// Adds what a bind binds, where it binds none of it yet: whether that is so.
+    /// Adds the numbers of a binding, unless one is there already: whether it added them.
     fn add(&mut self, bind: &Bind) -> Result<bool, NoMemory>
         ensures earliest { OnOk result (self.new.earliest ≡ self.old.earliest) }
-        ensures added { IfOk result (λ added. added ≡ true → (n : ℕ) → has n (tree_of bind.now) ≡ true
+        ensures added { IfOk result (λ added. added ≡ true → (n : ℕ)
+            → has n (tree_of bind.now) ≡ true
             → (¬ (Contains self.old.numbers.items n)) × Contains self.new.numbers.items n) }
-        ensures kept { OnOk result ((n : ℕ) → Contains self.old.numbers.items n → Contains self.new.numbers.items n) }
-        ensures same { IfOk result (λ added. added ≡ false → self.new.numbers.items ≡ self.old.numbers.items) }
+        ensures kept { OnOk result ((n : ℕ) → Contains self.old.numbers.items n
+            → Contains self.new.numbers.items n) }
+        ensures same { IfOk result (λ added. added ≡ false
+            → self.new.numbers.items ≡ self.old.numbers.items) }
     {
         let before = self.numbers.len();
         push_numbers(bind, &mut self.numbers)?;
@@ -96,10 +112,11 @@ impl GreedyCompletion {
     }
 }
 
-/// Whether one of the numbers from a place on stands before it, too.
+/// Whether a number from `place` on occurs before it too.
 fn has_again(numbers: &[u64], place: usize) -> bool
     requires { place ≤ length numbers.now }
-    ensures { result ≡ false → (n : ℕ) → Contains (drop place numbers.now) n → ¬ (Contains (take place numbers.now) n) }
+    ensures { result ≡ false → (n : ℕ) → Contains (drop place numbers.now) n
+        → ¬ (Contains (take place numbers.now) n) }
 {
     let (before, after) = numbers.split_at(place);
     share_number(before, after)

@@ -1,4 +1,8 @@
-//! The order in which a store holds things: a heap, so that what expires first stands first.
+//! A 4-ary min-heap by earliest time: the partial match that expires first is at the root.
+//!
+//! The children of index p are 4 p + 1 to 4 p + 4. Four children halve the depth of a binary heap,
+//! and the four lie side by side in memory. `sift_up` and `sift_down` are the textbook operations:
+//! each swap restores the order at one index and may break it at the next, O(log n) in all.
 
 ghost use Rattle.std.specs.Prelude.{◌≡◌, ◌<◌, ◌≤◌, ◌+◌, ◌*◌, int_lt, length, IfSome, IfNone};
 ghost use Rattle.match_stream.specs.declared.partial_match.PartialMatch.{PartialMatch};
@@ -8,10 +12,10 @@ ghost use Rattle.match_stream.specs.inner.Heaps.{IsHeap, IsHeapBelow, IsEarliest
 
 use crate::partial_match::PartialMatch;
 
-/// How many children a thing has.
+/// How many children an index has.
 const WIDTH: usize = 4;
 
-/// Lets the thing at a place ascend among those before it, which are a heap.
+/// Moves the element at `place` up until its parent isn't later. The elements before it are a heap.
 pub(crate) fn sift_up(held: &mut [PartialMatch], place: usize)
     requires inside { place < length held.old }
     requires heap { IsHeap held.old place }
@@ -30,7 +34,7 @@ pub(crate) fn sift_up(held: &mut [PartialMatch], place: usize)
     }
 }
 
-/// Lets the first thing sink among the others, which are a heap but for it.
+/// Moves the root down until no child is earlier. Everything but the root is in heap order.
 pub(crate) fn sift_down(held: &mut [PartialMatch])
     requires { IsHeapBelow held.old (length held.old) }
     ensures heap { IsHeap held.new (length held.new) }
@@ -47,7 +51,7 @@ pub(crate) fn sift_down(held: &mut [PartialMatch])
     }
 }
 
-/// The earliest of the children of the thing at a place.
+/// The index of the earliest child, if there is a child.
 fn earliest_child(held: &[PartialMatch], at: usize) -> Option<usize>
     ensures some { IfSome result (λ child. IsEarliestChild held.now at child (length held.now)) }
     ensures none { IfNone result (length held.now ≤ 4 * at + 1) }
@@ -69,11 +73,12 @@ fn earliest_child(held: &[PartialMatch], at: usize) -> Option<usize>
     Some(earliest)
 }
 
-/// Whether the thing at a place is earlier than that at another.
+/// Whether the element at `place` begins earlier than the one at `other`.
 fn is_earlier(held: &[PartialMatch], place: usize, other: usize) -> bool
     requires place { place < length held.now }
     requires other { other < length held.now }
-    ensures { (d : PartialMatch) → result ≡ int_lt (time_at held.now d place) (time_at held.now d other) }
+    ensures { (d : PartialMatch) → result
+        ≡ int_lt (time_at held.now d place) (time_at held.now d other) }
 {
     held[place].earliest < held[other].earliest
 }

@@ -1,3 +1,8 @@
+//! The join of two lists of partial matches, for each of the three binary operators.
+//!
+//! `Join::join` is a nested-loop join with a `SkipIndex` on the right operand, which skips runs of
+//! candidates that can't join.
+
 ghost use Rattle.std.specs.Prelude.{◌≡◌, ◌≤ℤ◌, true, false, IfOk, OnOk, Err};
 ghost use Rattle.std.specs.Int.{int_min, int_max};
 ghost use Rattle.match_bindings.specs.BindTree.{tree_of, disjoint};
@@ -17,21 +22,22 @@ use match_bindings::{Bind, are_disjoint, with_part, with_sides};
 use std::alloc::Global;
 use stix_times::Instant;
 
-/// How two things are joined.
+/// The operator that joins two partial matches.
 #[derive(Clone, Copy)]
 pub(crate) enum Join {
-    /// As the sides of an `AND`.
+    /// `AND`.
     Both,
-    /// As the sides of a `FOLLOWEDBY`.
+    /// `FOLLOWEDBY`.
     Then,
-    /// As the parts of a `REPEATS` so far, and the next one.
+    /// `REPEATS`: a set of parts and one more part.
     Repeats,
 }
 
 impl Join {
-    /// The bind of two binds.
+    /// The binding of the joined partial match.
     fn bind(self, alloc: Global, first: &Bind, second: &Bind) -> Result<Bind, NoMemory>
-        ensures { IfOk result (λ bind. tree_of bind ≡ joined_tree self (tree_of first.now) (tree_of second.now)) }
+        ensures { IfOk result (λ bind. tree_of bind
+            ≡ joined_tree self (tree_of first.now) (tree_of second.now)) }
     {
         match self {
             Join::Both | Join::Then => with_sides(alloc, first, second),
@@ -39,9 +45,11 @@ impl Join {
         }
     }
 
-    /// Whether two things are joined.
+    /// Whether two partial matches join: they share no observation, and for `FOLLOWEDBY` the first
+    /// ends no later than the second begins.
     pub fn may_join(self, first: &PartialMatch, second: &PartialMatch) -> bool
-        ensures { result ≡ may_join self (partial_match_tree first.now) (partial_match_tree second.now) }
+        ensures { result ≡ may_join self (partial_match_tree first.now)
+            (partial_match_tree second.now) }
     {
         match self {
             Join::Both | Join::Repeats => are_disjoint(&first.bind, &second.bind),
@@ -51,7 +59,7 @@ impl Join {
         }
     }
 
-    /// Two things as one, which share no observation.
+    /// Joins two partial matches that share no observation.
     pub fn joined(
         self,
         alloc: Global,
@@ -59,7 +67,8 @@ impl Join {
         second: &PartialMatch,
     ) -> Result<PartialMatch, NoMemory>
         requires { disjoint (tree_of first.now.bind) (tree_of second.now.bind) ≡ true }
-        ensures { IfOk result (λ held. partial_match_tree held ≡ joined self (partial_match_tree first.now) (partial_match_tree second.now)) }
+        ensures { IfOk result (λ held. partial_match_tree held
+            ≡ joined self (partial_match_tree first.now) (partial_match_tree second.now)) }
     {
         let bind = self.bind(alloc, &first.bind, &second.bind)?;
         Ok(PartialMatch {
@@ -69,9 +78,11 @@ impl Join {
         })
     }
 
-    /// Whether nothing that begins at this time or before is joined with what ends then, whatever they bind.
+    /// Whether a partial match that begins at `begin` or earlier can't join one that ends at `end`,
+    /// whatever observations they have.
     pub fn is_late(self, end: Instant, begin: Instant) -> bool
-        ensures { result ≡ true → (first second : PartialMatchTree) → first.latest ≡ end → second.earliest ≤ℤ begin
+        ensures { result ≡ true → (first second : PartialMatchTree) → first.latest ≡ end
+            → second.earliest ≤ℤ begin
             → may_join self first second ≡ false }
     {
         match self {
@@ -80,9 +91,8 @@ impl Join {
         }
     }
 
-    /// Adds each of the first things joined with each of the second ones that it is joined with, as far as
-    /// what comes of it is needed, up to the thing that there is no budget for. Where there is nothing on a side
-    /// it doesn't look ahead.
+    /// Appends the join of two lists to `out`, filtered by `join_filter`: only what is needed, and
+    /// no more than the budget. `Stop::OverLimit` at the first partial match beyond the budget.
     pub fn join(
         self,
         alloc: Global,
@@ -91,8 +101,12 @@ impl Join {
         join_filter: &JoinFilter<'_>,
         out: &mut Vec<PartialMatch>,
     ) -> Result<(), Stop>
-        ensures joined { OnOk result (AreAdded join_filter.now (joins self (partial_match_trees firsts.now) (partial_match_trees seconds.now)) out.old.items out.new.items) }
-        ensures over_limit { result ≡ Err stop.OverLimit → AreTooMany join_filter.now (joins self (partial_match_trees firsts.now) (partial_match_trees seconds.now)) out.old.items }
+        ensures joined { OnOk result (AreAdded join_filter.now
+            (joins self (partial_match_trees firsts.now) (partial_match_trees seconds.now))
+            out.old.items out.new.items) }
+        ensures over_limit { result ≡ Err stop.OverLimit
+            → AreTooMany join_filter.now (joins self (partial_match_trees firsts.now)
+            (partial_match_trees seconds.now)) out.old.items }
     {
         if seconds.is_empty() {
             return Ok(());

@@ -1,14 +1,14 @@
 use crate::pending_left::PendingLeft;
 use stix_times::Instant;
 
-/// What is asked of new things at a row: that they are needed by what is ahead of them, and that there is
-/// budget for them.
+/// The filter of a join at a row: it keeps the results that are needed, and stops where they exceed
+/// the budget.
 #[derive(Drop)]
 pub(crate) struct JoinFilter<'a> {
     /// When the row ends.
     pub time: Instant,
-    /// The innermost is the last.
+    /// The left operands of the enclosing `FOLLOWEDBY`s. The innermost is the last.
     pub pending_lefts: &'a [PendingLeft],
-    /// For so many, with those that were made before.
+    /// How many results there may be, with those already in the output.
     pub budget: u64,
 }

@@ -1,4 +1,8 @@
-//! The things of two sides, joined one by one.
+//! One join, pair by pair: each left operand with each right operand that the skip index doesn't
+//! exclude.
+//!
+//! It computes the unfiltered nested-loop join and then the filter, in the same order. All that it
+//! leaves out early (by `EarliestStart`, or by the skip index) either doesn't join or isn't needed.
 
 ghost use Rattle.std.proofs.Props.{props};
 ghost use Rattle.std.specs.Prelude.{◌≡◌, ◌∷◌, ◌<◌, ◌≤◌, [], true, length, IfOk, OnOk, Err};
@@ -20,18 +24,18 @@ use crate::skip_index::SkipIndex;
 use crate::stop::Stop;
 use std::alloc::Global;
 
-/// How things are joined, and what is asked of what they are joined to.
+/// A join in progress.
 #[derive(Drop)]
 pub(crate) struct Joining<'a> {
     pub how: Join,
     pub join_filter: &'a JoinFilter<'a>,
-    /// What begins earlier isn't needed.
+    /// Results that begin earlier aren't needed.
     earliest_start: EarliestStart,
     ghost told: { IsEarliestStart earliest_start join_filter.now.time (pending_lefts_of join_filter.now.pending_lefts.now) } by { Prim.hlevel props },
 }
 
 impl<'a> Joining<'a> {
-    /// Looks once at what is ahead.
+    /// Computes the earliest start once, for all pairs.
     pub fn new(how: Join, join_filter: &'a JoinFilter<'a>) -> Joining<'a>
         ensures how { result.how ≡ how }
         ensures join_filter { result.join_filter.now ≡ join_filter.now }
@@ -43,8 +47,7 @@ impl<'a> Joining<'a> {
         }
     }
 
-    /// Adds each of the first things joined with each of the second ones that it is joined with, as far as
-    /// what comes of it is needed, up to the thing that there is no budget for.
+    /// Joins each left operand with the right operands, filtered.
     pub fn rows(
         &self,
         alloc: Global,
@@ -53,9 +56,15 @@ impl<'a> Joining<'a> {
         skip_index: &SkipIndex,
         out: &mut Vec<PartialMatch>,
     ) -> Result<(), Stop>
-        requires candidates { 0 < length skip_index.now.keys.items → IsSkipIndexOf seconds.now skip_index.now }
-        ensures joined { OnOk result (AreAdded self.now.join_filter.now (joins self.now.how (partial_match_trees firsts.now) (partial_match_trees seconds.now)) out.old.items out.new.items) }
-        ensures over_limit { result ≡ Err stop.OverLimit → AreTooMany self.now.join_filter.now (joins self.now.how (partial_match_trees firsts.now) (partial_match_trees seconds.now)) out.old.items }
+        requires candidates { 0 < length skip_index.now.keys.items
+            → IsSkipIndexOf seconds.now skip_index.now }
+        ensures joined { OnOk result (AreAdded self.now.join_filter.now
+            (joins self.now.how (partial_match_trees firsts.now) (partial_match_trees seconds.now))
+            out.old.items out.new.items) }
+        ensures over_limit { result ≡ Err stop.OverLimit
+            → AreTooMany self.now.join_filter.now
+            (joins self.now.how (partial_match_trees firsts.now) (partial_match_trees seconds.now))
+            out.old.items }
     {
         for first in firsts {
             if self.earliest_start.covers(first.earliest) {
@@ -65,7 +74,7 @@ impl<'a> Joining<'a> {
         Ok(())
     }
 
-    /// The same of one first thing.
+    /// Joins one left operand with the right operands, filtered.
     fn row(
         &self,
         alloc: Global,
@@ -74,9 +83,15 @@ impl<'a> Joining<'a> {
         skip_index: &SkipIndex,
         out: &mut Vec<PartialMatch>,
     ) -> Result<(), Stop>
-        requires candidates { 0 < length skip_index.now.keys.items → IsSkipIndexOf seconds.now skip_index.now }
-        ensures joined { OnOk result (AreAdded self.now.join_filter.now (join_row self.now.how (partial_match_tree first.now) (partial_match_trees seconds.now)) out.old.items out.new.items) }
-        ensures over_limit { result ≡ Err stop.OverLimit → AreTooMany self.now.join_filter.now (join_row self.now.how (partial_match_tree first.now) (partial_match_trees seconds.now)) out.old.items }
+        requires candidates { 0 < length skip_index.now.keys.items
+            → IsSkipIndexOf seconds.now skip_index.now }
+        ensures joined { OnOk result (AreAdded self.now.join_filter.now
+            (join_row self.now.how (partial_match_tree first.now)
+            (partial_match_trees seconds.now)) out.old.items out.new.items) }
+        ensures over_limit { result ≡ Err stop.OverLimit
+            → AreTooMany self.now.join_filter.now
+            (join_row self.now.how (partial_match_tree first.now)
+            (partial_match_trees seconds.now)) out.old.items }
     {
         if skip_index.keys.is_empty() {
             return self.each(alloc, first, seconds, out);
@@ -85,7 +100,7 @@ impl<'a> Joining<'a> {
         self.places(alloc, first, seconds, &places, out)
     }
 
-    /// The same, each of the second things tried.
+    /// Joins it with each right operand, in order. For short lists without a skip index.
     fn each(
         &self,
         alloc: Global,
@@ -93,8 +108,13 @@ impl<'a> Joining<'a> {
         seconds: &[PartialMatch],
         out: &mut Vec<PartialMatch>,
     ) -> Result<(), Stop>
-        ensures joined { OnOk result (AreAdded self.now.join_filter.now (join_row self.now.how (partial_match_tree first.now) (partial_match_trees seconds.now)) out.old.items out.new.items) }
-        ensures over_limit { result ≡ Err stop.OverLimit → AreTooMany self.now.join_filter.now (join_row self.now.how (partial_match_tree first.now) (partial_match_trees seconds.now)) out.old.items }
+        ensures joined { OnOk result (AreAdded self.now.join_filter.now
+            (join_row self.now.how (partial_match_tree first.now)
+            (partial_match_trees seconds.now)) out.old.items out.new.items) }
+        ensures over_limit { result ≡ Err stop.OverLimit
+            → AreTooMany self.now.join_filter.now
+            (join_row self.now.how (partial_match_tree first.now)
+            (partial_match_trees seconds.now)) out.old.items }
     {
         for second in seconds {
             self.pair(alloc, first, second, out)?;
@@ -102,7 +122,8 @@ impl<'a> Joining<'a> {
         Ok(())
     }
 
-    /// The same, where it is joined in vain with what stands at no other places than these.
+    /// Joins it with the right operands at these indices only. The others don't join it, or not to
+    /// a needed result.
     fn places(
         &self,
         alloc: Global,
@@ -111,9 +132,15 @@ impl<'a> Joining<'a> {
         places: &[usize],
         out: &mut Vec<PartialMatch>,
     ) -> Result<(), Stop>
-        requires tried { AreTried self.now.earliest_start.start self.now.how (partial_match_tree first.now) seconds.now places.now }
-        ensures joined { OnOk result (AreAdded self.now.join_filter.now (join_row self.now.how (partial_match_tree first.now) (partial_match_trees seconds.now)) out.old.items out.new.items) }
-        ensures over_limit { result ≡ Err stop.OverLimit → AreTooMany self.now.join_filter.now (join_row self.now.how (partial_match_tree first.now) (partial_match_trees seconds.now)) out.old.items }
+        requires tried { AreTried self.now.earliest_start.start self.now.how
+            (partial_match_tree first.now) seconds.now places.now }
+        ensures joined { OnOk result (AreAdded self.now.join_filter.now
+            (join_row self.now.how (partial_match_tree first.now)
+            (partial_match_trees seconds.now)) out.old.items out.new.items) }
+        ensures over_limit { result ≡ Err stop.OverLimit
+            → AreTooMany self.now.join_filter.now
+            (join_row self.now.how (partial_match_tree first.now)
+            (partial_match_trees seconds.now)) out.old.items }
     {
         let mut done = 0;
         for place in places {
@@ -125,7 +152,7 @@ impl<'a> Joining<'a> {
         Ok(())
     }
 
-    /// The same of two things.
+    /// Joins one pair, filtered.
     fn pair(
         &self,
         alloc: Global,
@@ -133,8 +160,13 @@ impl<'a> Joining<'a> {
         second: &PartialMatch,
         out: &mut Vec<PartialMatch>,
     ) -> Result<(), Stop>
-        ensures joined { OnOk result (AreAdded self.now.join_filter.now (join_row self.now.how (partial_match_tree first.now) (partial_match_tree second.now ∷ [])) out.old.items out.new.items) }
-        ensures over_limit { result ≡ Err stop.OverLimit → AreTooMany self.now.join_filter.now (join_row self.now.how (partial_match_tree first.now) (partial_match_tree second.now ∷ [])) out.old.items }
+        ensures joined { OnOk result (AreAdded self.now.join_filter.now
+            (join_row self.now.how (partial_match_tree first.now) (partial_match_tree second.now
+            ∷ [])) out.old.items out.new.items) }
+        ensures over_limit { result ≡ Err stop.OverLimit
+            → AreTooMany self.now.join_filter.now
+            (join_row self.now.how (partial_match_tree first.now) (partial_match_tree second.now
+            ∷ [])) out.old.items }
     {
         if self.earliest_start.covers(second.earliest) && self.how.may_join(first, second) {
             let partial_match = self.how.joined(alloc, first, second)?;
@@ -143,15 +175,18 @@ impl<'a> Joining<'a> {
         Ok(())
     }
 
-    /// Adds a new thing where it is needed, unless there is no budget for it.
+    /// Appends a result where it is needed. `Stop::OverLimit` where the budget is used up.
     fn push(
         &self,
         alloc: Global,
         partial_match: PartialMatch,
         out: &mut Vec<PartialMatch>,
     ) -> Result<(), Stop>
-        ensures pushed { OnOk result (AreAdded self.now.join_filter.now (partial_match_tree partial_match ∷ []) out.old.items out.new.items) }
-        ensures over_limit { result ≡ Err stop.OverLimit → AreTooMany self.now.join_filter.now (partial_match_tree partial_match ∷ []) out.old.items }
+        ensures pushed { OnOk result (AreAdded self.now.join_filter.now
+            (partial_match_tree partial_match ∷ []) out.old.items out.new.items) }
+        ensures over_limit { result ≡ Err stop.OverLimit
+            → AreTooMany self.now.join_filter.now (partial_match_tree partial_match
+            ∷ []) out.old.items }
     {
         match self.takes(alloc, &partial_match, out) {
             Ok(true) => {
@@ -169,16 +204,23 @@ impl<'a> Joining<'a> {
         }
     }
 
-    /// Whether a new thing is needed; it stops where there is no budget for it beside others.
+    /// Whether a result is needed. `Stop::OverLimit` where it is, and the budget is used up by
+    /// `others`.
     fn takes(
         &self,
         alloc: Global,
         partial_match: &PartialMatch,
         others: &[PartialMatch],
     ) -> Result<bool, Stop>
-        ensures taken { IfOk result (λ taken. taken ≡ is_needed self.now.join_filter.now.time (pending_lefts_of self.now.join_filter.now.pending_lefts.now) (partial_match_tree partial_match.now)) }
+        ensures taken { IfOk result (λ taken. taken
+            ≡ is_needed self.now.join_filter.now.time
+            (pending_lefts_of self.now.join_filter.now.pending_lefts.now)
+            (partial_match_tree partial_match.now)) }
         ensures over_limit { result ≡ Err stop.OverLimit
-            → (is_needed self.now.join_filter.now.time (pending_lefts_of self.now.join_filter.now.pending_lefts.now) (partial_match_tree partial_match.now) ≡ true) × (self.now.join_filter.now.budget ≤ length others.now) }
+            → (is_needed self.now.join_filter.now.time
+            (pending_lefts_of self.now.join_filter.now.pending_lefts.now)
+            (partial_match_tree partial_match.now) ≡ true)
+            × (self.now.join_filter.now.budget ≤ length others.now) }
     {
         if !self.earliest_start.may_begin(partial_match) {
             return Ok(false);

@@ -8,22 +8,23 @@ use flow_values::NoMemory;
 use std::alloc::Global;
 use stix_times::Instant;
 
-/// What a thing of a side is looked at by.
+/// The sort key of a right operand in a `SkipIndex`.
 #[derive(Drop)]
 pub(crate) struct Key {
-    /// What it binds, ascending.
+    /// The observation numbers that it binds, ascending.
     pub numbers: Vec<u64>,
     /// When it begins.
     pub begin: Instant,
-    /// Where it stands among the things of the side.
+    /// Its index in the list of operands.
     pub place: usize,
 }
 
 impl Key {
-    /// That of the thing at a place.
+    /// The key of the partial match at this index.
     pub fn new(alloc: Global, partial_match: &PartialMatch, place: usize) -> Result<Key, NoMemory>
         ensures place { IfOk result (λ key. key.place ≡ place) }
-        ensures candidate { IfOk result (λ key. HasCommon key.numbers.items key.begin (partial_match_tree partial_match.now)) }
+        ensures candidate { IfOk result
+            (λ key. HasCommon key.numbers.items key.begin (partial_match_tree partial_match.now)) }
     {
         let mut numbers = numbers_of(alloc, &partial_match.bind)?;
         numbers.sort_unstable();

@@ -1,4 +1,8 @@
-//! Leaves in a chain of `OR`s, which take a row at once.
+//! Brackets in a left-nested chain of `OR`s, collapsed into one node.
+//!
+//! All of them match the row alone, at one time and with one set of observations, so a single test
+//! decides whether their partial matches are needed. That makes a wide `OR` cost one look per
+//! bracket instead of a node per bracket.
 
 ghost use Rattle.std.specs.Prelude.{◌≡◌, ◌+◌, ◌<◌, ◌≤ℤ◌, ◌≤◌, ◌^◌, ◌++◌, ◌∷◌, [], ℕ, true, false, IsTrue, IfOk, IfSome, OnOk, nat_eq};
 ghost use Rattle.std.specs.List.{IsDistinct};
@@ -20,14 +24,15 @@ use match_bindings::Bind;
 use match_pruning::Window;
 use std::alloc::Global;
 
-/// A leaf of a pattern and those that follow it, each on the right of an `OR` of all before it.
+/// A leaf (bracket) of a pattern and the leaves after it, each on the right of an `OR` of all
+/// before it.
 #[derive(Clone, Copy)]
 pub(crate) struct Leaves {
-    /// The number of the first.
+    /// The number of the first leaf.
     pub first: u32,
-    /// How many follow it.
+    /// How many leaves come after it.
     pub more: u32,
-    /// When what matches one of them retains.
+    /// How long a match of one of them is retained.
     pub window: Window,
     ghost few: { first + more < 2 ^ 32 },
 }
@@ -35,7 +40,7 @@ pub(crate) struct Leaves {
 impl Leaves {
     ghost use Rattle.match_stream.specs.inner.Nodes.{leaves_of};
 
-    /// A leaf alone.
+    /// A single leaf.
     pub fn one(leaf: u32, window: Window) -> Leaves
         ensures { leaves_of result ≡ a_leaf leaf window }
     {
@@ -46,9 +51,10 @@ impl Leaves {
         }
     }
 
-    /// These with one more, where it follows them and retains when they do.
+    /// Extends the chain by the next leaf, where its number follows and it has the same window.
     pub fn with(&self, next: &Leaves) -> Option<Leaves>
-        ensures { IfSome result (λ longer. leaves_of longer ≡ a_choice (leaves_of self.now) (leaves_of next.now)) }
+        ensures { IfSome result (λ longer. leaves_of longer
+            ≡ a_choice (leaves_of self.now) (leaves_of next.now)) }
     {
         let last = self.first + self.more;
         if next.more == 0
@@ -65,7 +71,7 @@ impl Leaves {
         None
     }
 
-    /// Whether one of them holds.
+    /// Whether some leaf holds at the row.
     pub fn any_holds(&self, truths: &[bool]) -> bool
         ensures { result ≡ false → IsNonmatching truths.now (leaves_of self.now) }
     {
@@ -80,7 +86,7 @@ impl Leaves {
         false
     }
 
-    /// One row: what is new at one of them, and needed.
+    /// One row: the needed partial matches that end there, one for each leaf that holds.
     #[inline(never)]
     pub fn needed(
         &self,
@@ -90,7 +96,9 @@ impl Leaves {
         pending_lefts: &[PendingLeft],
     ) -> Result<Vec<PartialMatch>, NoMemory>
         requires span { row.now.first ≤ℤ row.now.last }
-        ensures { IfOk result (λ new. partial_match_trees new.items ≡ needed row.now.last (pending_lefts_of pending_lefts.now) (step_new row.now truths.now (leaves_of self.now))) }
+        ensures { IfOk result (λ new. partial_match_trees new.items
+            ≡ needed row.now.last (pending_lefts_of pending_lefts.now)
+            (step_new row.now truths.now (leaves_of self.now))) }
     {
         if self.any_is_needed(alloc, row, truths, pending_lefts)? {
             let new = self.all_new(alloc, row, truths)?;
@@ -99,7 +107,7 @@ impl Leaves {
         Ok(Vec::new(alloc))
     }
 
-    /// Whether what is new at one of them is needed: all of it, or none, earliest start it is the row alone.
+    /// Whether those partial matches are needed: all of them or none, since each is the row alone.
     fn any_is_needed(
         &self,
         alloc: Global,
@@ -109,10 +117,14 @@ impl Leaves {
     ) -> Result<bool, NoMemory>
         requires span { row.now.first ≤ℤ row.now.last }
         ensures all { IfOk result (λ is. is ≡ true
-            → needed row.now.last (pending_lefts_of pending_lefts.now) (step_new row.now truths.now (leaves_of self.now)) ≡ step_new row.now truths.now (leaves_of self.now)) }
+            → needed row.now.last (pending_lefts_of pending_lefts.now)
+            (step_new row.now truths.now (leaves_of self.now))
+            ≡ step_new row.now truths.now (leaves_of self.now)) }
         ensures none { IfOk result (λ is. is ≡ false
-            → needed row.now.last (pending_lefts_of pending_lefts.now) (step_new row.now truths.now (leaves_of self.now)) ≡ []) }
-        ensures retained { IfOk result (λ is. is ≡ true → retains self.now.window row.now.first row.now.last ≡ true) }
+            → needed row.now.last (pending_lefts_of pending_lefts.now)
+            (step_new row.now truths.now (leaves_of self.now)) ≡ []) }
+        ensures retained { IfOk result (λ is. is ≡ true
+            → retains self.now.window row.now.first row.now.last ≡ true) }
     {
         if !self.any_holds(truths) || !is_retained(&self.window, row.first, row.last) {
             return Ok(false);
@@ -121,7 +133,7 @@ impl Leaves {
         Ok(is)
     }
 
-    /// What is new at one of them.
+    /// The partial matches that end at the row, whether or not they are needed.
     #[tactic(auto, using(crate::proofs::PicksLemmas::once_one))]
     fn all_new(
         &self,
@@ -131,7 +143,8 @@ impl Leaves {
     ) -> Result<Vec<PartialMatch>, NoMemory>
         requires span { row.now.first ≤ℤ row.now.last }
         requires retained { retains self.now.window row.now.first row.now.last ≡ true }
-        ensures { IfOk result (λ new. partial_match_trees new.items ≡ step_new row.now truths.now (leaves_of self.now)) }
+        ensures { IfOk result (λ new. partial_match_trees new.items
+            ≡ step_new row.now truths.now (leaves_of self.now)) }
     {
         let mut new = Vec::new(alloc);
         if holds(truths, self.first) {
@@ -153,7 +166,7 @@ fn holds(truths: &[bool], leaf: u32) -> bool
     truths.get(leaf as usize).copied().unwrap_or(false)
 }
 
-/// A row alone.
+/// The partial match that binds the row alone.
 #[tactic(auto, using(crate::proofs::PicksLemmas::once_one))]
 fn singleton(row: &Row) -> PartialMatch
     requires span { row.now.first ≤ℤ row.now.last }
@@ -162,14 +175,15 @@ fn singleton(row: &Row) -> PartialMatch
     partial_match(Bind::One(row.number), row)
 }
 
-/// Whether a row alone is needed.
+/// Whether it is needed.
 fn alone_is_needed(
     alloc: Global,
     row: &Row,
     pending_lefts: &[PendingLeft],
 ) -> Result<bool, NoMemory>
     requires span { row.now.first ≤ℤ row.now.last }
-    ensures { IfOk result (λ is. is ≡ is_needed row.now.last (pending_lefts_of pending_lefts.now) (row_alone row.now)) }
+    ensures { IfOk result (λ is. is ≡ is_needed row.now.last (pending_lefts_of pending_lefts.now)
+        (row_alone row.now)) }
 {
     let partial_match = singleton(row);
     let is = is_needed(alloc, &partial_match, row.last, pending_lefts);
@@ -177,11 +191,12 @@ fn alone_is_needed(
     is
 }
 
-/// A bind of a row alone.
+/// A partial match of one row, with this binding.
 fn partial_match(bind: Bind, row: &Row) -> PartialMatch
     requires span { row.now.first ≤ℤ row.now.last }
     requires once { IsDistinct nat_eq (numbers (tree_of bind)) }
-    ensures { partial_match_tree result ≡ record { tree = tree_of bind; earliest = row.now.first; latest = row.now.last } }
+    ensures { partial_match_tree result
+        ≡ record { tree = tree_of bind; earliest = row.now.first; latest = row.now.last } }
 {
     PartialMatch {
         bind,
@@ -190,7 +205,7 @@ fn partial_match(bind: Bind, row: &Row) -> PartialMatch
     }
 }
 
-/// Adds a row alone, under a `Second` and so many `First`s.
+/// Appends the row alone, under one `Second` and `above` `First`s.
 #[tactic(auto, using(crate::proofs::PicksLemmas::once_second, crate::proofs::PicksLemmas::once_one))]
 fn push_second(
     alloc: Global,
@@ -199,13 +214,14 @@ fn push_second(
     new: &mut Vec<PartialMatch>,
 ) -> Result<(), NoMemory>
     requires span { row.now.first ≤ℤ row.now.last }
-    ensures { OnOk result (partial_match_trees new.new.items ≡ partial_match_trees new.old.items ++ held_with (firsts above) (held_with Second (row_alone row.now)) ∷ []) }
+    ensures { OnOk result (partial_match_trees new.new.items ≡ partial_match_trees new.old.items
+        ++ held_with (firsts above) (held_with Second (row_alone row.now)) ∷ []) }
 {
     let second = Bind::under_second(alloc, Bind::One(row.number))?;
     push_under(alloc, above, second, row, new)
 }
 
-/// Adds a bind of a row alone, under so many `First`s.
+/// Appends a binding of the row alone, under `above` `First`s.
 #[tactic(auto, using(crate::proofs::PicksLemmas::once_firsts))]
 fn push_under(
     alloc: Global,
@@ -217,7 +233,8 @@ fn push_under(
     requires span { row.now.first ≤ℤ row.now.last }
     requires once { IsDistinct nat_eq (numbers (tree_of bind)) }
     ensures { OnOk result (partial_match_trees new.new.items ≡ partial_match_trees new.old.items
-        ++ held_with (firsts above) (record { tree = tree_of bind; earliest = row.now.first; latest = row.now.last }) ∷ []) }
+        ++ held_with (firsts above) (record
+        { tree = tree_of bind; earliest = row.now.first; latest = row.now.last }) ∷ []) }
 {
     let longer = Bind::under_firsts(alloc, above, bind)?;
     new.push(partial_match(longer, row))?;

@@ -1,4 +1,9 @@
-//! One row at the levels of a `REPEATS`.
+//! One row at a `REPEATS n`: an incremental self-join.
+//!
+//! Level j holds the sets of j parts that can still grow, for j from 1 to n - 1. At a row each set
+//! of level j joins each new part to a set of j + 1 parts, which is new one level up. Two new parts
+//! both contain this row, so they never stand in one set: joining old sets with new parts alone
+//! misses nothing.
 
 ghost use Rattle.std.specs.Prelude.{◌≡◌, ◌∷◌, ◌++◌, ◌+◌, ◌-◌, ◌<◌, ◌≤◌, [], map, length, IfOk, OnOk, Err, IfSome, IfNone};
 ghost use Rattle.match_bindings.specs.BindTree.{Single};
@@ -28,7 +33,8 @@ use std::mem;
 use stix_times::Instant;
 
 impl Levels {
-    /// One row, given what is new at what is repeated: what is new at the last level, and needed.
+    /// One row: given the new parts, the needed new sets of n parts. Stores the new smaller sets at
+    /// their levels.
     pub fn step(
         &mut self,
         alloc: Global,
@@ -37,24 +43,32 @@ impl Levels {
         pending_lefts: &[PendingLeft],
         budget: &mut Budget,
     ) -> Result<Vec<PartialMatch>, Stop>
-        ensures new { IfOk result (λ sets. partial_match_trees sets.items ≡ chosen self.old.count now (pending_lefts_of pending_lefts.now)
-            (levels_new self.old.window now (map (held_with Single) (partial_match_trees new.now)) (partial_match_trees new.now)
+        ensures new { IfOk result (λ sets. partial_match_trees sets.items
+            ≡ chosen self.old.count now (pending_lefts_of pending_lefts.now)
+            (levels_new self.old.window now (map (held_with Single) (partial_match_trees new.now))
+            (partial_match_trees new.now)
             (all_levels self.old.count (store_lists self.old.stores.items)))) }
         ensures kept { OnOk result (all_levels self.new.count (store_lists self.new.stores.items)
-            ≡ levels_after self.old.window now (map (held_with Single) (partial_match_trees new.now)) (partial_match_trees new.now)
+            ≡ levels_after self.old.window now
+            (map (held_with Single) (partial_match_trees new.now)) (partial_match_trees new.now)
             (all_levels self.old.count (store_lists self.old.stores.items))) }
         ensures count { OnOk result (self.new.count ≡ self.old.count) }
         ensures window { OnOk result (self.new.window ≡ self.old.window) }
         ensures counted { OnOk result (budget.new.left
-            + held_count (levels_after self.old.window now (map (held_with Single) (partial_match_trees new.now)) (partial_match_trees new.now)
+            + held_count (levels_after self.old.window now
+            (map (held_with Single) (partial_match_trees new.now)) (partial_match_trees new.now)
             (all_levels self.old.count (store_lists self.old.stores.items))) ≡ budget.old.left) }
         ensures over_limit { result ≡ Err stop.OverLimit
-            → AdmitLevels self.old.window now (map (held_with Single) (partial_match_trees new.now)) (partial_match_trees new.now)
+            → AdmitLevels self.old.window now
+            (map (held_with Single) (partial_match_trees new.now)) (partial_match_trees new.now)
             (all_levels self.old.count (store_lists self.old.stores.items))
-            → budget.old.left < held_count (levels_after self.old.window now (map (held_with Single) (partial_match_trees new.now)) (partial_match_trees new.now)
+            → budget.old.left < held_count
+            (levels_after self.old.window now
+            (map (held_with Single) (partial_match_trees new.now)) (partial_match_trees new.now)
             (all_levels self.old.count (store_lists self.old.stores.items)))
             + length (chosen self.old.count now (pending_lefts_of pending_lefts.now)
-            (levels_new self.old.window now (map (held_with Single) (partial_match_trees new.now)) (partial_match_trees new.now)
+            (levels_new self.old.window now (map (held_with Single) (partial_match_trees new.now))
+            (partial_match_trees new.now)
             (all_levels self.old.count (store_lists self.old.stores.items)))) }
     {
         let first = singles(alloc, new)?;
@@ -74,7 +88,7 @@ impl Levels {
         }
     }
 
-    /// The last level, given what is new there and at what is repeated: what is new and needed above it.
+    /// One row at the last level: stores its new sets, and answers the needed sets of n parts.
     fn step_last(
         &mut self,
         alloc: Global,
@@ -87,14 +101,24 @@ impl Levels {
     ) -> Result<Vec<PartialMatch>, Stop>
         requires { length self.old.stores.items + 1 ≤ self.old.count - 1 }
         ensures new { IfOk result (λ answer. partial_match_trees answer.items
-            ≡ needed now (pending_lefts_of pending_lefts.now) (joins join.Repeats (kept self.old.window now (store_list level)) (partial_match_trees new.now))) }
+            ≡ needed now (pending_lefts_of pending_lefts.now)
+            (joins join.Repeats (kept self.old.window now (store_list level))
+            (partial_match_trees new.now))) }
         ensures kept { OnOk result (store_lists self.new.stores.items
-            ≡ store_lists self.old.stores.items ++ stored self.old.window now (store_list level) (partial_match_trees sets.items) ∷ []) }
+            ≡ store_lists self.old.stores.items
+            ++ stored self.old.window now (store_list level) (partial_match_trees sets.items)
+            ∷ []) }
         ensures count { OnOk result (self.new.count ≡ self.old.count) }
         ensures window { OnOk result (self.new.window ≡ self.old.window) }
-        ensures counted { OnOk result (budget.new.left + length (stored self.old.window now (store_list level) (partial_match_trees sets.items)) ≡ budget.old.left) }
-        ensures over_limit { result ≡ Err stop.OverLimit → budget.old.left < length (stored self.old.window now (store_list level) (partial_match_trees sets.items))
-            + length (needed now (pending_lefts_of pending_lefts.now) (joins join.Repeats (kept self.old.window now (store_list level)) (partial_match_trees new.now))) }
+        ensures counted { OnOk result (budget.new.left
+            + length (stored self.old.window now (store_list level)
+            (partial_match_trees sets.items)) ≡ budget.old.left) }
+        ensures over_limit { result ≡ Err stop.OverLimit
+            → budget.old.left < length (stored self.old.window now (store_list level)
+            (partial_match_trees sets.items))
+            + length (needed now (pending_lefts_of pending_lefts.now)
+            (joins join.Repeats (kept self.old.window now (store_list level))
+            (partial_match_trees new.now))) }
     {
         let mut store = level;
         let answer = step_level(
@@ -111,8 +135,8 @@ impl Levels {
         Ok(answer)
     }
 
-    /// What is new above the levels that are made: it is the answer where there is no level above, and is
-    /// held in the next one else.
+    /// Passes new sets to the level above those that exist: they are the answer at the top, and
+    /// start the next level elsewhere.
     fn raise(
         &mut self,
         alloc: Global,
@@ -121,16 +145,23 @@ impl Levels {
         budget: &mut Budget,
     ) -> Result<Vec<PartialMatch>, Stop>
         ensures new { IfOk result (λ answer. partial_match_trees answer.items
-            ≡ counted self.old.count (risen (levels_above self.old.count (store_lists self.old.stores.items)) (partial_match_trees sets.items))) }
+            ≡ counted self.old.count (risen
+            (levels_above self.old.count (store_lists self.old.stores.items))
+            (partial_match_trees sets.items))) }
         ensures kept { OnOk result (all_levels self.new.count (store_lists self.new.stores.items)
             ≡ store_lists self.old.stores.items
-            ++ raised self.old.window now (levels_above self.old.count (store_lists self.old.stores.items)) (partial_match_trees sets.items)) }
+            ++ raised self.old.window now (levels_above self.old.count
+            (store_lists self.old.stores.items)) (partial_match_trees sets.items)) }
         ensures count { OnOk result (self.new.count ≡ self.old.count) }
         ensures window { OnOk result (self.new.window ≡ self.old.window) }
         ensures counted { OnOk result (budget.new.left
-            + held_count (raised self.old.window now (levels_above self.old.count (store_lists self.old.stores.items)) (partial_match_trees sets.items)) ≡ budget.old.left) }
+            + held_count (raised self.old.window now
+            (levels_above self.old.count (store_lists self.old.stores.items))
+            (partial_match_trees sets.items)) ≡ budget.old.left) }
         ensures over_limit { result ≡ Err stop.OverLimit → budget.old.left
-            < held_count (raised self.old.window now (levels_above self.old.count (store_lists self.old.stores.items)) (partial_match_trees sets.items)) }
+            < held_count (raised self.old.window now
+            (levels_above self.old.count (store_lists self.old.stores.items))
+            (partial_match_trees sets.items)) }
     {
         if self.count == 0 {
             return Ok(Vec::new(alloc));
@@ -149,11 +180,13 @@ impl Levels {
     }
 }
 
-/// The last level, taken out, where all are made.
+/// Takes out the last level, where all levels exist.
 fn last_made(stores: &mut Vec<Store>, count: u32) -> Option<Store>
     requires { length stores.old.items ≤ count - 1 }
-    ensures last { IfSome result (λ last. (stores.old.items ≡ stores.new.items ++ last ∷ []) × (length stores.new.items + 2 ≡ count)) }
-    ensures none { IfNone result ((stores.new.items ≡ stores.old.items) × (2 ≤ count → length stores.old.items + 1 < count)) }
+    ensures last { IfSome result (λ last. (stores.old.items ≡ stores.new.items ++ last ∷ [])
+        × (length stores.new.items + 2 ≡ count)) }
+    ensures none { IfNone result ((stores.new.items ≡ stores.old.items)
+        × (2 ≤ count → length stores.old.items + 1 < count)) }
 {
     if count >= 2 && stores.len() >= (count - 1) as usize {
         stores.pop()
@@ -162,7 +195,7 @@ fn last_made(stores: &mut Vec<Store>, count: u32) -> Option<Store>
     }
 }
 
-/// One row at the levels that are made: these levels after it, and what is new above them.
+/// One row at the levels that exist: their stores after it, and the new sets above them.
 fn step_made(
     alloc: Global,
     stores: Vec<Store>,
@@ -173,15 +206,22 @@ fn step_made(
     budget: &mut Budget,
 ) -> Result<(Vec<Store>, Vec<PartialMatch>), Stop>
     ensures kept { IfOk result (λ after. store_lists after.0.items
-        ≡ levels_after window.now now (partial_match_trees first.items) (partial_match_trees new.now) (store_lists stores.items)) }
+        ≡ levels_after window.now now (partial_match_trees first.items)
+        (partial_match_trees new.now) (store_lists stores.items)) }
     ensures new { IfOk result (λ after. partial_match_trees after.1.items
-        ≡ levels_new window.now now (partial_match_trees first.items) (partial_match_trees new.now) (store_lists stores.items)) }
+        ≡ levels_new window.now now (partial_match_trees first.items) (partial_match_trees new.now)
+        (store_lists stores.items)) }
     ensures counted { OnOk result (budget.new.left
-        + held_count (levels_after window.now now (partial_match_trees first.items) (partial_match_trees new.now) (store_lists stores.items)) ≡ budget.old.left) }
+        + held_count (levels_after window.now now (partial_match_trees first.items)
+        (partial_match_trees new.now) (store_lists stores.items)) ≡ budget.old.left) }
     ensures over_limit { result ≡ Err stop.OverLimit
-        → AdmitLevels window.now now (partial_match_trees first.items) (partial_match_trees new.now) (store_lists stores.items)
-        → budget.old.left < held_count (levels_after window.now now (partial_match_trees first.items) (partial_match_trees new.now) (store_lists stores.items))
-        + length (levels_new window.now now (partial_match_trees first.items) (partial_match_trees new.now) (store_lists stores.items)) }
+        → AdmitLevels window.now now (partial_match_trees first.items)
+        (partial_match_trees new.now) (store_lists stores.items)
+        → budget.old.left < held_count
+        (levels_after window.now now (partial_match_trees first.items)
+        (partial_match_trees new.now) (store_lists stores.items))
+        + length (levels_new window.now now (partial_match_trees first.items)
+        (partial_match_trees new.now) (store_lists stores.items)) }
     ensures some { result ≡ Err stop.OverLimit → 0 < length stores.items }
 {
     let mut made = Vec::new(alloc);
@@ -195,8 +235,7 @@ fn step_made(
     Ok((made, sets))
 }
 
-/// One row at one level, given what is new there and at what is repeated: what is new at the level above,
-/// and needed.
+/// One row at one level: stores its new sets, and answers the needed new sets one level up.
 fn step_level(
     alloc: Global,
     level: &mut Store,
@@ -208,11 +247,20 @@ fn step_level(
     budget: &mut Budget,
 ) -> Result<Vec<PartialMatch>, Stop>
     ensures new { IfOk result (λ above. partial_match_trees above.items
-        ≡ needed now (pending_lefts_of pending_lefts.now) (joins join.Repeats (kept window.now now (store_list level.old)) (partial_match_trees new.now))) }
-    ensures kept { OnOk result (store_list level.new ≡ stored window.now now (store_list level.old) (partial_match_trees sets.items)) }
-    ensures counted { OnOk result (budget.new.left + length (stored window.now now (store_list level.old) (partial_match_trees sets.items)) ≡ budget.old.left) }
-    ensures over_limit { result ≡ Err stop.OverLimit → budget.old.left < length (stored window.now now (store_list level.old) (partial_match_trees sets.items))
-        + length (needed now (pending_lefts_of pending_lefts.now) (joins join.Repeats (kept window.now now (store_list level.old)) (partial_match_trees new.now))) }
+        ≡ needed now (pending_lefts_of pending_lefts.now)
+        (joins join.Repeats (kept window.now now (store_list level.old))
+        (partial_match_trees new.now))) }
+    ensures kept { OnOk result (store_list level.new
+        ≡ stored window.now now (store_list level.old) (partial_match_trees sets.items)) }
+    ensures counted { OnOk result (budget.new.left
+        + length (stored window.now now (store_list level.old) (partial_match_trees sets.items))
+        ≡ budget.old.left) }
+    ensures over_limit { result ≡ Err stop.OverLimit
+        → budget.old.left < length (stored window.now now (store_list level.old)
+        (partial_match_trees sets.items))
+        + length (needed now (pending_lefts_of pending_lefts.now)
+        (joins join.Repeats (kept window.now now (store_list level.old))
+        (partial_match_trees new.now))) }
 {
     level.expire(window, now);
     budget.take(level.held.len())?;
@@ -228,9 +276,10 @@ fn step_level(
     Ok(above)
 }
 
-/// Each thing alone in a set.
+/// Each part as a set of one.
 fn singles(alloc: Global, new: &[PartialMatch]) -> Result<Vec<PartialMatch>, NoMemory>
-    ensures { IfOk result (λ sets. partial_match_trees sets.items ≡ map (held_with Single) (partial_match_trees new.now)) }
+    ensures { IfOk result (λ sets. partial_match_trees sets.items
+        ≡ map (held_with Single) (partial_match_trees new.now)) }
 {
     let mut sets = Vec::new(alloc);
     for part in new {
@@ -240,9 +289,10 @@ fn singles(alloc: Global, new: &[PartialMatch]) -> Result<Vec<PartialMatch>, NoM
     Ok(sets)
 }
 
-/// A thing alone in a set.
+/// A part as a set of one.
 fn single(alloc: Global, part: &PartialMatch) -> Result<PartialMatch, NoMemory>
-    ensures { IfOk result (λ set. partial_match_tree set ≡ held_with Single (partial_match_tree part.now)) }
+    ensures { IfOk result (λ set. partial_match_tree set
+        ≡ held_with Single (partial_match_tree part.now)) }
 {
     let bind = singleton(alloc, &part.bind)?;
     Ok(PartialMatch {

@@ -4,8 +4,8 @@ use crate::store::Store;
 use match_pruning::Window;
 use std::alloc::Global;
 
-/// The stores of the levels of a `REPEATS`. One is made once there is something to hold in it, so those
-/// above them hold nothing.
+/// The stores of a `REPEATS n`: index j - 1 holds sets of j parts. A store is created with its
+/// first set, so levels beyond the list are empty.
 #[derive(Drop)]
 pub(crate) struct Levels {
     pub window: Window,
@@ -15,7 +15,7 @@ pub(crate) struct Levels {
 }
 
 impl Levels {
-    /// The levels of so many repeats, which hold nothing. Takes no memory.
+    /// The levels of a `REPEATS count`, all empty. Takes no memory.
     pub fn new(alloc: Global, count: u32, window: Window) -> Levels
         ensures stores { result.stores.items ≡ [] }
         ensures count { result.count ≡ count }

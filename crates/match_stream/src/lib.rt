@@ -1,11 +1,26 @@
-//! The streaming matcher: it takes the observations of a log one by one, and answers to each the
-//! bindings that end there.
+//! A streaming matcher for STIX patterns (STIX 2.1, section 9): it takes the observations of a log
+//! one by one, and answers to each the bindings that end there.
 //!
-//! A `Matcher` holds the retained part of its pattern alone: what can still become part of a binding by
-//! the windows and the order of the pattern. `Matcher::take` says what it holds after a row, and that
-//! its answer is every binding that ends at the row, each once; while it works, no more is built than
-//! the retained limit allows. `Matcher::pass` takes rows at which nothing holds, any number at once. The laws say
-//! that the answers of the rows of a log, one after another, are the listing of `match_bindings`.
+//! It evaluates the pattern as a streaming join over partial matches, as the engines of complex
+//! event processing (CEP) do. Each operator is a node with stores of partial matches. A row that a
+//! bracket matches enters at its leaf, and each node joins what is new with what it stored before.
+//! A store drops what has expired by the qualifiers `WITHIN`, `START` and `STOP`, and what no later
+//! row can complete. The contracts say that a `Matcher` retains exactly what can still become part
+//! of a binding, and answers every binding, each once. Memory stays within `retained_limit` partial
+//! matches.
+//!
+//! Three proved shortcuts keep dense logs affordable. `skip_index` is a skip index over sorted
+//! keys. `needed` tries a greedy completion and an admissible bound before its exhaustive search.
+//! `heap` is a 4-ary heap by expiry. `laws` states that the answers to the rows of a log,
+//! concatenated, are the listing of `match_bindings`.
+//!
+//! ```text
+//! let mut matcher = Matcher::new(alloc, &pattern, 100_000)?;
+//! for row in rows {
+//!     let bindings = matcher.take(row.first, row.last, row.truths)?; // those that end here
+//! }
+//! let kept = matcher.kept()?; // numbers of the rows that later bindings may still use
+//! ```
 #![tactic(auto)]
 
 mod block;

@@ -23,8 +23,8 @@ use std::alloc::Global;
 use std::marker::Model;
 use stix_times::Instant;
 
-/// A matcher of a pattern, which it borrows. Contracts see its pattern, its retained limit, how it ended, how many rows it took,
-/// the last time of the last of them, and what its stores hold.
+/// A streaming matcher of one pattern, which it borrows. Contracts observe its pattern, its limit,
+/// how it ended, how many rows it took, the end of the last row, and the contents of its stores.
 #[derive(Drop)]
 pub struct Matcher<'p> {
     pattern: &'p Pattern,
@@ -50,8 +50,8 @@ impl<'p> Model for Matcher<'p> {
 }
 
 impl<'p> Matcher<'p> {
-    /// A matcher of a pattern that took no row yet. More than `retained_limit` may never be retained: so much, held or
-    /// ending at the last row, is kept in memory at once.
+    /// A matcher that took no row yet. `retained_limit` bounds how many partial matches it holds at
+    /// once, with the bindings that end at the last row.
     pub fn new(
         alloc: Global,
         pattern: &'p Pattern,
@@ -79,8 +79,12 @@ impl<'p> Matcher<'p> {
         })
     }
 
-    /// Takes the next row of a log: its first and last time, and for each leaf of the pattern whether it
-    /// holds. The answer is every binding that ends at the row, each once, by flat list.
+    /// Takes the next row of a log: its first and last time, and for each leaf of the pattern
+    /// whether it holds. Answers every binding that ends at the row, each once, in the order of
+    /// flat lists.
+    ///
+    /// Errors: `Stopped` where this row ends the matcher (over the limit, earlier than the row
+    /// before, or out of memory), `Ended` where it had ended before.
     pub fn take(
         &mut self,
         first: Instant,
@@ -90,15 +94,23 @@ impl<'p> Matcher<'p> {
         requires span { first ≤ℤ last }
         requires budget { self.old.ended ≡ None → self.old.rows + 1 < 2 ^ 64 }
         ensures answers { (log : List LogEntry) → Represents self.old log → IsInOrder log
-            → IfOk result (λ binds. AnswersRow self.old self.new (with_row log first last truths.now) (map tree_of binds)) }
-        ensures over_limit { (log : List LogEntry) → Represents self.old log → IsInOrder log → (number retained_limit : ℕ)
-            → result ≡ Err (refusal.Stopped (ending.OverLimit number retained_limit)) → IsOverLimitAtRow self.old (with_row log first last truths.now) number retained_limit }
-        ensures out_of_order { (before now : ℤ) → (result ≡ Err (refusal.Stopped (ending.OutOfOrder before now)))
-            ↔ ((self.old.ended ≡ None) × (self.old.last ≡ Some before) × (now ≡ last) × (now <ℤ before)) }
-        ensures stopped { (ending : Ending) → result ≡ Err (refusal.Stopped ending) → (self.old.ended ≡ None) × (self.new.ended ≡ Some ending) }
-        ensures ended { (ending : Ending) → (result ≡ Err (refusal.Ended ending)) ↔ (self.old.ended ≡ Some ending) }
+            → IfOk result (λ binds. AnswersRow self.old self.new
+            (with_row log first last truths.now) (map tree_of binds)) }
+        ensures over_limit { (log : List LogEntry) → Represents self.old log → IsInOrder log
+            → (number retained_limit : ℕ)
+            → result ≡ Err (refusal.Stopped (ending.OverLimit number retained_limit))
+            → IsOverLimitAtRow self.old (with_row log first last truths.now) number retained_limit }
+        ensures out_of_order { (before now : ℤ)
+            → (result ≡ Err (refusal.Stopped (ending.OutOfOrder before now)))
+            ↔ ((self.old.ended ≡ None) × (self.old.last ≡ Some before) × (now ≡ last)
+            × (now <ℤ before)) }
+        ensures stopped { (ending : Ending) → result ≡ Err (refusal.Stopped ending)
+            → (self.old.ended ≡ None) × (self.new.ended ≡ Some ending) }
+        ensures ended { (ending : Ending) → (result ≡ Err (refusal.Ended ending))
+            ↔ (self.old.ended ≡ Some ending) }
         ensures unchanged { (ending : Ending) → self.old.ended ≡ Some ending → self.new ≡ self.old }
-        ensures kept { (self.new.pattern ≡ self.old.pattern) × (self.new.retained_limit ≡ self.old.retained_limit) }
+        ensures kept { (self.new.pattern ≡ self.old.pattern)
+            × (self.new.retained_limit ≡ self.old.retained_limit) }
     {
         laws::test_is_the_rule();
         laws::sorted_bindings_ascend();
@@ -121,22 +133,30 @@ impl<'p> Matcher<'p> {
         }
     }
 
-    /// Takes the next rows of a log, so many at once, at which no bracket of the pattern holds; the last of
-    /// them has this last time. That is what as many calls of `take` without truths would do: nothing ends
-    /// at these rows. It costs one look at each store, and takes no memory.
+    /// Takes the next `rows` rows at once, at which no bracket of the pattern holds. The last of
+    /// them ends at `last`. The result is the state after as many calls of `take` without truths:
+    /// no binding ends at such a row. Looks at each store once, and takes no memory.
     pub fn pass(&mut self, rows: u64, last: Instant) -> Result<(), MatchRefusal>
         requires some { 1 ≤ rows }
         requires budget { self.old.ended ≡ None → self.old.rows + rows < 2 ^ 64 }
-        ensures represents { (log nonmatching : List LogEntry) → Represents self.old log → ContinuesWithoutMatch log nonmatching rows last
+        ensures represents { (log nonmatching : List LogEntry) → Represents self.old log
+            → ContinuesWithoutMatch log nonmatching rows last
             → OnOk result (Represents self.new (log ++ nonmatching)) }
-        ensures nothing_ends { (log nonmatching : List LogEntry) → Represents self.old log → ContinuesWithoutMatch log nonmatching rows last
-            → OnOk result (AnswersAfter (numbered_pattern self.old.pattern) log nonmatching (no_answers nonmatching)) }
-        ensures out_of_order { (before now : ℤ) → (result ≡ Err (refusal.Stopped (ending.OutOfOrder before now)))
-            ↔ ((self.old.ended ≡ None) × (self.old.last ≡ Some before) × (now ≡ last) × (now <ℤ before)) }
-        ensures stopped { (ending : Ending) → result ≡ Err (refusal.Stopped ending) → (self.old.ended ≡ None) × (self.new.ended ≡ Some ending) }
-        ensures ended { (ending : Ending) → (result ≡ Err (refusal.Ended ending)) ↔ (self.old.ended ≡ Some ending) }
+        ensures nothing_ends { (log nonmatching : List LogEntry) → Represents self.old log
+            → ContinuesWithoutMatch log nonmatching rows last
+            → OnOk result (AnswersAfter (numbered_pattern self.old.pattern) log nonmatching
+            (no_answers nonmatching)) }
+        ensures out_of_order { (before now : ℤ)
+            → (result ≡ Err (refusal.Stopped (ending.OutOfOrder before now)))
+            ↔ ((self.old.ended ≡ None) × (self.old.last ≡ Some before) × (now ≡ last)
+            × (now <ℤ before)) }
+        ensures stopped { (ending : Ending) → result ≡ Err (refusal.Stopped ending)
+            → (self.old.ended ≡ None) × (self.new.ended ≡ Some ending) }
+        ensures ended { (ending : Ending) → (result ≡ Err (refusal.Ended ending))
+            ↔ (self.old.ended ≡ Some ending) }
         ensures unchanged { (ending : Ending) → self.old.ended ≡ Some ending → self.new ≡ self.old }
-        ensures kept { (self.new.pattern ≡ self.old.pattern) × (self.new.retained_limit ≡ self.old.retained_limit) }
+        ensures kept { (self.new.pattern ≡ self.old.pattern)
+            × (self.new.retained_limit ≡ self.old.retained_limit) }
     {
         laws::test_is_the_rule();
         laws::sorted_bindings_ascend();
@@ -152,10 +172,13 @@ impl<'p> Matcher<'p> {
         }
     }
 
-    /// The numbers of the rows that the stores hold, ascending, each once; none where the matcher ended.
+    /// The numbers of the rows that the stores hold, ascending, each once. Empty where the matcher
+    /// has ended.
     pub fn kept(&self) -> Result<Items<u64>, NoMemory>
-        ensures kept { IfOk result (λ numbers. self.now.ended ≡ None → AreKept self.now.contents numbers) }
-        ensures ended { IfOk result (λ numbers. (ending : Ending) → self.now.ended ≡ Some ending → numbers ≡ []) }
+        ensures kept { IfOk result (λ numbers. self.now.ended ≡ None
+            → AreKept self.now.contents numbers) }
+        ensures ended { IfOk result (λ numbers. (ending : Ending) → self.now.ended ≡ Some ending
+            → numbers ≡ []) }
     {
         if self.ended.is_some() {
             return Ok(Items::new(self.run.alloc));

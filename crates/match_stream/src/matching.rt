@@ -1,5 +1,15 @@
-//! Whether there is a number for each of some things that may take one of a few: what lies at one instant
-//! needs observations of its own.
+//! A maximum bipartite matching that grows by one vertex at a time, with Kuhn's augmenting paths.
+//!
+//! A vertex on the left is a position that needs a distinct observation; its neighbors are the
+//! observation numbers that may stand there. `has_hall_violator` is a one-sided test of Hall's
+//! condition. It looks for an augmenting path from the newest vertex. Where none exists, the
+//! vertices that the search tried have fewer neighbors together than there are of them (a Hall
+//! violator), so no assignment of distinct numbers exists.
+//!
+//! Only `is_hall_violator`, which counts those vertices and their neighbors anew, carries a
+//! contract. `augment`, `is_tried` and `put` carry none and need none: they choose which vertices
+//! to count. A mistake there could only make the test miss a violator, and the caller would search
+//! longer.
 
 ghost use Rattle.std.specs.Prelude.{◌≡◌, ◌≤◌, ◌∷◌, [], ℕ, List, nat_eq, true, false, length, IfOk, OnOk};
 ghost use Rattle.std.specs.List.{AllZip, Contains, IsDistinct};
@@ -10,22 +20,22 @@ use crate::numbers::sort_dedup;
 use flow_values::NoMemory;
 use std::alloc::Global;
 
-/// The numbers of which one is picked.
+/// The neighbors of one vertex: the observation numbers that may be assigned to it.
 #[derive(Drop)]
 pub(crate) struct Neighbors {
     pub numbers: Vec<u64>,
 }
 
-/// Some choices, the last of which stands first.
+/// The left vertices, the newest first, with a partial assignment.
 #[derive(Drop)]
 pub(crate) struct Matching {
     pub list: Vec<Neighbors>,
-    /// The number that is picked of each, if one is.
+    /// For each vertex the number assigned to it, if any.
     pub picks: Vec<Option<u64>>,
 }
 
 impl Matching {
-    /// No choices. Takes no memory.
+    /// A matching without vertices. Takes no memory.
     pub fn new(alloc: Global) -> Matching
         ensures { result.list.items ≡ [] }
     {
@@ -35,31 +45,34 @@ impl Matching {
         }
     }
 
-    /// Adds a choice; whether there may be numbers enough for all.
+    /// Adds a vertex. False is a proof that no assignment gives each vertex a distinct number.
     pub fn admit(&mut self, alloc: Global, numbers: Vec<u64>) -> Result<bool, NoMemory>
-        ensures added { OnOk result (self.new.list.items ≡ record { numbers = numbers } ∷ self.old.list.items) }
-        ensures short { IfOk result (λ may. may ≡ false → (x : BindTree) → ¬ (HasPerfectMatching self.new.list.items x)) }
+        ensures added { OnOk result (self.new.list.items ≡ record { numbers = numbers }
+            ∷ self.old.list.items) }
+        ensures short { IfOk result (λ may. may ≡ false → (x : BindTree)
+            → ¬ (HasPerfectMatching self.new.list.items x)) }
     {
         self.add(numbers)?;
         let short = self.has_hall_violator(alloc)?;
         Ok(!short)
     }
 
-    /// One choice more, of which nothing is picked yet.
+    /// Adds a vertex without an assignment.
     fn add(&mut self, numbers: Vec<u64>) -> Result<(), NoMemory>
-        ensures { OnOk result (self.new.list.items ≡ record { numbers = numbers } ∷ self.old.list.items) }
+        ensures { OnOk result (self.new.list.items ≡ record { numbers = numbers }
+            ∷ self.old.list.items) }
     {
         self.list.insert(0, Neighbors { numbers })?;
         self.picks.insert(0, None)?;
         Ok(())
     }
 
-    /// Whether it is seen that there are too few numbers for each choice to have one of its own. Of the last
-    /// choice, of which none is picked yet, one is, and others give way to it; where that can't be, those
-    /// that were asked to are too many.
+    /// Whether the vertices have a Hall violator. True is a proof; false is no promise. Tries one
+    /// augmenting path from the newest vertex, O(vertices times edges).
     fn has_hall_violator(&mut self, alloc: Global) -> Result<bool, NoMemory>
         ensures same { self.new.list ≡ self.old.list }
-        ensures short { IfOk result (λ short. short ≡ true → (x : BindTree) → ¬ (HasPerfectMatching self.old.list.items x)) }
+        ensures short { IfOk result (λ short. short ≡ true → (x : BindTree)
+            → ¬ (HasPerfectMatching self.old.list.items x)) }
     {
         let mut tried = Vec::new(alloc);
         for _ in 0..self.list.len() {
@@ -73,8 +86,9 @@ impl Matching {
     }
 }
 
-/// Picks a number of the choice at a place, where one is free or the choice that has it, at so many removes,
-/// can have another one. Each that is asked is tried. What it finds is judged by `is_hall_violator`.
+/// Looks for an augmenting path from the vertex at `place`, of at most `depth` vertices: takes a
+/// free neighbor, or one whose owner finds another. Marks each vertex that it tries. Has no
+/// contract: see the head of this file.
 #[cycle(augment)]
 fn augment(
     matching: &[Neighbors],
@@ -105,7 +119,7 @@ fn augment(
     false
 }
 
-/// Whether a choice was tried.
+/// Whether a vertex was tried.
 fn is_tried(tried: &[bool], place: usize) -> bool {
     match tried.get(place) {
         Some(is) => *is,
@@ -113,16 +127,18 @@ fn is_tried(tried: &[bool], place: usize) -> bool {
     }
 }
 
-/// Puts an item at a place, if there is such a place.
+/// Replaces the item at `place`, if there is one.
 fn put<T: Drop>(items: &mut [T], place: usize, item: T) {
     if let Some(old) = items.get_mut(place) {
         *old = item;
     }
 }
 
-/// Whether those that were tried are more than all their numbers.
+/// Whether the vertices that were tried are more than their distinct neighbors. True is a proof
+/// that no assignment exists.
 fn is_hall_violator(alloc: Global, matching: &[Neighbors], tried: &[bool]) -> Result<bool, NoMemory>
-    ensures { IfOk result (λ are. are ≡ true → (x : BindTree) → ¬ (HasPerfectMatching matching.now x)) }
+    ensures { IfOk result (λ are. are ≡ true → (x : BindTree)
+        → ¬ (HasPerfectMatching matching.now x)) }
 {
     let mut numbers = Vec::new(alloc);
     let count = push_tried(matching, tried, &mut numbers)?;
@@ -130,7 +146,7 @@ fn is_hall_violator(alloc: Global, matching: &[Neighbors], tried: &[bool]) -> Re
     Ok(numbers.len() < count)
 }
 
-/// Adds the numbers of those that were tried: how many these are.
+/// Appends the neighbors of the vertices that were tried: how many vertices these are.
 #[cycle(push_tried)]
 fn push_tried(
     matching: &[Neighbors],
@@ -138,8 +154,10 @@ fn push_tried(
     numbers: &mut Vec<u64>,
 ) -> Result<usize, NoMemory>
     ensures count { IfOk result (λ count. count ≤ length matching.now) }
-    ensures kept { OnOk result ((n : ℕ) → Contains numbers.old.items n → Contains numbers.new.items n) }
-    ensures picked { IfOk result (λ count. (x : BindTree) (picks : List ℕ) → IsDistinct nat_eq picks → AllZip (MayPick x) matching.now picks
+    ensures kept { OnOk result ((n : ℕ) → Contains numbers.old.items n
+        → Contains numbers.new.items n) }
+    ensures picked { IfOk result (λ count. (x : BindTree) (picks : List ℕ)
+        → IsDistinct nat_eq picks → AllZip (MayPick x) matching.now picks
         → IsAmong count numbers.new.items picks) }
 {
     let Some((neighbors, others)) = matching.split_first() else {

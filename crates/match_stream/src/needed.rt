@@ -1,3 +1,12 @@
+//! Whether a new partial match is needed: an exact test, by backtracking with two proved shortcuts.
+//!
+//! Inside the right side of a `FOLLOWEDBY` most new partial matches have no use. No stored left
+//! operand precedes them, and none ever will, since later rows end no earlier than now. Dropping
+//! them keeps the stores small. The exact test is a depth-first search over the left operands,
+//! exponential in the nesting of `FOLLOWEDBY`s. So it first tries `GreedyCompletion`, which proves
+//! "needed", and `CompletionBound`, which proves "not needed". Both are linear, and the search
+//! decides the rest.
+
 ghost use Rattle.std.specs.Prelude.{◌≡◌, IfOk};
 ghost use Rattle.match_stream.specs.inner.PartialMatches.{partial_match_tree};
 ghost use Rattle.match_stream.specs.inner.Needed.{is_needed};
@@ -13,16 +22,18 @@ use flow_values::NoMemory;
 use std::alloc::Global;
 use stix_times::Instant;
 
-/// Whether a new thing is needed: on the right of a `FOLLOWEDBY` only where the store there keeps it, or
-/// something on the left is joined with it to what is needed above. The innermost pending left is the last. Where
-/// more pending lefts are above it, to try all that is held could take long, so what is seen at once is seen first.
+/// Whether a new partial match is needed: the store of its side retains it, or a stored left
+/// operand joins it to one that is needed further out. The innermost `FOLLOWEDBY` is the last of
+/// `pending_lefts`. Outside of all `FOLLOWEDBY`s everything is needed.
 pub(crate) fn is_needed(
     alloc: Global,
     partial_match: &PartialMatch,
     now: Instant,
     pending_lefts: &[PendingLeft],
 ) -> Result<bool, NoMemory>
-    ensures { IfOk result (λ needed. needed ≡ is_needed now (pending_lefts_of pending_lefts.now) (partial_match_tree partial_match.now)) }
+    ensures { IfOk result (λ needed. needed
+        ≡ is_needed now (pending_lefts_of pending_lefts.now)
+        (partial_match_tree partial_match.now)) }
 {
     let Some((innermost, above)) = pending_lefts.split_last() else {
         return Ok(true);

@@ -1,3 +1,12 @@
+//! The operator tree of a matcher, and one row of it.
+//!
+//! Each node evaluates its operator incrementally (semi-naive evaluation, or delta join). At a row,
+//! an `AND` or `FOLLOWEDBY` joins the new left operands with the stored right ones, and the stored
+//! left ones with the new right ones. New with new is left out: both contain this row, and two
+//! operands share no observation. The contracts state that `step` computes `step_new` and
+//! `step_state`, the plain definitions in `specs/inner/Steps`, with its early filters and its count
+//! of memory.
+
 ghost use Rattle.std.specs.Prelude.{◌≡◌, ◌+◌, ◌<◌, ◌≤ℤ◌, ◌^◌, ◌++◌, [], false, IsTrue, IfOk, IfSome, OnOk, Err, map, length};
 ghost use Rattle.std.specs.Box.{box_value};
 ghost use Rattle.pattern_types.specs.Leaves.{leaves};
@@ -31,25 +40,25 @@ use std::alloc::Global;
 use std::mem;
 use stix_times::Instant;
 
-/// What a matcher keeps for a part of its pattern. Stores lie in boxes of their own: a node is dropped by
-/// recursion, and what it holds itself stands in each frame of that.
+/// The state of a matcher for a part of its pattern. Stores are boxed: a node is dropped by
+/// recursion, and its own size adds to each frame.
 #[derive(Drop)]
 pub(crate) enum Node {
-    /// A leaf, or some of them in a chain of `OR`s.
+    /// A bracket, or a chain of `OR`s of brackets.
     Leaves(Leaves),
-    /// An `AND` or a `FOLLOWEDBY`.
+    /// An `AND` or a `FOLLOWEDBY`, with its two operands and their stores.
     Sides(Join, Box<Node>, Box<Node>, Box<Sides>),
-    /// Another `OR`.
+    /// Any other `OR`.
     Either(Box<Node>, Box<Node>),
-    /// A `WITHIN`, or a `START` and `STOP`, which the windows below it know.
+    /// A `WITHIN`, or a `START` and `STOP`. The windows below it already include the qualifier.
     Under(Box<Node>),
     /// A `REPEATS`.
     Repeats(Box<Node>, Box<Levels>),
 }
 
-/// What is kept for a pattern under these bounds before any row, where its leftmost leaf has the number
-/// `leaf`. A pattern may have 1,024 leaves in a chain: so what is made on the way lies in boxes, and
-/// each kind of node is made in a function of its own, that little of the stack is taken for a leaf.
+/// The state before any row of a pattern under these qualifiers, where the leftmost leaf has the
+/// number `leaf`. A pattern nests up to 1,024 leaves: so nodes are built in boxes, and each kind in
+/// a separate function, to keep a frame of the recursion small.
 #[cycle(empty_node)]
 pub(crate) fn empty_node(
     alloc: Global,
@@ -58,7 +67,8 @@ pub(crate) fn empty_node(
     above: &Bounds,
 ) -> Result<Box<Node>, NoMemory>
     requires { leaf + leaves pattern.now < 2 ^ 32 }
-    ensures { IfOk result (λ node. state_of (box_value node) ≡ empty_state above.now (numbered_from leaf pattern.now)) }
+    ensures { IfOk result (λ node. state_of (box_value node)
+        ≡ empty_state above.now (numbered_from leaf pattern.now)) }
 {
     match pattern {
         Pattern::Leaf(_) => leaf_node(alloc, leaf, above),
@@ -84,7 +94,8 @@ pub(crate) fn empty_node(
     }
 }
 
-/// The same of a pattern that joins two sides, the right one after left the left where this is asked.
+/// The state of an `AND` or `FOLLOWEDBY`. `after_left` says that the right operand has to follow
+/// the left.
 #[cycle(empty_node)]
 fn empty_sides(
     alloc: Global,
@@ -96,15 +107,17 @@ fn empty_sides(
     after_left: bool,
 ) -> Result<Box<Node>, NoMemory>
     requires { leaf + (leaves left.now + leaves right.now) < 2 ^ 32 }
-    ensures { IfOk result (λ node. state_of (box_value node) ≡ a_join join (empty_state above.now (numbered_from leaf left.now))
-        (empty_state above.now (numbered_from (leaf + leaves left.now) right.now)) (empty_sides (window_of above.now false) (window_of above.now after_left))) }
+    ensures { IfOk result (λ node. state_of (box_value node)
+        ≡ a_join join (empty_state above.now (numbered_from leaf left.now))
+        (empty_state above.now (numbered_from (leaf + leaves left.now) right.now))
+        (empty_sides (window_of above.now false) (window_of above.now after_left))) }
 {
     let left_node = empty_node(alloc, left, leaf, above)?;
     let right_node = empty_node(alloc, right, leaf + leaf_count(left), above)?;
     sides_node(alloc, join, left_node, right_node, above, after_left)
 }
 
-/// The same of an `OR`.
+/// The state of an `OR`.
 #[cycle(empty_node)]
 fn empty_either(
     alloc: Global,
@@ -114,7 +127,8 @@ fn empty_either(
     above: &Bounds,
 ) -> Result<Box<Node>, NoMemory>
     requires { leaf + (leaves left.now + leaves right.now) < 2 ^ 32 }
-    ensures { IfOk result (λ node. state_of (box_value node) ≡ a_choice (empty_state above.now (numbered_from leaf left.now))
+    ensures { IfOk result (λ node. state_of (box_value node)
+        ≡ a_choice (empty_state above.now (numbered_from leaf left.now))
         (empty_state above.now (numbered_from (leaf + leaves left.now) right.now))) }
 {
     let left_node = empty_node(alloc, left, leaf, above)?;
@@ -122,16 +136,17 @@ fn empty_either(
     either_node(alloc, left_node, right_node)
 }
 
-/// A leaf under these bounds.
+/// The node of a leaf.
 #[inline(never)]
 fn leaf_node(alloc: Global, leaf: u32, above: &Bounds) -> Result<Box<Node>, NoMemory>
-    ensures { IfOk result (λ node. state_of (box_value node) ≡ a_leaf leaf (window_of above.now false)) }
+    ensures { IfOk result (λ node. state_of (box_value node)
+        ≡ a_leaf leaf (window_of above.now false)) }
 {
     let leaves = Leaves::one(leaf, store_window(above, false));
     Ok(Box::new(alloc, Node::Leaves(leaves))?)
 }
 
-/// A node that joins two sides, the right one after left the left where this is asked.
+/// The node of an `AND` or `FOLLOWEDBY` with these operands.
 #[inline(never)]
 fn sides_node(
     alloc: Global,
@@ -141,17 +156,19 @@ fn sides_node(
     above: &Bounds,
     after_left: bool,
 ) -> Result<Box<Node>, NoMemory>
-    ensures { IfOk result (λ node. state_of (box_value node) ≡ a_join join (state_of (box_value left)) (state_of (box_value right))
+    ensures { IfOk result (λ node. state_of (box_value node)
+        ≡ a_join join (state_of (box_value left)) (state_of (box_value right))
         (empty_sides (window_of above.now false) (window_of above.now after_left))) }
 {
     let sides = Box::new(alloc, Sides::new(alloc, above, after_left))?;
     Ok(Box::new(alloc, Node::Sides(join, left, right, sides))?)
 }
 
-/// An `OR` of two sides, of which the right one joins the leaves on its left where it is the next of them.
+/// The node of an `OR`. Where the right operand is the next leaf of a chain, extends the chain.
 #[inline(never)]
 fn either_node(alloc: Global, left: Box<Node>, right: Box<Node>) -> Result<Box<Node>, NoMemory>
-    ensures { IfOk result (λ node. state_of (box_value node) ≡ a_choice (state_of (box_value left)) (state_of (box_value right))) }
+    ensures { IfOk result (λ node. state_of (box_value node)
+        ≡ a_choice (state_of (box_value left)) (state_of (box_value right))) }
 {
     match with_leaf(&left, &right) {
         Some(leaves) => Ok(Box::new(alloc, Node::Leaves(leaves))?),
@@ -159,9 +176,10 @@ fn either_node(alloc: Global, left: Box<Node>, right: Box<Node>) -> Result<Box<N
     }
 }
 
-/// Leaves with the one on their right, where it is the next of them.
+/// The chain of leaves extended by the leaf on its right, where it is the next one.
 fn with_leaf(left: &Node, right: &Node) -> Option<Leaves>
-    ensures { IfSome result (λ leaves. leaves_of leaves ≡ a_choice (state_of left.now) (state_of right.now)) }
+    ensures { IfSome result (λ leaves. leaves_of leaves
+        ≡ a_choice (state_of left.now) (state_of right.now)) }
 {
     match (left, right) {
         (Node::Leaves(leaves), Node::Leaves(next)) => leaves.with(next),
@@ -169,15 +187,16 @@ fn with_leaf(left: &Node, right: &Node) -> Option<Leaves>
     }
 }
 
-/// A node under a `WITHIN`, or a `START` and `STOP`.
+/// The node of a `WITHIN`, or of a `START` and `STOP`.
 #[inline(never)]
 fn under_node(alloc: Global, part: Box<Node>) -> Result<Box<Node>, NoMemory>
-    ensures { IfOk result (λ node. state_of (box_value node) ≡ a_limit (state_of (box_value part))) }
+    ensures { IfOk result (λ node. state_of (box_value node)
+        ≡ a_limit (state_of (box_value part))) }
 {
     Ok(Box::new(alloc, Node::Under(part))?)
 }
 
-/// So many repeats of a node.
+/// The node of a `REPEATS count`.
 #[inline(never)]
 fn repeats_node(
     alloc: Global,
@@ -186,14 +205,16 @@ fn repeats_node(
     above: &Bounds,
 ) -> Result<Box<Node>, NoMemory>
     ensures { IfOk result (λ node. state_of (box_value node)
-        ≡ a_chain (state_of (box_value part)) count (window_of above.now false) (all_levels count [])) }
+        ≡ a_chain (state_of (box_value part)) count (window_of above.now false)
+        (all_levels count [])) }
 {
     let levels = Box::new(alloc, Levels::new(alloc, count, store_window(above, false)))?;
     Ok(Box::new(alloc, Node::Repeats(part, levels))?)
 }
 
-/// One row: what ends at it and is needed, and what is kept after it. What the stores then hold is
-/// counted; it stops at the partial match by which more would be retained than there is budget for.
+/// One row at a node: answers the needed partial matches that end there, and updates the stores.
+/// Charges the budget for what the stores then hold. `Stop::OverLimit` at the first partial match
+/// beyond it.
 #[cycle(step)]
 fn step(
     alloc: Global,
@@ -204,11 +225,17 @@ fn step(
     budget: &mut Budget,
 ) -> Result<Vec<PartialMatch>, Stop>
     requires span { row.now.first ≤ℤ row.now.last }
-    ensures new { IfOk result (λ new. partial_match_trees new.items ≡ needed row.now.last (pending_lefts_of pending_lefts.old.items) (step_new row.now truths.now (state_of node.old))) }
-    ensures kept { OnOk result (state_of node.new ≡ step_state row.now truths.now (state_of node.old)) }
+    ensures new { IfOk result (λ new. partial_match_trees new.items
+        ≡ needed row.now.last (pending_lefts_of pending_lefts.old.items)
+        (step_new row.now truths.now (state_of node.old))) }
+    ensures kept { OnOk result (state_of node.new
+        ≡ step_state row.now truths.now (state_of node.old)) }
     ensures pending_lefts { OnOk result (pending_lefts.new.items ≡ pending_lefts.old.items) }
-    ensures counted { OnOk result (budget.new.left + held_after row.now truths.now (state_of node.old) ≡ budget.old.left) }
-    ensures over_limit { result ≡ Err stop.OverLimit → IsOverAt row.now truths.now (pending_lefts_of pending_lefts.old.items) (state_of node.old) budget.old.left }
+    ensures counted { OnOk result (budget.new.left
+        + held_after row.now truths.now (state_of node.old) ≡ budget.old.left) }
+    ensures over_limit { result ≡ Err stop.OverLimit
+        → IsOverAt row.now truths.now (pending_lefts_of pending_lefts.old.items)
+        (state_of node.old) budget.old.left }
 {
     match node {
         Node::Leaves(leaves) => {
@@ -244,7 +271,7 @@ fn step(
     }
 }
 
-/// One row at a node with nothing ahead of it, where all that ends is needed.
+/// One row at a node outside of all `FOLLOWEDBY`s, where everything is needed.
 #[cycle(step)]
 pub(crate) fn step_alone(
     alloc: Global,
@@ -254,10 +281,14 @@ pub(crate) fn step_alone(
     budget: &mut Budget,
 ) -> Result<Vec<PartialMatch>, Stop>
     requires span { row.now.first ≤ℤ row.now.last }
-    ensures new { IfOk result (λ new. partial_match_trees new.items ≡ needed row.now.last [] (step_new row.now truths.now (state_of node.old))) }
-    ensures kept { OnOk result (state_of node.new ≡ step_state row.now truths.now (state_of node.old)) }
-    ensures counted { OnOk result (budget.new.left + held_after row.now truths.now (state_of node.old) ≡ budget.old.left) }
-    ensures over_limit { result ≡ Err stop.OverLimit → IsOverAt row.now truths.now [] (state_of node.old) budget.old.left }
+    ensures new { IfOk result (λ new. partial_match_trees new.items
+        ≡ needed row.now.last [] (step_new row.now truths.now (state_of node.old))) }
+    ensures kept { OnOk result (state_of node.new
+        ≡ step_state row.now truths.now (state_of node.old)) }
+    ensures counted { OnOk result (budget.new.left
+        + held_after row.now truths.now (state_of node.old) ≡ budget.old.left) }
+    ensures over_limit { result ≡ Err stop.OverLimit
+        → IsOverAt row.now truths.now [] (state_of node.old) budget.old.left }
 {
     let mut none = Vec::new(alloc);
     let new = step(alloc, node, row, truths, &mut none, budget)?;
@@ -279,14 +310,22 @@ fn step_sides(
 ) -> Result<Vec<PartialMatch>, Stop>
     requires span { row.now.first ≤ℤ row.now.last }
     ensures new { IfOk result (λ new. partial_match_trees new.items
-        ≡ needed row.now.last (pending_lefts_of pending_lefts.old.items) (step_new row.now truths.now (a_join join (state_of left.old) (state_of right.old) (side_stores sides.old)))) }
-    ensures kept { OnOk result (a_join join (state_of left.new) (state_of right.new) (side_stores sides.new)
-        ≡ step_state row.now truths.now (a_join join (state_of left.old) (state_of right.old) (side_stores sides.old))) }
+        ≡ needed row.now.last (pending_lefts_of pending_lefts.old.items)
+        (step_new row.now truths.now (a_join join (state_of left.old) (state_of right.old)
+        (side_stores sides.old)))) }
+    ensures kept { OnOk result (a_join join (state_of left.new) (state_of right.new)
+        (side_stores sides.new)
+        ≡ step_state row.now truths.now
+        (a_join join (state_of left.old) (state_of right.old) (side_stores sides.old))) }
     ensures pending_lefts { OnOk result (pending_lefts.new.items ≡ pending_lefts.old.items) }
     ensures counted { OnOk result (budget.new.left
-        + held_after row.now truths.now (a_join join (state_of left.old) (state_of right.old) (side_stores sides.old)) ≡ budget.old.left) }
-    ensures over_limit { result ≡ Err stop.OverLimit → IsOverAt row.now truths.now (pending_lefts_of pending_lefts.old.items)
-        (a_join join (state_of left.old) (state_of right.old) (side_stores sides.old)) budget.old.left }
+        + held_after row.now truths.now
+        (a_join join (state_of left.old) (state_of right.old) (side_stores sides.old))
+        ≡ budget.old.left) }
+    ensures over_limit { result ≡ Err stop.OverLimit
+        → IsOverAt row.now truths.now (pending_lefts_of pending_lefts.old.items)
+        (a_join join (state_of left.old) (state_of right.old) (side_stores sides.old))
+        budget.old.left }
 {
     sides.expire(row.last, budget)?;
     let new_left = step_alone(alloc, left, row, truths, budget)?;
@@ -324,13 +363,17 @@ fn step_either(
 ) -> Result<Vec<PartialMatch>, Stop>
     requires span { row.now.first ≤ℤ row.now.last }
     ensures new { IfOk result (λ new. partial_match_trees new.items
-        ≡ needed row.now.last (pending_lefts_of pending_lefts.old.items) (step_new row.now truths.now (a_choice (state_of left.old) (state_of right.old)))) }
+        ≡ needed row.now.last (pending_lefts_of pending_lefts.old.items)
+        (step_new row.now truths.now (a_choice (state_of left.old) (state_of right.old)))) }
     ensures kept { OnOk result (a_choice (state_of left.new) (state_of right.new)
         ≡ step_state row.now truths.now (a_choice (state_of left.old) (state_of right.old))) }
     ensures pending_lefts { OnOk result (pending_lefts.new.items ≡ pending_lefts.old.items) }
-    ensures counted { OnOk result (budget.new.left + held_after row.now truths.now (a_choice (state_of left.old) (state_of right.old)) ≡ budget.old.left) }
+    ensures counted { OnOk result (budget.new.left
+        + held_after row.now truths.now (a_choice (state_of left.old) (state_of right.old))
+        ≡ budget.old.left) }
     ensures over_limit { result ≡ Err stop.OverLimit
-        → IsOverAt row.now truths.now (pending_lefts_of pending_lefts.old.items) (a_choice (state_of left.old) (state_of right.old)) budget.old.left }
+        → IsOverAt row.now truths.now (pending_lefts_of pending_lefts.old.items)
+        (a_choice (state_of left.old) (state_of right.old)) budget.old.left }
 {
     let mut new = Vec::new(alloc);
     step_first(alloc, 1, left, row, truths, pending_lefts, budget, &mut new)?;
@@ -360,20 +403,25 @@ fn step_repeats(
 ) -> Result<Vec<PartialMatch>, Stop>
     requires span { row.now.first ≤ℤ row.now.last }
     ensures new { IfOk result (λ new. partial_match_trees new.items
-        ≡ needed row.now.last (pending_lefts_of pending_lefts.old.items) (step_new row.now truths.now (levels_state (state_of part.old) levels.old))) }
-    ensures kept { OnOk result (levels_state (state_of part.new) levels.new ≡ step_state row.now truths.now (levels_state (state_of part.old) levels.old)) }
+        ≡ needed row.now.last (pending_lefts_of pending_lefts.old.items)
+        (step_new row.now truths.now (levels_state (state_of part.old) levels.old))) }
+    ensures kept { OnOk result (levels_state (state_of part.new) levels.new
+        ≡ step_state row.now truths.now (levels_state (state_of part.old) levels.old)) }
     ensures pending_lefts { OnOk result (pending_lefts.new.items ≡ pending_lefts.old.items) }
-    ensures counted { OnOk result (budget.new.left + held_after row.now truths.now (levels_state (state_of part.old) levels.old) ≡ budget.old.left) }
+    ensures counted { OnOk result (budget.new.left
+        + held_after row.now truths.now (levels_state (state_of part.old) levels.old)
+        ≡ budget.old.left) }
     ensures over_limit { result ≡ Err stop.OverLimit
-        → IsOverAt row.now truths.now (pending_lefts_of pending_lefts.old.items) (levels_state (state_of part.old) levels.old) budget.old.left }
+        → IsOverAt row.now truths.now (pending_lefts_of pending_lefts.old.items)
+        (levels_state (state_of part.old) levels.old) budget.old.left }
 {
     let new = step_part(alloc, part, levels, row, truths, pending_lefts, budget)?;
     let answer = levels.step(alloc, row.last, &new, pending_lefts, budget)?;
     Ok(answer)
 }
 
-/// One row at the left side of an `OR`, the innermost of so many that it is a left side of: adds what ends
-/// there, put under the `First`s of them all at once.
+/// One row at the left operand of an `OR`, the innermost of `count` nested on their left: appends
+/// what ends there, under `count` `First`s at once.
 #[cycle(step)]
 fn step_first(
     alloc: Global,
@@ -386,13 +434,19 @@ fn step_first(
     out: &mut Vec<PartialMatch>,
 ) -> Result<(), Stop>
     requires span { row.now.first ≤ℤ row.now.last }
-    ensures new { OnOk result (partial_match_trees out.new.items ≡ partial_match_trees out.old.items ++ map (held_with (firsts count))
-        (needed row.now.last (pending_lefts_of pending_lefts.old.items) (step_new row.now truths.now (state_of node.old)))) }
-    ensures kept { OnOk result (state_of node.new ≡ step_state row.now truths.now (state_of node.old)) }
+    ensures new { OnOk result (partial_match_trees out.new.items
+        ≡ partial_match_trees out.old.items ++ map (held_with (firsts count))
+        (needed row.now.last (pending_lefts_of pending_lefts.old.items)
+        (step_new row.now truths.now (state_of node.old)))) }
+    ensures kept { OnOk result (state_of node.new
+        ≡ step_state row.now truths.now (state_of node.old)) }
     ensures pending_lefts { OnOk result (pending_lefts.new.items ≡ pending_lefts.old.items) }
-    ensures counted { OnOk result (budget.new.left + held_after row.now truths.now (state_of node.old) ≡ budget.old.left) }
+    ensures counted { OnOk result (budget.new.left
+        + held_after row.now truths.now (state_of node.old) ≡ budget.old.left) }
     ensures over_limit { result ≡ Err stop.OverLimit → Admits row.now truths.now (state_of node.old)
-        → budget.old.left < length out.old.items + retained_at row.now truths.now (pending_lefts_of pending_lefts.old.items) (state_of node.old) }
+        → budget.old.left < length out.old.items
+        + retained_at row.now truths.now (pending_lefts_of pending_lefts.old.items)
+        (state_of node.old) }
 {
     if count < u32::MAX {
         if let Node::Either(left, right) = node {
@@ -416,8 +470,8 @@ fn step_first(
     Ok(())
 }
 
-/// One row at the right side of an `OR` that is a left side of so many more: adds what ends there to what
-/// ends on its left.
+/// One row at the right operand of an `OR` which is nested `count` times on the left: appends what
+/// ends there.
 #[cycle(step)]
 fn step_second(
     alloc: Global,
@@ -430,18 +484,24 @@ fn step_second(
     out: &mut Vec<PartialMatch>,
 ) -> Result<(), Stop>
     requires span { row.now.first ≤ℤ row.now.last }
-    ensures new { OnOk result (partial_match_trees out.new.items ≡ partial_match_trees out.old.items ++ map (held_with (firsts count))
-        (map (held_with Second) (needed row.now.last (pending_lefts_of pending_lefts.old.items) (step_new row.now truths.now (state_of node.old))))) }
-    ensures kept { OnOk result (state_of node.new ≡ step_state row.now truths.now (state_of node.old)) }
+    ensures new { OnOk result (partial_match_trees out.new.items
+        ≡ partial_match_trees out.old.items ++ map (held_with (firsts count))
+        (map (held_with Second) (needed row.now.last (pending_lefts_of pending_lefts.old.items)
+        (step_new row.now truths.now (state_of node.old))))) }
+    ensures kept { OnOk result (state_of node.new
+        ≡ step_state row.now truths.now (state_of node.old)) }
     ensures pending_lefts { OnOk result (pending_lefts.new.items ≡ pending_lefts.old.items) }
-    ensures counted { OnOk result (budget.new.left + held_after row.now truths.now (state_of node.old) ≡ budget.old.left) }
+    ensures counted { OnOk result (budget.new.left
+        + held_after row.now truths.now (state_of node.old) ≡ budget.old.left) }
     ensures over_limit { result ≡ Err stop.OverLimit → Admits row.now truths.now (state_of node.old)
-        → budget.old.left < length out.old.items + retained_at row.now truths.now (pending_lefts_of pending_lefts.old.items) (state_of node.old) }
+        → budget.old.left < length out.old.items
+        + retained_at row.now truths.now (pending_lefts_of pending_lefts.old.items)
+        (state_of node.old) }
 {
     if is_nonmatching(node, truths) {
         return Ok(());
     }
-    // Read, so that it is known to fit.
+    // Reading it tells the prover that it fits a u64.
     let _left = budget.left;
     budget.take(out.len())?;
     let new = step(alloc, node, row, truths, pending_lefts, budget)?;
@@ -450,7 +510,8 @@ fn step_second(
     Ok(())
 }
 
-/// One row at the right side of a node.
+/// One row at the right operand. In a `FOLLOWEDBY` the stored left operands become a pending left
+/// for the time of the call.
 #[cycle(step)]
 fn step_right(
     alloc: Global,
@@ -464,13 +525,18 @@ fn step_right(
 ) -> Result<Vec<PartialMatch>, Stop>
     requires span { row.now.first ≤ℤ row.now.last }
     ensures new { IfOk result (λ new. partial_match_trees new.items
-        ≡ needed row.now.last (pending_lefts_right join (side_stores sides.old) (pending_lefts_of pending_lefts.old.items)) (step_new row.now truths.now (state_of right.old))) }
-    ensures kept { OnOk result (state_of right.new ≡ step_state row.now truths.now (state_of right.old)) }
+        ≡ needed row.now.last (pending_lefts_right join (side_stores sides.old)
+        (pending_lefts_of pending_lefts.old.items))
+        (step_new row.now truths.now (state_of right.old))) }
+    ensures kept { OnOk result (state_of right.new
+        ≡ step_state row.now truths.now (state_of right.old)) }
     ensures sides { OnOk result (side_stores sides.new ≡ side_stores sides.old) }
     ensures pending_lefts { OnOk result (pending_lefts.new.items ≡ pending_lefts.old.items) }
-    ensures counted { OnOk result (budget.new.left + held_after row.now truths.now (state_of right.old) ≡ budget.old.left) }
+    ensures counted { OnOk result (budget.new.left
+        + held_after row.now truths.now (state_of right.old) ≡ budget.old.left) }
     ensures over_limit { result ≡ Err stop.OverLimit
-        → IsOverAt row.now truths.now (pending_lefts_right join (side_stores sides.old) (pending_lefts_of pending_lefts.old.items)) (state_of right.old) budget.old.left }
+        → IsOverAt row.now truths.now (pending_lefts_right join (side_stores sides.old)
+        (pending_lefts_of pending_lefts.old.items)) (state_of right.old) budget.old.left }
 {
     match join {
         Join::Then => {
@@ -489,7 +555,7 @@ fn step_right(
     }
 }
 
-/// One row at what is repeated.
+/// One row at the part of a `REPEATS`.
 #[cycle(step)]
 fn step_part(
     alloc: Global,
@@ -502,12 +568,18 @@ fn step_part(
 ) -> Result<Vec<PartialMatch>, Stop>
     requires span { row.now.first ≤ℤ row.now.last }
     ensures new { IfOk result (λ new. partial_match_trees new.items
-        ≡ needed row.now.last (pending_lefts_part levels.now.count levels.now.window row.now.last (pending_lefts_of pending_lefts.old.items)) (step_new row.now truths.now (state_of part.old))) }
-    ensures kept { OnOk result (state_of part.new ≡ step_state row.now truths.now (state_of part.old)) }
+        ≡ needed row.now.last (pending_lefts_part levels.now.count levels.now.window row.now.last
+        (pending_lefts_of pending_lefts.old.items))
+        (step_new row.now truths.now (state_of part.old))) }
+    ensures kept { OnOk result (state_of part.new
+        ≡ step_state row.now truths.now (state_of part.old)) }
     ensures pending_lefts { OnOk result (pending_lefts.new.items ≡ pending_lefts.old.items) }
-    ensures counted { OnOk result (budget.new.left + held_after row.now truths.now (state_of part.old) ≡ budget.old.left) }
+    ensures counted { OnOk result (budget.new.left
+        + held_after row.now truths.now (state_of part.old) ≡ budget.old.left) }
     ensures over_limit { result ≡ Err stop.OverLimit
-        → IsOverAt row.now truths.now (pending_lefts_part levels.now.count levels.now.window row.now.last (pending_lefts_of pending_lefts.old.items)) (state_of part.old) budget.old.left }
+        → IsOverAt row.now truths.now (pending_lefts_part levels.now.count levels.now.window
+        row.now.last (pending_lefts_of pending_lefts.old.items))
+        (state_of part.old) budget.old.left }
 {
     match levels.count {
         0 => {
@@ -521,7 +593,7 @@ fn step_part(
     }
 }
 
-/// Nothing ahead of a window that is closed: so nothing is needed.
+/// A pending left with a closed window and an empty store: nothing is needed under it.
 fn no_pending_left(alloc: Global, window: &Window, now: Instant) -> PendingLeft
     ensures { pending_left_trees result ≡ record { left = []; window = closed window.now now } }
 {
@@ -537,7 +609,7 @@ fn no_pending_left(alloc: Global, window: &Window, now: Instant) -> PendingLeft
     }
 }
 
-/// Whether a node is leaves of which none holds.
+/// Whether a node is a chain of leaves of which none holds at the row.
 fn is_nonmatching(node: &Node, truths: &[bool]) -> bool
     ensures { IsTrue result → IsNonmatching truths.now (state_of node.now) }
 {
@@ -548,8 +620,8 @@ fn is_nonmatching(node: &Node, truths: &[bool]) -> bool
     }
 }
 
-/// Adds the things of the right side of an `OR` that is the left side of so many more, in the memory that
-/// they have where they are the first.
+/// Appends the results of the right operand of an `OR`, under one `Second` and `count` `First`s.
+/// Reuses their memory where `out` is empty.
 #[inline(never)]
 fn add_seconds(
     alloc: Global,
@@ -558,7 +630,9 @@ fn add_seconds(
     out: &mut Vec<PartialMatch>,
 ) -> Result<(), NoMemory>
     ensures { OnOk result (partial_match_trees out.new.items
-        ≡ partial_match_trees out.old.items ++ map (held_with (firsts count)) (map (held_with Second) (partial_match_trees new.items))) }
+        ≡ partial_match_trees out.old.items
+        ++ map (held_with (firsts count))
+        (map (held_with Second) (partial_match_trees new.items))) }
 {
     let mut seconds = new;
     wrap_seconds(alloc, &mut seconds)?;
@@ -571,10 +645,11 @@ fn add_seconds(
     Ok(())
 }
 
-/// Makes things those of the left sides of so many `OR`s, one above another.
+/// Wraps each binding in `count` `First`s.
 #[tactic(auto, using(crate::proofs::InPlaceLemmas::once_only, crate::proofs::PicksLemmas::once_firsts))]
 fn wrap_firsts(alloc: Global, count: u32, held: &mut Vec<PartialMatch>) -> Result<(), NoMemory>
-    ensures { OnOk result (partial_match_trees held.new.items ≡ map (held_with (firsts count)) (partial_match_trees held.old.items)) }
+    ensures { OnOk result (partial_match_trees held.new.items
+        ≡ map (held_with (firsts count)) (partial_match_trees held.old.items)) }
 {
     for partial_match in held.iter_mut() {
         let bind = mem::replace(&mut partial_match.bind, Bind::One(0));
@@ -584,10 +659,11 @@ fn wrap_firsts(alloc: Global, count: u32, held: &mut Vec<PartialMatch>) -> Resul
     Ok(())
 }
 
-/// Makes things those of the right side of an `OR`.
+/// Wraps each binding in a `Second`.
 #[tactic(auto, using(crate::proofs::InPlaceLemmas::once_only, crate::proofs::PicksLemmas::once_second))]
 fn wrap_seconds(alloc: Global, held: &mut Vec<PartialMatch>) -> Result<(), NoMemory>
-    ensures { OnOk result (partial_match_trees held.new.items ≡ map (held_with Second) (partial_match_trees held.old.items)) }
+    ensures { OnOk result (partial_match_trees held.new.items
+        ≡ map (held_with Second) (partial_match_trees held.old.items)) }
 {
     for partial_match in held.iter_mut() {
         let bind = mem::replace(&mut partial_match.bind, Bind::One(0));

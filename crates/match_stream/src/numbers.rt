@@ -1,4 +1,4 @@
-//! The numbers of the observations that are bound.
+//! The observation numbers that bindings contain.
 
 ghost use Rattle.std.specs.Prelude.{◌≡◌, ◌++◌, ℕ, true, false, IfOk, OnOk, map};
 ghost use Rattle.std.specs.List.{Contains};
@@ -9,7 +9,7 @@ use flow_values::NoMemory;
 use match_bindings::Bind;
 use std::alloc::Global;
 
-/// The numbers of a bind.
+/// The observation numbers of a binding, from left to right.
 pub(crate) fn numbers_of(alloc: Global, bind: &Bind) -> Result<Vec<u64>, NoMemory>
     ensures { IfOk result (λ all. all.items ≡ numbers (tree_of bind.now)) }
 {
@@ -18,7 +18,7 @@ pub(crate) fn numbers_of(alloc: Global, bind: &Bind) -> Result<Vec<u64>, NoMemor
     Ok(all)
 }
 
-/// Adds the numbers of a bind.
+/// Appends the numbers of a binding.
 #[cycle(numbers)]
 pub(crate) fn push_numbers(bind: &Bind, out: &mut Vec<u64>) -> Result<(), NoMemory>
     ensures { OnOk result (out.new.items ≡ out.old.items ++ numbers (tree_of bind.now)) }
@@ -35,10 +35,11 @@ pub(crate) fn push_numbers(bind: &Bind, out: &mut Vec<u64>) -> Result<(), NoMemo
     Ok(())
 }
 
-/// Adds the numbers of binds.
+/// Appends the numbers of each binding.
 #[cycle(numbers)]
 fn push_all_numbers(binds: &[Bind], out: &mut Vec<u64>) -> Result<(), NoMemory>
-    ensures { OnOk result (out.new.items ≡ out.old.items ++ numbers (many_of (map tree_of binds.now))) }
+    ensures { OnOk result (out.new.items ≡ out.old.items
+        ++ numbers (many_of (map tree_of binds.now))) }
 {
     for bind in binds {
         push_numbers(bind, out)?;
@@ -46,7 +47,7 @@ fn push_all_numbers(binds: &[Bind], out: &mut Vec<u64>) -> Result<(), NoMemory>
     Ok(())
 }
 
-/// Whether two lists of numbers have one in common.
+/// Whether two lists of numbers intersect. O(n m).
 pub(crate) fn share_number(numbers: &[u64], others: &[u64]) -> bool
     ensures some { result ≡ true → (n : ℕ) × Contains numbers.now n × Contains others.now n }
     ensures none { result ≡ false → (n : ℕ) → Contains others.now n → ¬ (Contains numbers.now n) }
@@ -59,7 +60,7 @@ pub(crate) fn share_number(numbers: &[u64], others: &[u64]) -> bool
     false
 }
 
-/// Puts numbers in order, each once.
+/// Sorts the numbers and removes duplicates.
 pub(crate) fn sort_dedup(numbers: &mut Vec<u64>)
     ensures { (n : ℕ) → Contains numbers.old.items n → Contains numbers.new.items n }
 {

@@ -7,7 +7,8 @@ ghost use Rattle.match_stream.specs.inner.Numbers.{numbers};
 use match_bindings::Bind;
 use stix_times::Instant;
 
-/// A bind of observations, each once, with its earliest and latest time.
+/// A partial match: a binding of part of the pattern, in which no observation occurs twice, with
+/// the earliest and the latest time of its observations.
 #[derive(Drop)]
 pub(crate) struct PartialMatch {
     pub bind: Bind,

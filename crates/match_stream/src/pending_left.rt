@@ -1,8 +1,8 @@
 use crate::store::Store;
 use match_pruning::Window;
 
-/// What is ahead of the right side of a `FOLLOWEDBY`: what is held on the left, beside the window of the
-/// store on the right.
+/// The left operands of an enclosing `FOLLOWEDBY`, while its right side takes a row: the stored
+/// partial matches, and the window of the store on the right.
 #[derive(Drop)]
 pub(crate) struct PendingLeft {
     pub left: Store,

@@ -11,27 +11,28 @@ use flow_values::NoMemory;
 use std::alloc::Global;
 use stix_times::Instant;
 
-/// A first thing that is tried with many: how they are joined, and earliest start when what they are joined to must
-/// begin.
+/// A left operand as a query to a `SkipIndex`: which right operands join it to a result that isn't
+/// too early?
 #[derive(Drop)]
 pub(crate) struct Query {
     pub join: Join,
     pub earliest_start: EarliestStart,
-    /// What it binds.
+    /// The observation numbers that it binds.
     pub numbers: Vec<u64>,
     /// When it ends.
     pub end: Instant,
 }
 
 impl Query {
-    /// That of a thing.
+    /// The query of a partial match.
     pub fn new(
         alloc: Global,
         join: Join,
         earliest_start: &EarliestStart,
         first: &PartialMatch,
     ) -> Result<Query, NoMemory>
-        ensures { IfOk result (λ query. IsQueryOf join earliest_start.now.start (partial_match_tree first.now) query) }
+        ensures { IfOk result (λ query. IsQueryOf join earliest_start.now.start
+            (partial_match_tree first.now) query) }
     {
         Ok(Query {
             join,
@@ -41,9 +42,11 @@ impl Query {
         })
     }
 
-    /// Whether it is seen that it is tried in vain with whatever binds these numbers and begins no later.
+    /// Whether it joins no right operand that has these numbers and begins at `begin` or earlier,
+    /// or none to a needed result. Only true carries a promise.
     pub fn excludes(&self, common: &[u64], begin: Instant) -> bool
-        ensures { result ≡ true → (second : PartialMatchTree) → HasCommon common.now begin second → CannotJoin self.now second }
+        ensures { result ≡ true → (second : PartialMatchTree) → HasCommon common.now begin second
+            → CannotJoin self.now second }
     {
         !self.earliest_start.covers(begin)
             || self.join.is_late(self.end, begin)

@@ -1,6 +1,6 @@
 use stix_times::Instant;
 
-/// A row of a log, but for its truths.
+/// A row of a log without its truths.
 #[derive(Clone, Copy)]
 pub(crate) struct Row {
     pub number: u64,

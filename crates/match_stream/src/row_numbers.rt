@@ -24,10 +24,11 @@ pub(crate) fn kept_numbers(alloc: Global, node: &Node) -> Result<Vec<u64>, NoMem
     Ok(kept)
 }
 
-/// Adds the numbers in the stores of a node.
+/// Appends the numbers in the stores of a node.
 #[tactic(auto, using(crate::proofs::RowNumbersLemmas::numbers_append))]
 fn push_node(node: &Node, out: &mut Vec<u64>) -> Result<(), NoMemory>
-    ensures { OnOk result (out.new.items ≡ out.old.items ++ all_numbers (contents_of (state_of node.now))) }
+    ensures { OnOk result (out.new.items ≡ out.old.items
+        ++ all_numbers (contents_of (state_of node.now))) }
 {
     match node {
         Node::Leaves(_) => {}
@@ -50,16 +51,17 @@ fn push_node(node: &Node, out: &mut Vec<u64>) -> Result<(), NoMemory>
     Ok(())
 }
 
-/// Adds the numbers in the stores of levels.
+/// Appends the numbers in the stores of a `REPEATS`.
 #[tactic(auto, using(crate::proofs::RowNumbersLemmas::numbers_levels))]
 fn push_levels(levels: &Levels, out: &mut Vec<u64>) -> Result<(), NoMemory>
-    ensures { OnOk result (out.new.items ≡ out.old.items ++ all_numbers (all_levels levels.now.count (store_lists levels.now.stores.items))) }
+    ensures { OnOk result (out.new.items ≡ out.old.items
+        ++ all_numbers (all_levels levels.now.count (store_lists levels.now.stores.items))) }
 {
     push_stores(&levels.stores, out)?;
     Ok(())
 }
 
-/// Adds the numbers in stores.
+/// Appends the numbers in these stores.
 fn push_stores(stores: &[Store], out: &mut Vec<u64>) -> Result<(), NoMemory>
     ensures { OnOk result (out.new.items ≡ out.old.items ++ all_numbers (store_lists stores.now)) }
 {
@@ -69,7 +71,7 @@ fn push_stores(stores: &[Store], out: &mut Vec<u64>) -> Result<(), NoMemory>
     Ok(())
 }
 
-/// Adds the numbers in a store.
+/// Appends the numbers in one store.
 fn push_store(store: &Store, out: &mut Vec<u64>) -> Result<(), NoMemory>
     ensures { OnOk result (out.new.items ≡ out.old.items ++ store_numbers (store_list store.now)) }
 {

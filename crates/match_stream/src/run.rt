@@ -17,7 +17,7 @@ use match_bindings::{Bind, in_order};
 use std::alloc::Global;
 use stix_times::Instant;
 
-/// A matcher while it runs.
+/// The running part of a matcher: all but its pattern and its ending.
 #[derive(Drop)]
 pub(crate) struct Run {
     pub alloc: Global,
@@ -30,11 +30,13 @@ pub(crate) struct Run {
 impl Run {
     ghost use Rattle.match_stream.specs.inner.Runs.{IsCleared, next_row, AreSteps, TookRow, IsOver, Passed};
 
-    /// Takes out what has expired at a time that isn't before the last row's. Takes no memory.
+    /// Removes what has expired at `now`. `Ending::OutOfOrder` where `now` is before the last row.
+    /// Takes no memory.
     pub fn clear(&mut self, now: Instant) -> Result<(), Ending>
         ensures out_of_order { (before time : ℤ) → (result ≡ Err (ending.OutOfOrder before time))
             ↔ ((self.old.last ≡ Some before) × (time ≡ now) × (time <ℤ before)) }
-        ensures not_over_limit { (number retained_limit : ℕ) → ¬ (result ≡ Err (ending.OverLimit number retained_limit)) }
+        ensures not_over_limit { (number retained_limit : ℕ)
+            → ¬ (result ≡ Err (ending.OverLimit number retained_limit)) }
         ensures cleared { OnOk result (IsCleared self.old self.new now) }
         ensures retained_limit { self.new.retained_limit ≡ self.old.retained_limit }
     {
@@ -47,7 +49,7 @@ impl Run {
         Ok(())
     }
 
-    /// Takes a row, and gives the binds that end there.
+    /// Takes a row, and answers the bindings that end there.
     pub fn take(
         &mut self,
         first: Instant,
@@ -57,10 +59,14 @@ impl Run {
         requires span { first ≤ℤ last }
         requires budget { self.old.rows + 1 < 2 ^ 64 }
         ensures in_order { (before now : ℤ) → ¬ (result ≡ Err (ending.OutOfOrder before now)) }
-        ensures over_limit { (number retained_limit : ℕ) → result ≡ Err (ending.OverLimit number retained_limit)
-            → (number ≡ self.old.rows + 1) × (retained_limit ≡ self.old.retained_limit) × IsOver self.old (next_row self.old.rows first last) truths.now }
-        ensures took { OnOk result (TookRow self.old self.new (next_row self.old.rows first last) truths.now) }
-        ensures binds { IfOk result (λ binds. AreSteps self.old (next_row self.old.rows first last) truths.now (map tree_of binds)) }
+        ensures over_limit { (number retained_limit : ℕ)
+            → result ≡ Err (ending.OverLimit number retained_limit)
+            → (number ≡ self.old.rows + 1) × (retained_limit ≡ self.old.retained_limit)
+            × IsOver self.old (next_row self.old.rows first last) truths.now }
+        ensures took { OnOk result (TookRow self.old self.new (next_row self.old.rows first last)
+            truths.now) }
+        ensures binds { IfOk result (λ binds. AreSteps self.old (next_row self.old.rows first last)
+            truths.now (map tree_of binds)) }
         ensures retained_limit { self.new.retained_limit ≡ self.old.retained_limit }
     {
         let number = self.rows + 1;
@@ -79,7 +85,8 @@ impl Run {
         }
     }
 
-    /// Takes so many rows at which nothing holds, the last of which has this last time. Takes no memory.
+    /// Takes `rows` rows at which no bracket holds. The last of them ends at `last`. Takes no
+    /// memory.
     pub fn pass(&mut self, rows: u64, last: Instant) -> Result<(), Ending>
         requires { self.old.rows + rows < 2 ^ 64 }
         ensures out_of_order { (before now : ℤ) → (result ≡ Err (ending.OutOfOrder before now))
@@ -97,11 +104,12 @@ impl Run {
         }
     }
 
-    /// The binds that end at a row, unless more is retained after it than the retained limit allows.
+    /// The bindings that end at a row. `Stop::OverLimit` where the limit is exceeded after it.
     fn answer(&mut self, row: &Row, truths: &[bool]) -> Result<Items<Bind>, Stop>
         requires span { row.now.first ≤ℤ row.now.last }
         ensures took { OnOk result (TookRow self.old self.new row.now truths.now) }
-        ensures binds { IfOk result (λ binds. AreSteps self.old row.now truths.now (map tree_of binds)) }
+        ensures binds { IfOk result (λ binds. AreSteps self.old row.now truths.now
+            (map tree_of binds)) }
         ensures over_limit { result ≡ Err stop.OverLimit → IsOver self.old row.now truths.now }
         ensures retained_limit { self.new.retained_limit ≡ self.old.retained_limit }
     {
@@ -118,9 +126,10 @@ impl Run {
     }
 }
 
-/// The binds alone.
+/// The bindings of some partial matches.
 fn binds_of(alloc: Global, held: Vec<PartialMatch>) -> Result<Vec<Bind>, NoMemory>
-    ensures { IfOk result (λ binds. map tree_of binds.items ≡ trees_in (partial_match_trees held.items)) }
+    ensures { IfOk result (λ binds. map tree_of binds.items
+        ≡ trees_in (partial_match_trees held.items)) }
 {
     let mut binds = Vec::with_capacity(alloc, held.len())?;
     for one in held {

@@ -19,7 +19,7 @@ use match_pruning::Window;
 use std::alloc::Global;
 use stix_times::Instant;
 
-/// The stores of a node that joins two sides.
+/// The stores of an `AND` or `FOLLOWEDBY`: what each side matched so far.
 #[derive(Drop)]
 pub(crate) struct Sides {
     pub left: Store,
@@ -29,10 +29,11 @@ pub(crate) struct Sides {
 }
 
 impl Sides {
-    /// Stores under these bounds that hold nothing, the right one after left the left where this is asked.
-    /// Takes no memory.
+    /// Empty stores under these qualifiers. `after_left` says that the right operand has to follow
+    /// the left. Takes no memory.
     pub fn new(alloc: Global, above: &Bounds, after_left: bool) -> Sides
-        ensures { side_stores result ≡ empty_sides (window_of above.now false) (window_of above.now after_left) }
+        ensures { side_stores result ≡ empty_sides (window_of above.now false)
+            (window_of above.now after_left) }
     {
         Sides {
             left: Store::new(alloc),
@@ -42,7 +43,7 @@ impl Sides {
         }
     }
 
-    /// Takes out what has expired, and leaves the rest in any order. Takes no memory.
+    /// Removes what has expired, and leaves the rest in any order. Takes no memory.
     #[inline(never)]
     pub fn clear(&mut self, now: Instant)
         ensures { AreSameSides (sides_kept now (side_stores self.old)) (side_stores self.new) }
@@ -51,12 +52,14 @@ impl Sides {
         self.right.clear(&self.right_window, now);
     }
 
-    /// Takes out what has expired, and counts what is left.
+    /// Removes what has expired, keeps the order, and charges the rest to the budget.
     #[inline(never)]
     pub fn expire(&mut self, now: Instant, budget: &mut Budget) -> Result<(), Stop>
         ensures kept { OnOk result (side_stores self.new ≡ sides_kept now (side_stores self.old)) }
-        ensures counted { OnOk result (budget.new.left + sides_count (sides_kept now (side_stores self.old)) ≡ budget.old.left) }
-        ensures over_limit { result ≡ Err stop.OverLimit → budget.old.left < sides_count (sides_kept now (side_stores self.old)) }
+        ensures counted { OnOk result (budget.new.left
+            + sides_count (sides_kept now (side_stores self.old)) ≡ budget.old.left) }
+        ensures over_limit { result ≡ Err stop.OverLimit
+            → budget.old.left < sides_count (sides_kept now (side_stores self.old)) }
     {
         self.left.expire(&self.left_window, now);
         self.right.expire(&self.right_window, now);
@@ -65,7 +68,8 @@ impl Sides {
         Ok(())
     }
 
-    /// What is new where the sides are joined, and needed, given what is new on each; this is held then.
+    /// Joins what is new on each side with what is stored on the other, filtered; then stores what
+    /// is new.
     pub fn join(
         &mut self,
         alloc: Global,
@@ -75,11 +79,16 @@ impl Sides {
         join_filter: &JoinFilter<'_>,
     ) -> Result<Vec<PartialMatch>, Stop>
         ensures new { IfOk result (λ new. partial_match_trees new.items
-            ≡ join_filtered join_filter.now (joins_both join (side_stores self.old) (partial_match_trees new_left.items) (partial_match_trees new_right.items))) }
+            ≡ join_filtered join_filter.now
+            (joins_both join (side_stores self.old) (partial_match_trees new_left.items)
+            (partial_match_trees new_right.items))) }
         ensures kept { OnOk result (side_stores self.new
-            ≡ sides_stored join_filter.now.time (side_stores self.old) (partial_match_trees new_left.items) (partial_match_trees new_right.items)) }
+            ≡ sides_stored join_filter.now.time (side_stores self.old)
+            (partial_match_trees new_left.items) (partial_match_trees new_right.items)) }
         ensures over_limit { result ≡ Err stop.OverLimit → join_filter.now.budget
-            < length (join_filtered join_filter.now (joins_both join (side_stores self.old) (partial_match_trees new_left.items) (partial_match_trees new_right.items))) }
+            < length (join_filtered join_filter.now
+            (joins_both join (side_stores self.old) (partial_match_trees new_left.items)
+            (partial_match_trees new_right.items))) }
     {
         let mut new = Vec::new(alloc);
         join.join(alloc, &new_left, &self.right.held, join_filter, &mut new)?;

@@ -1,6 +1,11 @@
-//! Which things of a side a first thing is joined with: told of many at once, by what they have in common.
-//! Where most of them share an observation with it, to try each alone would take their number times that of
-//! the first ones.
+//! A skip index: the right operands sorted by their observation numbers, with block summaries at
+//! several sizes, so that a query skips whole blocks that can't join.
+//!
+//! Operands with common observations are neighbors in this order, so a block often shares an
+//! observation with the query as a whole. Blocks have 4, 16, 64 .. keys. At each key the query
+//! tries the largest block that starts there first. A block is skipped only where its summary
+//! excludes each of its keys (see `block`), so no operand that joins is missed. Where many operands
+//! overlap with each left one, this avoids the full product of a nested-loop join.
 
 ghost use Rattle.std.specs.Prelude.{◌≡◌, ◌⊎◌, ◌≤◌, ◌<◌, ℕ, List, length, IfOk};
 ghost use Rattle.std.specs.List.{AllWithin, Contains};
@@ -18,29 +23,30 @@ use crate::query::Query;
 use flow_values::NoMemory;
 use std::alloc::Global;
 
-/// So many keys are a block, and so many blocks one of the next size.
+/// A block has this many blocks of the next smaller size, and the smallest this many keys.
 const STEP: usize = 4;
 
-/// Where fewer things than these are joined, or with fewer, each is tried alone.
+/// Lists shorter than this are joined pair by pair, without an index.
 const FEW: usize = 64;
 
-/// The things of a side by their keys, in an order in which those that bind the same follow one another.
+/// The index of a list of right operands.
 #[derive(Drop)]
 pub(crate) struct SkipIndex {
-    /// None, where each is tried alone.
+    /// Sorted by their numbers. Empty where the operands are tried one by one.
     pub keys: Vec<Key>,
-    /// The smallest blocks first.
+    /// The blocks of each size, the smallest first.
     pub levels: Vec<Blocks>,
 }
 
 impl SkipIndex {
-    /// That of some things with which so many others are joined.
+    /// The index of the right operands, for a join with `firsts` left ones. O(n log n).
     pub fn new(
         alloc: Global,
         firsts: usize,
         candidates: &[PartialMatch],
     ) -> Result<SkipIndex, NoMemory>
-        ensures { IfOk result (λ skip_index. 0 < length skip_index.keys.items → IsSkipIndexOf candidates.now skip_index) }
+        ensures { IfOk result (λ skip_index. 0 < length skip_index.keys.items
+            → IsSkipIndexOf candidates.now skip_index) }
     {
         if firsts < FEW || candidates.len() < FEW {
             return Ok(SkipIndex {
@@ -53,7 +59,8 @@ impl SkipIndex {
         Ok(SkipIndex { keys, levels })
     }
 
-    /// The places, ascending, of the things with which a first thing may be joined to one that begins in time.
+    /// The indices, ascending, of the right operands that may join a left one to a result which
+    /// begins in time. All that do are among them.
     pub fn places(
         &self,
         alloc: Global,
@@ -62,8 +69,10 @@ impl SkipIndex {
         first: &PartialMatch,
     ) -> Result<Vec<usize>, NoMemory>
         requires levels { AreLevelsOf self.now.keys.items self.now.levels.items }
-        ensures { IfOk result (λ places. (candidates : List PartialMatch) → AreKeysOf candidates self.now.keys.items
-            → AreTried earliest_start.now.start join (partial_match_tree first.now) candidates places.items) }
+        ensures { IfOk result (λ places. (candidates : List PartialMatch)
+            → AreKeysOf candidates self.now.keys.items
+            → AreTried earliest_start.now.start join (partial_match_tree first.now) candidates
+            places.items) }
     {
         let query = Query::new(alloc, join, earliest_start, first)?;
         let mut places = self.found(alloc, &query)?;
@@ -71,7 +80,7 @@ impl SkipIndex {
         Ok(places)
     }
 
-    /// The places of the things that a query doesn't pass.
+    /// The indices of the operands that the query doesn't exclude, in key order.
     fn found(&self, alloc: Global, query: &Query) -> Result<Vec<usize>, NoMemory>
         requires levels { AreLevelsOf self.now.keys.items self.now.levels.items }
         ensures others { IfOk result (λ places. (key : Key) → Contains self.now.keys.items key
@@ -95,11 +104,12 @@ impl SkipIndex {
         Ok(places)
     }
 
-    /// The place up to which a query passes all keys from this one on: the place itself where that isn't
-    /// seen at once.
+    /// The end of the largest block that starts at `at` and that the query excludes; `at` itself if
+    /// there is none.
     fn passed(&self, query: &Query, at: usize) -> usize
         requires levels { AreLevelsOf self.now.keys.items self.now.levels.items }
-        ensures { at < result → (result ≤ length self.now.keys.items) × AllWithin (IsExcluded query.now) self.now.keys.items at result }
+        ensures { at < result → (result ≤ length self.now.keys.items)
+            × AllWithin (IsExcluded query.now) self.now.keys.items at result }
     {
         let mut levels = self.levels.as_slice();
         'levels: while let Some((largest, smaller)) = levels.split_last() {
@@ -114,7 +124,7 @@ impl SkipIndex {
     }
 }
 
-/// The keys of some things, in the order of their numbers.
+/// The keys of the operands, sorted by their numbers.
 fn sorted_keys(alloc: Global, candidates: &[PartialMatch]) -> Result<Vec<Key>, NoMemory>
     ensures { IfOk result (λ keys. AreKeysOf candidates.now keys.items) }
 {
@@ -127,7 +137,7 @@ fn sorted_keys(alloc: Global, candidates: &[PartialMatch]) -> Result<Vec<Key>, N
     Ok(keys)
 }
 
-/// The blocks of some keys, of each size that is less than all.
+/// The blocks of each size below the number of keys.
 fn levels(alloc: Global, keys: &[Key]) -> Result<Vec<Blocks>, NoMemory>
     ensures { IfOk result (λ levels. AreLevelsOf keys.now levels.items) }
 {

@@ -4,12 +4,12 @@ ghost use Rattle.match_stream.specs.declared.stop.Stop.TheVariants as stop;
 use flow_values::NoMemory;
 use std::alloc::{AllocError, AllocFailed};
 
-/// Why a row isn't taken to its end.
+/// Why a row isn't finished.
 #[derive(Clone, Copy, Debug)]
 pub(crate) enum Stop {
-    /// More would be retained than the retained limit allows.
+    /// The matcher would hold more partial matches than its limit.
     OverLimit,
-    /// There was no memory.
+    /// Out of memory.
     OutOfMemory,
 }
 

@@ -16,19 +16,19 @@ use match_pruning::{Window, expired};
 use std::alloc::Global;
 use stix_times::Instant;
 
-/// What is held for a side of a node, or at a level of a `REPEATS`.
+/// The partial matches stored for one side of a node, or for one level of a `REPEATS`.
 #[derive(Drop)]
 pub(crate) struct Store {
     pub held: Vec<PartialMatch>,
-    /// So many of the first things are a heap, in which what expires first stands first. The others came
-    /// after the last time that something could expire.
+    /// The first `heaped` are a 4-ary heap by earliest time, so that what expires first is at the
+    /// root. The others were added since the last expiry, and are sifted in at the next one.
     pub heaped: usize,
     ghost heap: { IsHeap held.items heaped } by { Prim.hlevel props },
     ghost within: { heaped ≤ length held.items },
 }
 
 impl Store {
-    /// A store without things. Takes no memory.
+    /// An empty store. Takes no memory.
     pub fn new(alloc: Global) -> Store
         ensures { partial_match_trees result.held.items ≡ [] }
     {
@@ -38,10 +38,11 @@ impl Store {
         }
     }
 
-    /// Takes out what has expired, and leaves the rest in any order. What stays costs nothing, and what
-    /// goes no more than the logarithm of what is held. Takes no memory.
+    /// Removes what has expired, and leaves the rest in any order. O(log n) for each removed and
+    /// each recently added element; what stays costs nothing. Takes no memory.
     pub fn clear(&mut self, window: &Window, now: Instant)
-        ensures { AreSameMultiset (kept window.now now (partial_match_trees self.old.held.items)) (partial_match_trees self.new.held.items) }
+        ensures { AreSameMultiset (kept window.now now (partial_match_trees self.old.held.items))
+            (partial_match_trees self.new.held.items) }
     {
         self.augment();
         while let Some(first) = self.held.first() {
@@ -52,9 +53,10 @@ impl Store {
         }
     }
 
-    /// Makes one heap of all things.
+    /// Sifts the elements added since the last expiry into the heap.
     fn augment(&mut self)
-        ensures same { AreSameMultiset (partial_match_trees self.old.held.items) (partial_match_trees self.new.held.items) }
+        ensures same { AreSameMultiset (partial_match_trees self.old.held.items)
+            (partial_match_trees self.new.held.items) }
         ensures heaped { self.new.heaped ≡ length self.new.held.items }
     {
         while self.heaped < self.held.len() {
@@ -63,11 +65,14 @@ impl Store {
         }
     }
 
-    /// Takes out the first thing, where all are one heap.
+    /// Removes the root, where all elements are in the heap.
     fn drop_first(&mut self)
         requires some { 0 < length self.old.held.items }
         requires heaped { self.old.heaped ≡ length self.old.held.items }
-        ensures others { (d : PartialMatch) → AreSameMultiset (partial_match_trees self.old.held.items) (partial_match_tree (slice_index_or self.old.held.items 0 d) ∷ partial_match_trees self.new.held.items) }
+        ensures others { (d : PartialMatch)
+            → AreSameMultiset (partial_match_trees self.old.held.items)
+            (partial_match_tree (slice_index_or self.old.held.items 0 d)
+            ∷ partial_match_trees self.new.held.items) }
         ensures heaped { self.new.heaped ≡ length self.new.held.items }
         ensures fewer { length self.new.held.items < length self.old.held.items }
     {
@@ -76,9 +81,10 @@ impl Store {
         self.heaped = self.held.len();
     }
 
-    /// Takes out what has expired. The rest stays in its order.
+    /// Removes what has expired, and keeps the order of the rest.
     pub fn expire(&mut self, window: &Window, now: Instant)
-        ensures { partial_match_trees self.new.held.items ≡ kept window.now now (partial_match_trees self.old.held.items) }
+        ensures { partial_match_trees self.new.held.items
+            ≡ kept window.now now (partial_match_trees self.old.held.items) }
     {
         if self.is_cleared(window, now) {
             return;
@@ -87,9 +93,11 @@ impl Store {
         keep_retained(&mut self.held, window, now);
     }
 
-    /// Whether it is seen at once that nothing has expired.
+    /// Whether nothing has expired, as far as a look at the root can tell. Only true carries a
+    /// promise.
     fn is_cleared(&self, window: &Window, now: Instant) -> bool
-        ensures { result ≡ true → partial_match_trees self.now.held.items ≡ kept window.now now (partial_match_trees self.now.held.items) }
+        ensures { result ≡ true → partial_match_trees self.now.held.items
+            ≡ kept window.now now (partial_match_trees self.now.held.items) }
     {
         if self.heaped < self.held.len() {
             return false;
@@ -100,14 +108,16 @@ impl Store {
         }
     }
 
-    /// Adds what hasn't expired.
+    /// Appends the new partial matches that haven't expired.
     pub fn admit(
         &mut self,
         new: Vec<PartialMatch>,
         window: &Window,
         now: Instant,
     ) -> Result<(), NoMemory>
-        ensures { OnOk result (partial_match_trees self.new.held.items ≡ partial_match_trees self.old.held.items ++ kept window.now now (partial_match_trees new.items)) }
+        ensures { OnOk result (partial_match_trees self.new.held.items
+            ≡ partial_match_trees self.old.held.items
+            ++ kept window.now now (partial_match_trees new.items)) }
     {
         let mut retained = new;
         keep_retained(&mut retained, window, now);
@@ -116,14 +126,15 @@ impl Store {
     }
 }
 
-/// Takes out of some things those that have expired. The rest stays in its order.
+/// Removes the expired ones from a list, and keeps the order of the rest.
 fn keep_retained(held: &mut Vec<PartialMatch>, window: &Window, now: Instant)
-    ensures { partial_match_trees held.new.items ≡ kept window.now now (partial_match_trees held.old.items) }
+    ensures { partial_match_trees held.new.items
+        ≡ kept window.now now (partial_match_trees held.old.items) }
 {
     held.retain(|partial_match| is_retained(window, partial_match.earliest, now));
 }
 
-/// The window of a store under these bounds.
+/// The window of a store under these qualifiers.
 pub(crate) fn store_window(above: &Bounds, after_left: bool) -> Window
     ensures { result ≡ window_of above.now after_left }
 {
@@ -135,7 +146,7 @@ pub(crate) fn store_window(above: &Bounds, after_left: bool) -> Window
     }
 }
 
-/// Whether a thing with this earliest time hasn't expired.
+/// Whether a partial match that begins at `earliest` hasn't expired.
 pub(crate) fn is_retained(window: &Window, earliest: Instant, now: Instant) -> bool
     ensures { result ≡ retains window.now earliest now }
 {

@@ -1,5 +1,6 @@
--- For private clauses: the plain program as lists. What doesn't fit the bounds above a part is left
--- out at once. The lemmas of proofs/ say that what is candidates for a pattern is its bindings, each once.
+-- For private clauses: the enumeration as a plain functional program. What exceeds the limits above
+-- a part is dropped at once. Lemmas in proofs/ show that the candidates of a pattern are its
+-- bindings, each once.
 use Rattle.std.specs.Prelude.{ℕ, zero, suc, nat_lt, max, ℤ, int_le, int_lt, Bool, true, ◌&&◌, cond, List, [], ◌∷◌, ◌++◌, map, filter, Option, Some, None}
 use Rattle.std.specs.Int.{int_min, int_max}
 use Rattle.std.specs.List.{flat_map}
@@ -19,7 +20,7 @@ use Rattle.match_bindings.specs.Test.{is_binding}
 abbrev pub span_of : Observed → BindTree → Span
 span_of o x = record { earliest = earliest o.first x; latest = latest o.last x; greatest = greatest x }
 
--- those of two trees together
+-- the span of two trees together
 abbrev pub joined_span : Span → Span → Span
 joined_span a b = record { earliest = int_min a.earliest b.earliest; latest = int_max a.latest b.latest; greatest = max a.greatest b.greatest }
 
@@ -45,7 +46,7 @@ abbrev pub before_stop : Option ℤ → Span → Bool
 before_stop None s = true
 before_stop (Some y) s = int_lt s.latest y
 
--- whether a span lies in all bounds
+-- whether a span respects all limits
 abbrev pub fits : Bounds → Span → Bool
 fits w s = in_seconds w.seconds s && (from_start w.start s && before_stop w.stop s)
 
@@ -66,7 +67,7 @@ spanned_trees helds = map spanned_tree helds
 abbrev pub trees_of : List SpannedTree → List BindTree
 trees_of xs = map (λ x. x.tree) xs
 
--- the same thing under one constructor
+-- a spanned tree under one constructor
 abbrev pub spanned_with : (BindTree → BindTree) → SpannedTree → SpannedTree
 spanned_with f a = record { tree = f a.tree; span = a.span }
 
@@ -75,28 +76,28 @@ joined_tree join.Both a b = Pair a b
 joined_tree join.Then a b = Pair a b
 joined_tree join.Repeats a b = add_part a b
 
--- whether two spans stand in the order that a join asks
+-- whether two spans are in the order that an operator requires
 abbrev pub admits : Join → Span → Span → Bool
 admits join.Both a b = true
 admits join.Then a b = int_le a.latest b.earliest
 admits join.Repeats a b = nat_lt a.greatest b.greatest
 
--- whether two spanned_trees are joined
+-- whether two spanned trees join
 abbrev pub may_join : Join → Bounds → SpannedTree → SpannedTree → Bool
 may_join j w a b = (admits j a.span b.span && fits w (joined_span a.span b.span)) && disjoint a.tree b.tree
 
 abbrev pub joined_spanned : Join → SpannedTree → SpannedTree → SpannedTree
 joined_spanned j a b = record { tree = joined_tree j a.tree b.tree; span = joined_span a.span b.span }
 
--- a thing with each of ys that it is joined with
+-- one spanned tree joined with each of ys that it joins
 abbrev pub join_row : Join → Bounds → SpannedTree → List SpannedTree → List SpannedTree
 join_row j w x ys = map (joined_spanned j x) (filter (may_join j w x) ys)
 
--- each of xs with each of ys that it is joined with
+-- each of xs joined with each of ys that it joins
 abbrev pub joins : Join → Bounds → List SpannedTree → List SpannedTree → List SpannedTree
 joins j w xs ys = flat_map (λ x. join_row j w x ys) xs
 
--- an observation, where the test passes and it fits
+-- an observation, where the test passes and it is within the limits
 abbrev pub one_if : Bool → Bounds → SpannedTree → List SpannedTree
 one_if b w x = cond (b && fits w x.span) (x ∷ []) []
 
@@ -111,7 +112,7 @@ repeats_of w parts zero = []
 repeats_of w parts (suc zero) = map (spanned_with Single) parts
 repeats_of w parts (suc (suc n)) = joins join.Repeats w (repeats_of w parts (suc n)) parts
 
--- what is candidates for a pattern under bounds in the first n observations
+-- the candidates of a pattern within these limits, among the first n observations
 abbrev pub candidates : Observed → ℕ → Bounds → NumberedPattern → List SpannedTree
 candidates o n w (Leaf k) = ones o w k n
 candidates o n w (Both p q) = joins join.Both w (candidates o n w p) (candidates o n w q)
@@ -121,6 +122,6 @@ candidates o n w (Within p x) = candidates o n (within w x) p
 candidates o n w (Between p x y) = candidates o n (between w x y) p
 candidates o n w (Repeats p j) = repeats_of w (candidates o n w p) j
 
--- the span of a binding; none of what is no binding
+-- the span of a binding; None for any other tree
 abbrev pub verified : Observed → NumberedPattern → BindTree → Option Span
 verified o p x = span_if (is_binding o p x) (span_of o x)

@@ -1,4 +1,4 @@
--- For private clauses: which kind of bind a tree is of.
+-- For private clauses: the kind of a tree.
 use Rattle.std.specs.Prelude.{Bool, true, false}
 use Rattle.match_bindings.specs.BindTree.{BindTree, One, Pair, Empty, Single, More}
 

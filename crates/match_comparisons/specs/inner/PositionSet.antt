@@ -4,10 +4,10 @@ use Rattle.std.specs.BTreeSet.{contains}
 use Rattle.std.specs.Ordering.{nat_cmp}
 use Rattle.match_comparisons.specs.declared.position_set.PositionSet.{PositionSet}
 
--- the position is among them
+-- the position is in the set
 abbrev pub IsIn : PositionSet → ℕ → Type 0
 IsIn position_set at = IsTrue (contains nat_cmp position_set.set at)
 
--- they are those of the list
+-- the set has the positions of the list
 abbrev pub AreOf : List ℕ → PositionSet → Type 0
 AreOf list position_set = (at : ℕ) → IsIn position_set at ↔ Contains list at

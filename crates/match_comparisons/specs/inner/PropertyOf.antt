@@ -1,4 +1,4 @@
--- For private clauses: the property of the object at a place.
+-- For private clauses: the property of the object at a position.
 use Rattle.std.specs.Prelude.{ℕ, List, Option, slice_get, option_and_then}
 use Rattle.serde_json.specs.Data.{Data}
 use Rattle.serde_json.specs.Find.{get}

@@ -1,21 +1,22 @@
--- For private clauses: the rows of truths of some observations, to which those of a pattern are added.
+-- For private clauses: rows of truths for some observations, to which those of a pattern are
+-- appended.
 use Rattle.std.specs.Prelude.{◌≡◌, ⊤, Bool, List, [], ◌∷◌, ◌++◌}
 use Rattle.serde_json.specs.Data.{Data}
 use Rattle.stix_bundles.specs.declared.observation.Observation.{Observation}
 use Rattle.pattern_types.specs.PlainPattern.{PlainPattern}
 use Rattle.match_comparisons.specs.Truths.{AreTruths}
 
--- truths of which the fact holds are added at the end of a row
+-- truths that satisfy AreOwn are appended to a row
 abbrev pub Adds : (List Bool → Type 0) → List Bool → List Bool → Type 0
 Adds AreOwn old new = (own : List Bool) × (new ≡ old ++ own) × AreOwn own
 
--- and so to the row of each observation
+-- the same for the row of each observation
 abbrev pub AddsToEach : (Observation → List Bool → Type 0) → List Observation → List (List Bool) → List (List Bool) → Type 0
 AddsToEach AreOwn [] [] [] = ⊤
 AddsToEach AreOwn (observation ∷ observations) (old ∷ olds) (new ∷ news) = Adds (AreOwn observation) old new × AddsToEach AreOwn observations olds news
 AddsToEach AreOwn observations olds news = ⊥
 
--- the truths of a pattern are added to the row of each observation
+-- the truths of a pattern are appended to the row of each observation
 abbrev pub AddsTruths : List Data → PlainPattern → List Observation → List (List Bool) → List (List Bool) → Type 0
 AddsTruths objects pattern observations olds news =
     AddsToEach (λ (observation : Observation) (own : List Bool). AreTruths objects observation.roots pattern own) observations olds news

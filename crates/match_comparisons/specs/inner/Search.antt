@@ -1,4 +1,5 @@
--- For private clauses: a search for a value that a path reaches and that meets a check, and that its findings are right.
+-- For private clauses: a search for a value that a path reaches and that meets a check, and the
+-- soundness of its memo.
 use Rattle.std.specs.Prelude.{◌≡◌, false, ℕ, List, ◌∷◌, ◌++◌, length, Contains, Option, Some, None, slice_get, option_map}
 use Rattle.std.specs.Borrow.{Bor}
 use Rattle.serde_json.specs.Data.{Data}
@@ -12,11 +13,11 @@ use Rattle.match_comparisons.specs.declared.search.Search.{Search}
 use Rattle.match_comparisons.specs.declared.memo.SearchMemo.{SearchMemo}
 use Rattle.match_comparisons.specs.inner.VisitSet.{Has}
 
--- the name that a lent text is
+-- a borrowed name as plain data
 abbrev pub name_of : Option (Bor (List ℕ)) → Option (List ℕ)
 name_of last = option_map (λ (name : Bor (List ℕ)). name.now) last
 
--- the value is one that is searched for
+-- the value is one that the search looks for
 abbrev pub IsTarget : Search → Data → Type 0
 IsTarget search value = NegatedIf search.negated (Meets (name_of search.last) value search.check.now)
 
@@ -24,11 +25,11 @@ IsTarget search value = NegatedIf search.negated (Meets (name_of search.last) va
 abbrev pub Finds : Search → Option (List ℕ) → List Step → Data → Type 0
 Finds search last steps value = (found : Data) × Reaches (data_in search.bundle.now) last steps value found × IsTarget search found
 
--- from one of the values
+-- the same from one of the values
 abbrev pub SomeFinds : Search → Option (List ℕ) → List Step → List Data → Type 0
 SomeFinds search last steps values = (value : Data) × Contains values value × Finds search last steps value
 
--- from the object at the place
+-- the same from the object at the position
 abbrev pub FindsAt : Search → List Step → ℕ → Type 0
 FindsAt search steps at = (object : Data) × (slice_get (data_in search.bundle.now) at ≡ Some object) × Finds search None steps object
 
@@ -36,22 +37,22 @@ FindsAt search steps at = (object : Data) × (slice_get (data_in search.bundle.n
 abbrev pub AreLast : Search → List Step → Type 0
 AreLast search steps = (front : List Step) × (search.steps.now ≡ front ++ steps)
 
--- from the object of each dead end, a step and those that are left behind it reach no value that is searched for, and from
--- that of each live one they do
+-- each finding of the memo is correct: from a negative entry the step and those left after it reach
+-- no target, from a positive one they do
 pub record IsSoundMemo (search : Search) (memo : SearchMemo) : Type 0 where
   pub negative : (step : Step) (rest : List Step) (at : ℕ) → AreLast search (step ∷ rest)
       → Has memo.negative (length rest) at → ¬ FindsAt search (step ∷ rest) at
   pub positive : (step : Step) (rest : List Step) (at : ℕ) → AreLast search (step ∷ rest)
       → Has memo.positive (length rest) at → FindsAt search (step ∷ rest) at
 
--- the search stands before these last steps of its path, and its findings are right
+-- the search is before these last steps of its path, and its memo is sound
 pub record IsSearchState (search : Search) (steps : List Step) (memo : SearchMemo) : Type 0 where
   pub sound : IsSoundCheck search.check.now
   pub last : AreLast search steps
   pub right : IsSoundMemo search memo
 
--- it is the search that a test asks for: NOT EXISTS searches for any value, and another test with NOT for one that doesn't meet
--- its check
+-- the search of a comparison: NOT EXISTS searches for any value, any other test with NOT for one
+-- that doesn't meet its check
 pub record IsSearchOf (test : Test) (search : Search) : Type 0 where
   pub steps : search.steps.now ≡ test.path.steps
   pub last : name_of search.last ≡ last_of test.path

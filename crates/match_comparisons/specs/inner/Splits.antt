@@ -1,14 +1,14 @@
--- For private clauses: positions that are asked for, by whether a fact holds of them.
+-- For private clauses: a partition of positions by whether a fact holds of them.
 use Rattle.std.specs.Prelude.{◌≡◌, ◌⊎◌, ℕ, List, [], ◌∷◌, ◌++◌, Contains, Bool, true, false}
 use Rattle.match_comparisons.specs.declared.split.Split.{Split}
 
--- those that are asked for are these of which the fact holds, and those of which it doesn't
+-- the positions for which the fact holds, and those for which it doesn't
 pub record Splits (Fact : ℕ → Type 0) (asked : List ℕ) (split : Split) : Type 0 where
   pub held : (at : ℕ) → Contains split.held.items at → Contains asked at × Fact at
   pub failed : (at : ℕ) → Contains split.failed.items at → Contains asked at × (¬ Fact at)
   pub all : (at : ℕ) → Contains asked at → Contains split.held.items at ⊎ Contains split.failed.items at
 
--- one position is added, to those of which the fact holds or to the others
+-- one position is added, to either side
 abbrev pub Adds : Split → Split → ℕ → Bool → Type 0
 Adds old new at true = (new.held.items ≡ old.held.items ++ at ∷ []) × (new.failed.items ≡ old.failed.items)
 Adds old new at false = (new.held.items ≡ old.held.items) × (new.failed.items ≡ old.failed.items ++ at ∷ [])

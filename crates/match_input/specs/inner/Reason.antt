@@ -1,4 +1,4 @@
--- For private clauses: a refusal in its parts, which are lent.
+-- For private clauses: a refusal in parts, borrowed.
 use Rattle.std.specs.Prelude.{ℕ, List, [], ◌∷◌, ◌++◌, Option, Some, None, codes, decimal}
 use Rattle.stix_objects.specs.RuleName.{rule_name}
 use Rattle.match_input.specs.declared.reason.Reason.{Reason}

@@ -1,4 +1,4 @@
--- For private clauses: what taking the next line says of the lines that come yet, before the line is judged.
+-- For private clauses: taking the next line, before it is parsed.
 use Rattle.std.specs.Prelude.{◌≡◌, ⊤, ℕ, ◌*◌, ◌≤◌, List, Result, Ok, Err, Option, Some, None, option_map, IfSome}
 use Rattle.flow_lines.specs.Lines.{refused, line_then}
 use Rattle.flow_lines.specs.declared.line.Line.{Line}
@@ -17,7 +17,7 @@ use Rattle.match_input.specs.Reading.{IsTooLong}
 use Rattle.match_input.specs.declared.progress.Progress.{Progress}
 use Rattle.match_input.specs.Ahead.{ReaderState, ahead, Moves, TakesLittle, BreaksOff, ComesToEnd}
 
--- the end for a refusal of the lines, and for one of an input that is read whole
+-- the end for a refused line, and for a refused input in Mode::Whole
 abbrev pub end_of_line : LineRefusal → ReadEnd
 end_of_line refusal.Fault = ReadFault
 end_of_line (refusal.LineTooLong number) = Input number rule.LineTooLong
@@ -29,14 +29,14 @@ end_of_whole whole.Fault = ReadFault
 end_of_whole whole.TooLong = Input 1 rule.InputTooLong
 end_of_whole whole.NoMemory = NoMemory
 
--- the first of the lines that came yet is given, and the others come yet
+-- the first of the remaining lines is returned, and the others remain
 pub record GivesBytes (before after : Stage) (left left_after : Option (List ℕ)) (number : ℕ) (bytes : List ℕ) : Type 0 where
   pub line : ahead before left ≡ option_map (λ later. line_then number bytes later) (ahead after left_after)
   pub moves : Moves number before after left left_after
-  -- where the line is refused yet
+  -- where the line may still be refused
   pub little : TakesLittle before number left left_after
 
--- the first of the lines that came yet is too long, or the input is with it
+-- the first of the remaining lines is too long, or makes the input too long
 pub record IsTooLongAhead (before : Stage) (left left_after : Option (List ℕ)) (line : ℕ) (why : InputRule) : Type 0 where
   pub refused : IfSome (ahead before left) (λ lines. (refusal : LineRefusal) × (lines ≡ refused refusal) × IsTooLong refusal line why)
   pub little : TakesLittle before line left left_after
@@ -49,11 +49,11 @@ AnswersTurn before after left left_after (Err ReadFault) = BreaksOff before left
 AnswersTurn before after left left_after (Err HasEnded) = before ≡ Ended
 AnswersTurn before after left left_after (Err NoMemory) = ⊤
 
--- what contracts see of a reader
+-- the observable state of a reader
 abbrev pub state_of : Progress → ReaderState
 state_of progress = record { stage = progress.stage; observations = progress.observations; last = progress.last }
 
--- no line was refused, and so few observations were given, for the bytes of the lines that went by
+-- no line was refused, and the number of observations is bounded by the bytes consumed
 abbrev pub AreFew : Stage → ℕ → Type 0
 AreFew (Lines lines) observations = (lines.refusal ≡ None) × (observations ≤ lines.given * MAX_OBJECTS)
 AreFew Whole observations = observations ≡ 0

@@ -14,7 +14,7 @@ end_of_read read.ReadFault = ReadFault
 end_of_read read.Ended = NoMemory
 end_of_read read.NoMemory = NoMemory
 
--- what a matcher may answer that hasn't ended, where times don't fall
+-- what a running matcher may answer to rows in order
 abbrev pub MayEnd : MatchRefusal → Type 0
 MayEnd (refusal.Stopped (ending.OverLimit number retained_limit)) = ⊤
 MayEnd (refusal.Stopped (ending.OutOfOrder last now)) = ⊥
@@ -27,7 +27,7 @@ end_of_match (refusal.Stopped (ending.OutOfOrder last now)) = NoMemory
 end_of_match (refusal.Stopped ending.NoMemory) = NoMemory
 end_of_match (refusal.Ended before) = NoMemory
 
--- memory ran out, or a write failed: such an end comes in the middle of lines
+-- out of memory, or a failed write: such an end comes in the middle of lines
 abbrev pub CutsLines : MatchEnd → Type 0
 CutsLines end = (end ≡ NoMemory) ⊎ (end ≡ WriteFault)
 

@@ -24,37 +24,38 @@ use Rattle.match_run.specs.Matching.{ReadsInput, BeganInTime}
 use Rattle.match_run.specs.inner.Rows.{IsAfter}
 use Rattle.match_run.specs.declared.tally.Tally.{Tally}
 
--- where the reader stands, by how the input is cut: an input that is read whole is one bundle
+-- the state of the reader, by the mode: in Mode::Whole the input is one bundle
 abbrev pub IsStageOf : Mode → Stage → List BundleOf → Option (List ℕ) → Option (List ℕ) → Type 0
 IsStageOf Lines (stage.Lines lines) bundles first left = (lines.refusal ≡ None) × AccountsFor lines_start lines first left × (lines.given ≤ MAX_INPUT)
 IsStageOf WholeInput stage.Whole bundles first left = (left ≡ first) × (bundles ≡ [])
 IsStageOf WholeInput stage.AtEnd bundles first left = IsAtEnd left × TakesAtMost (MAX_WHOLE_INPUT + MAX_READ) first left
 IsStageOf _ _ bundles first left = ⊥
 
--- the last read began before the line of the last bundle had come whole; before the first bundle nothing was read
+-- the last read began before the line of the last bundle was complete; before the first bundle
+-- nothing was read
 abbrev pub IsInTime : Mode → Stage → Option (List ℕ) → Option (List ℕ) → Type 0
 IsInTime Lines (stage.Lines lines) first began = (lines ≡ lines_start) ⊎ BeganInTime Lines lines.count first began
 IsInTime WholeInput stage.Whole first began = ⊤
 IsInTime WholeInput stage.AtEnd first began = IsAtEnd began
 IsInTime _ _ first began = ⊥
 
--- how many turns may come yet
+-- how many iterations may follow
 abbrev pub turns_left : Stage → ℕ
 turns_left (stage.Lines lines) = MAX_INPUT - lines.given
 turns_left stage.Whole = 1
 turns_left stage.AtEnd = 0
 turns_left stage.Ended = 0
 
--- what comes yet is read so
+-- the reading of what remains
 abbrev pub ReadsOn : ReaderState → Option (List ℕ) → List BundleOf → InputEnd → Type 0
 ReadsOn reader left bundles end = IfSome (ahead reader.stage left) (λ lines. Reads reader.last (next_number reader) lines bundles end)
 
--- these bundles, and behind them what comes yet
+-- these bundles, followed by what remains
 abbrev pub IsRest : ReaderState → Option (List ℕ) → List BundleOf → List BundleOf → InputEnd → Type 0
 IsRest reader left bundles all end = IfSome (ahead reader.stage left) (λ lines. (later : List BundleOf) × (all ≡ bundles ++ later)
     × Reads reader.last (next_number reader) lines later end)
 
--- the bundles so far are read from the input, and whatever it is read as, they come first
+-- the bundles so far were read from the input, and come first in any reading of it
 pub record HasRead (mode : Mode) (first : Option (List ℕ)) (reader : ReaderState) (left : Option (List ℕ)) (bundles : List BundleOf) : Type 0 where
   pub forward : (more : List BundleOf) (end : InputEnd) → ReadsOn reader left more end → ReadsInput mode first (bundles ++ more) end
   pub backward : (all : List BundleOf) (end : InputEnd) → ReadsInput mode first all end → IsRest reader left bundles all end

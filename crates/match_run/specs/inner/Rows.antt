@@ -1,4 +1,5 @@
--- For private clauses: what the observations of one bundle add to a log, to what was counted, and to the text.
+-- For private clauses: what the observations of one bundle add to a log, to the counts, and to the
+-- output.
 use Rattle.std.specs.Prelude.{◌≡◌, ⊤, ℕ, zero, suc, ◌+◌, ◌*◌, ◌^◌, ◌≤◌, ℤ, ◌≤ℤ◌, Bool, List, [], ◌∷◌, ◌++◌, length, take, drop, Option, Some}
 use Rattle.serde_json.specs.Data.{Data}
 use Rattle.stix_bundles.specs.declared.observation.Observation.{Observation}
@@ -28,7 +29,7 @@ use Rattle.match_run.specs.declared.match_end.MatchEnd.TheVariants.{Done, Input,
 abbrev pub no_tally : Tally
 no_tally = record { observations = 0; bindings = 0; last = 0 }
 
--- the number of the last binding, where so many more end at the observation of a number
+-- the number of the last binding, after `bindings` more end at this observation
 abbrev pub last_counted : ℕ → ℕ → ℕ → ℕ
 last_counted last number zero = last
 last_counted last number (suc more) = number
@@ -42,13 +43,13 @@ counted tally number bindings = record {
 
 -- ---- what is kept of a log
 
--- the rows are in order, too much is live at none of them, and these are their answers
+-- the rows are in order, none exceeds the limit, and these are their answers
 pub record HasAnswers (p : Pattern) (retained_limit : ℕ) (log : List LogEntry) (answers : List (List BindTree)) : Type 0 where
   pub order : IsInOrder log
   pub within_limit : IsNeverOverLimit p retained_limit log
   pub answers_are : AreAnswers (numbered_pattern p) log answers
 
--- a matcher and a tally behind a log with these answers
+-- a matcher and a tally after a log with these answers
 pub record IsAfter (p : Pattern) (retained_limit : ℕ) (state : MatcherState) (tally : Tally) (log : List LogEntry) (answers : List (List BindTree)) : Type 0 where
   pub rows : HasAnswers p retained_limit log answers
   pub represents : Represents state log
@@ -57,7 +58,7 @@ pub record IsAfter (p : Pattern) (retained_limit : ℕ) (state : MatcherState) (
   pub few : tally.bindings ≤ length log * 2 ^ 64
   pub last_is : tally.last ≡ last_number (joined_answers answers)
 
--- where a run is: its matcher, and what was counted
+-- the state of a run: its matcher and its counts
 pub record Progress : Type 0 where
   pub matcher : MatcherState
   pub tally : Tally
@@ -65,17 +66,18 @@ pub record Progress : Type 0 where
 abbrev pub so_far : MatcherState → Tally → Progress
 so_far matcher tally = record { matcher = matcher; tally = tally }
 
--- behind this log, under the pattern and the retained limit of the matcher
+-- after this log, for the pattern and the limit of the matcher
 abbrev pub IsAt : Progress → List LogEntry → List (List BindTree) → Type 0
 IsAt run log answers = IsAfter run.matcher.pattern run.matcher.retained_limit run.matcher run.tally log answers
 
--- behind some log
+-- after some log
 abbrev pub IsAtSome : Progress → Type 0
 IsAtSome run = (log : List LogEntry) × (answers : List (List BindTree)) × IsAt run log answers
 
 -- ---- observations
 
--- these may come next: none ends before it begins, they have the numbers from `next` on, and their last times don't fall
+-- these may come next: none ends before it begins, they have the numbers from `next` on, and their
+-- last times don't decrease
 abbrev pub MayFollow : Option ℤ → ℕ → List Observation → Type 0
 MayFollow last next [] = ⊤
 MayFollow last next (o ∷ observations) = (o.first ≤ℤ o.last) × (o.number ≡ next) × (¬ (Falls last o.last))
@@ -84,14 +86,14 @@ MayFollow last next (o ∷ observations) = (o.first ≤ℤ o.last) × (o.number 
 abbrev pub row_of : Observation → List Bool → LogEntry
 row_of o truths = record { first = o.first; last = o.last; truths = truths }
 
--- an observation adds its row, which is answered so
+-- an observation adds its row, with this answer
 pub record AddsRow (p : Pattern) (retained_limit : ℕ) (objects : List Data) (o : Observation) (log : List LogEntry) (answers : List (List BindTree))
     (state : MatcherState) (tally : Tally) (answer : List BindTree) : Type 0 where
   pub truths : List Bool
   pub are : AreTruths objects o.roots (plain_pattern p) truths
   pub behind : IsAfter p retained_limit state tally (log ++ row_of o truths ∷ []) (answers ++ answer ∷ [])
 
--- too much is live at its row
+-- its row exceeds the limit
 pub record IsOverLimitAt (p : Pattern) (retained_limit : ℕ) (objects : List Data) (o : Observation) (log : List LogEntry) (state : MatcherState)
     (number named : ℕ) : Type 0 where
   pub truths : List Bool
@@ -121,7 +123,7 @@ pub record AddsRows (p : Pattern) (retained_limit : ℕ) (objects : List Data) (
   pub behind : IsAfter p retained_limit state tally (log ++ own) (answers ++ own_answers)
   pub text_is : text ≡ listing_text (joined_answers own_answers)
 
--- of a text so much is written, and the rest is pending
+-- a part of a text is written, and the rest is buffered
 pub record IsBuffered (text pending : List ℕ) (first written : Option (List ℕ)) : Type 0 where
   pub count : ℕ
   pub within : count ≤ length text
@@ -140,12 +142,12 @@ pub record ListsFirst (p : Pattern) (retained_limit : ℕ) (objects : List Data)
   pub rows : HasAnswers p retained_limit (log ++ own) (answers ++ own_answers)
   pub text_is : text ≡ listing_text (joined_answers own_answers)
 
--- of the lines of the first of them a prefix was written
+-- a prefix of the lines of the first of them was written
 abbrev pub BreaksOff : Pattern → ℕ → List Data → List Observation → List LogEntry → List (List BindTree) → Option (List ℕ) → Option (List ℕ) → Type 0
 BreaksOff p retained_limit objects observations log answers first written =
     (text : List ℕ) × ListsFirst p retained_limit objects observations log answers text × WritesPrefix text first written
 
--- too much is live at one of them
+-- one of them exceeds the limit
 pub record StopsAmong (p : Pattern) (retained_limit : ℕ) (objects : List Data) (observations : List Observation) (log : List LogEntry)
     (answers : List (List BindTree)) (state : MatcherState) (text : List ℕ) (number named : ℕ) : Type 0 where
   pub first : ListsFirst p retained_limit objects observations log answers text
@@ -154,7 +156,8 @@ pub record StopsAmong (p : Pattern) (retained_limit : ℕ) (objects : List Data)
   pub later_are : first.later ≡ o ∷ rest
   pub over_limit : IsOverLimitAt p retained_limit objects o (log ++ first.own) state number named
 
--- what an end among the observations says: of their lines some may be on their way, where no call failed
+-- what an end among the observations says: some of their lines may be buffered, where no call
+-- failed
 abbrev pub EndsAmong : Pattern → ℕ → List Data → List Observation → List LogEntry → List (List BindTree) → MatcherState
     → List ℕ → Option (List ℕ) → Option (List ℕ) → MatchEnd → Type 0
 EndsAmong p retained_limit objects observations log answers state pending first written (Done seen bindings last) = ⊥
@@ -195,7 +198,7 @@ abbrev pub TakesRow : List Data → Observation → Progress → Progress → Li
 TakesRow objects o run after answer = (log : List LogEntry) (answers : List (List BindTree)) → IsAt run log answers
     → AddsRow run.matcher.pattern run.matcher.retained_limit objects o log answers after.matcher after.tally answer
 
--- or ends the run so
+-- or ends the run
 abbrev pub StopsAtRow : List Data → Observation → Progress → MatcherState → MatchEnd → Type 0
 StopsAtRow objects o run after end = (log : List LogEntry) (answers : List (List BindTree)) → IsAt run log answers
     → EndsAtRow run.matcher.pattern run.matcher.retained_limit objects o log after end
@@ -205,12 +208,12 @@ abbrev pub TakesRows : List Data → List Observation → Progress → Progress 
 TakesRows objects observations run after text = (log : List LogEntry) (answers : List (List BindTree)) → IsAt run log answers
     → AddsRows run.matcher.pattern run.matcher.retained_limit objects observations log answers after.matcher after.tally text
 
--- and these lines are on their way
+-- and these lines are written or buffered
 abbrev pub GoesThrough : List Data → List Observation → Progress → Progress → List ℕ → Option (List ℕ) → Option (List ℕ) → Type 0
 GoesThrough objects observations run after pending first written =
     (text : List ℕ) × TakesRows objects observations run after text × IsBuffered text pending first written
 
--- or one of them ends the run so
+-- or one of them ends the run
 abbrev pub StopsAtOne : List Data → List Observation → Progress → MatcherState → List ℕ → Option (List ℕ) → Option (List ℕ) → MatchEnd → Type 0
 StopsAtOne objects observations run after pending first written end = (log : List LogEntry) (answers : List (List BindTree)) → IsAt run log answers
     → EndsAmong run.matcher.pattern run.matcher.retained_limit objects observations log answers after pending first written end
@@ -220,7 +223,7 @@ abbrev pub WritesBundle : BundleOf → Progress → Progress → Option (List �
 WritesBundle bundle run after written written_after = (log : List LogEntry) (answers : List (List BindTree)) → IsAt run log answers
     → WritesRows run.matcher.pattern run.matcher.retained_limit bundle.objects bundle.observations log answers after.matcher after.tally written written_after
 
--- or the run ends in it so
+-- or the run ends in it
 abbrev pub StopsInBundle : BundleOf → Progress → MatcherState → Option (List ℕ) → Option (List ℕ) → MatchEnd → Type 0
 StopsInBundle bundle run after written written_after end = (log : List LogEntry) (answers : List (List BindTree)) → IsAt run log answers
     → EndsInBundle run.matcher.pattern run.matcher.retained_limit bundle.objects bundle.observations log answers after written written_after end

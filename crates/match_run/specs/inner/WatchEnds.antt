@@ -1,4 +1,4 @@
--- For private clauses: what an end of a part of a run is to the whole.
+-- For private clauses: the end of a part of a run, as an end of the whole.
 use Rattle.match_input.specs.declared.read_end.ReadEnd.{ReadEnd}
 use Rattle.match_input.specs.declared.read_end.ReadEnd.TheVariants as read
 use Rattle.match_run.specs.declared.cut_short.CutShort.{CutShort}

@@ -5,7 +5,7 @@ use Rattle.match_input.specs.Ahead.{ReaderState}
 use Rattle.match_run.specs.Reading.{HasRead}
 use Rattle.match_run.specs.Watching.{Says, SeesAll}
 
--- behind the earlier bundles some more were read, and of these was written what the watcher says
+-- after the earlier bundles some more were read, and the text about them was written
 pub record RunsSo {W : Type 0} (sees : W → BundleOf → W → List ℕ → Type 0) (first : Option (List ℕ)) (earlier : List BundleOf)
     (start now : W) (written written_now : Option (List ℕ)) (reader : ReaderState) (left began : Option (List ℕ)) : Type 0 where
   pub bundles : List BundleOf

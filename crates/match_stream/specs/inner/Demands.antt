@@ -1,4 +1,4 @@
--- For private clauses: new things that are added where they are needed, as far as there is budget.
+-- For private clauses: a join appends the needed results, within its budget.
 use Rattle.std.specs.Prelude.{◌≡◌, ◌+◌, ◌<◌, List, ◌++◌, length}
 use Rattle.match_stream.specs.declared.join_filter.JoinFilter.{JoinFilter}
 use Rattle.match_stream.specs.declared.partial_match.PartialMatch.{PartialMatch}
@@ -7,14 +7,14 @@ use Rattle.match_stream.specs.inner.PendingLefts.{pending_lefts_of}
 use Rattle.match_stream.specs.inner.PartialMatches.{partial_match_trees}
 use Rattle.match_stream.specs.inner.Needed.{needed}
 
--- those of new things that are needed
+-- the needed ones of new partial matches
 abbrev pub join_filtered : JoinFilter → List PartialMatchTree → List PartialMatchTree
 join_filtered join_filter new = needed join_filter.time (pending_lefts_of join_filter.pending_lefts.now) new
 
--- they stand after left those that were there
+-- they are appended to the output
 abbrev pub AreAdded : JoinFilter → List PartialMatchTree → List PartialMatch → List PartialMatch → Type 0
 AreAdded join_filter new before after = partial_match_trees after ≡ partial_match_trees before ++ join_filtered join_filter new
 
--- with those that were there they are more than there is budget for
+-- with the output they exceed the budget
 abbrev pub AreTooMany : JoinFilter → List PartialMatchTree → List PartialMatch → Type 0
 AreTooMany join_filter new before = join_filter.budget < length before + length (join_filtered join_filter new)

@@ -1,23 +1,24 @@
--- For private clauses: a heap by earliest times, in which the thing at place p is the parent of those at 4 p + 1 to 4 p + 4.
+-- For private clauses: a 4-ary heap by earliest time. The children of index p are 4 p + 1 to 4 p +
+-- 4.
 use Rattle.std.specs.Prelude.{ℕ, ◌+◌, ◌*◌, ◌≤◌, ◌<◌, ℤ, ◌≤ℤ◌, List, slice_index_or}
 use Rattle.match_stream.specs.declared.partial_match.PartialMatch.{PartialMatch}
 
 abbrev pub IsChild : ℕ → ℕ → Type 0
 IsChild p i = (4 * p + 1 ≤ i) × (i ≤ 4 * p + 4)
 
--- of the first n times none is earlier than its parent
+-- among the first n times none is earlier than its parent
 abbrev pub AreHeaped : (ℕ → ℤ) → ℕ → Type 0
 AreHeaped time n = (p i : ℕ) → IsChild p i → i < n → time p ≤ℤ time i
 
--- but for the children of the first
+-- except for the children of the root
 abbrev pub AreHeapedBelow : (ℕ → ℤ) → ℕ → Type 0
 AreHeapedBelow time n = (p i : ℕ) → IsChild p i → i < n → 0 < p → time p ≤ℤ time i
 
--- the earliest time of the thing at a place
+-- the earliest time of the element at an index
 abbrev pub time_at : List PartialMatch → PartialMatch → ℕ → ℤ
 time_at held d i = (slice_index_or held i d).earliest
 
--- the first n things are a heap
+-- the first n elements are a heap
 abbrev pub IsHeap : List PartialMatch → ℕ → Type 0
 IsHeap held n = (d : PartialMatch) → AreHeaped (time_at held d) n
 

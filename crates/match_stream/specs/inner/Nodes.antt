@@ -1,4 +1,4 @@
--- For private clauses: what the stores and nodes of a matcher hold.
+-- For private clauses: the stores and nodes of a matcher as plain data.
 use Rattle.std.specs.Prelude.{List, map}
 use Rattle.std.specs.Box.{box_value}
 use Rattle.match_stream.specs.declared.store.Store.{Store}

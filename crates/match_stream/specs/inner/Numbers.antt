@@ -1,4 +1,4 @@
--- For private clauses: the numbers of what is held, from left to right.
+-- For private clauses: the observation numbers of partial matches, from left to right.
 use Rattle.std.specs.Prelude.{ℕ, List, [], ◌∷◌, ◌++◌}
 use Rattle.std.specs.List.{flat_map}
 use Rattle.match_bindings.specs.BindTree.{BindTree, One, Pair, First, Second, Empty, Single, More}
@@ -13,10 +13,10 @@ numbers Empty = []
 numbers (Single a) = numbers a
 numbers (More m a) = numbers m ++ numbers a
 
--- those of a store
+-- the numbers of one store
 abbrev pub store_numbers : List PartialMatchTree → List ℕ
 store_numbers held = flat_map (λ h. numbers h.tree) held
 
--- those of all stores
+-- the numbers of all stores
 abbrev pub all_numbers : List (List PartialMatchTree) → List ℕ
 all_numbers contents = flat_map store_numbers contents

@@ -1,4 +1,4 @@
--- What contracts see of a matcher, and what is true of each.
+-- The observable state of a matcher, and its invariant.
 use Rattle.std.specs.Prelude.{◌≡◌, true, ◌||◌, is_some}
 use Rattle.match_bindings.specs.Bounds.{no_bounds}
 use Rattle.match_bindings.specs.NumberedPattern.{numbered_pattern}
@@ -8,7 +8,7 @@ use Rattle.match_stream.specs.inner.Steps.{contents_of}
 use Rattle.match_stream.specs.inner.Nodes.{state_of}
 use Rattle.match_stream.specs.inner.Shape.{fits}
 
--- a matcher without where it lies in memory
+-- a matcher as plain data
 abbrev pub observable_state : Inside → MatcherState
 observable_state matcher = record {
   pattern = matcher.pattern.now;
@@ -19,6 +19,6 @@ observable_state matcher = record {
   contents = contents_of (state_of matcher.run.node);
 }
 
--- it has ended, or what it keeps is made for its pattern
+-- it has ended, or its nodes fit its pattern
 abbrev pub IsMade : Inside → Type 0
 IsMade matcher = (is_some matcher.ended || fits no_bounds (numbered_pattern matcher.pattern.now) (state_of matcher.run.node)) ≡ true

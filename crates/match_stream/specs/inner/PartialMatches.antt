@@ -1,4 +1,4 @@
--- For private clauses: what is held, without where it lies in memory.
+-- For private clauses: stored partial matches as plain data.
 use Rattle.std.specs.Prelude.{List, map}
 use Rattle.match_bindings.specs.BindTree.{tree_of}
 use Rattle.match_stream.specs.declared.partial_match.PartialMatch.{PartialMatch}

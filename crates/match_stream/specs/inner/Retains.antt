@@ -1,4 +1,4 @@
--- For private clauses: whether a thing is still in a window, as a test.
+-- For private clauses: whether a window retains a partial match, as a Boolean test.
 use Rattle.std.specs.Prelude.{ℕ, ℤ, int_le, int_lt, Bool, true, false, ◌&&◌, Option, Some, None}
 use Rattle.match_bindings.specs.declared.bounds.Bounds.{Bounds}
 use Rattle.match_bindings.specs.Span.{later_by}
@@ -16,7 +16,7 @@ abbrev pub before_stop : Option ℤ → ℤ → Bool
 before_stop None now = true
 before_stop (Some stop) now = int_lt now stop
 
--- by the seconds, start and stop of the qualifiers above
+-- by the seconds, start and stop of the enclosing qualifiers
 abbrev pub alive : Bounds → ℤ → ℤ → Bool
 alive above earliest now = in_seconds above.seconds earliest now && (from_start above.start earliest && before_stop above.stop now)
 

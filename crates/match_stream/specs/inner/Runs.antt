@@ -1,4 +1,4 @@
--- For private clauses: what a run is after a row.
+-- For private clauses: a run before and after a row.
 use Rattle.std.specs.Prelude.{◌≡◌, ◌≤◌, ◌<◌, ◌+◌, ℕ, ℤ, Bool, Some, List, length}
 use Rattle.std.specs.List.Sorted.{IsSortedBy}
 use Rattle.match_bindings.specs.BindTree.{BindTree}
@@ -18,16 +18,16 @@ use Rattle.match_stream.specs.inner.UpToOrder.{IsSameUpToOrder}
 abbrev pub next_row : ℕ → ℤ → ℤ → Row
 next_row rows first last = record { number = rows + 1; first = first; last = last }
 
--- how much is retained after a row: what is held and what ended there
+-- the retained count after a row: what is stored, and what ended there
 abbrev pub retained_after : Run → Row → List Bool → ℕ
 retained_after run row truths = length (step_new row truths (state_of run.node)) + held_count (contents_of (step_state row truths (state_of run.node)))
 
--- the binds are those that end at the row, sorted
+-- the bindings that end at the row, sorted
 pub record AreSteps (run : Run) (row : Row) (truths : List Bool) (binds : List BindTree) : Type 0 where
   pub counts : (x : BindTree) → count x binds ≡ count x (trees_in (step_new row truths (state_of run.node)))
   pub sorted : IsSortedBy comes_before binds
 
--- a run took a row
+-- the run took a row
 pub record TookRow (old new : Run) (row : Row) (truths : List Bool) : Type 0 where
   pub rows : new.rows ≡ row.number
   pub last : new.last ≡ Some row.last
@@ -35,17 +35,18 @@ pub record TookRow (old new : Run) (row : Row) (truths : List Bool) : Type 0 whe
   pub retained_limit : new.retained_limit ≡ old.retained_limit
   pub budget : retained_after old row truths ≤ old.retained_limit
 
--- more is retained after a row than the retained limit allows
+-- the retained count after a row exceeds the limit
 abbrev pub IsOver : Run → Row → List Bool → Type 0
 IsOver run row truths = Admits row truths (state_of run.node) → run.retained_limit < retained_after run row truths
 
--- what has expired at a time that isn't before the last row's is taken out of a run, whose other things stay as they were
+-- what has expired by `now`, which isn't before the last row, is removed; the rest is unchanged up
+-- to order
 pub record IsCleared (old new : Run) (now : ℤ) : Type 0 where
   pub order : ¬ (Falls old.last now)
   pub node : IsSameUpToOrder (expired now (state_of old.node)) (state_of new.node)
   pub rows : new.rows ≡ old.rows
 
--- a run took so many rows at which nothing holds
+-- the run took this many rows at which nothing holds
 pub record Passed (old new : Run) (rows : ℕ) (last : ℤ) : Type 0 where
   pub rows_are : new.rows ≡ old.rows + rows
   pub last_is : new.last ≡ Some last

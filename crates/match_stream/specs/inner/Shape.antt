@@ -1,4 +1,4 @@
--- For private clauses: whether what a matcher keeps is made for a pattern, whatever its stores hold.
+-- For private clauses: whether a state has the shape of a pattern, whatever its stores hold.
 use Rattle.std.specs.Prelude.{ℕ, ◌-◌, nat_eq, ℤ, int_le, Bool, true, false, ◌&&◌, Option, Some, None, length}
 use Rattle.match_bindings.specs.declared.bounds.Bounds.{Bounds}
 use Rattle.match_bindings.specs.Bounds.{within, between}
@@ -29,7 +29,7 @@ same_window a b = (same_count a.seconds b.seconds && same_time a.start b.start) 
 abbrev pub have_windows : SideStores → Window → Window → Bool
 have_windows sides left right = same_window sides.left_window left && same_window sides.right_window right
 
--- for this pattern under these bounds
+-- whether it fits this pattern under these qualifiers
 abbrev pub fits : Bounds → NumberedPattern → State → Bool
 fits above (Leaf k) (a_leaf leaf window) = nat_eq leaf k && same_window window (window_of above false)
 fits above (Both p q) (a_join join.Both l r sides) = (fits above p l && fits above q r) && have_windows sides (window_of above false) (window_of above false)

@@ -1,4 +1,4 @@
--- For private clauses: how much is retained at a node after a row.
+-- For private clauses: the retained count of a node after a row.
 use Rattle.std.specs.Prelude.{◌≡◌, ℕ, ◌+◌, ◌<◌, ℤ, ⊤, Bool, List, [], ◌∷◌, map, length}
 use Rattle.match_bindings.specs.BindTree.{Single}
 use Rattle.match_pruning.specs.declared.window.Window.{Window}
@@ -14,16 +14,16 @@ use Rattle.match_stream.specs.inner.Needed.{PendingLeftTrees, needed}
 abbrev pub held_after : Row → List Bool → State → ℕ
 held_after row truths z = held_count (contents_of (step_state row truths z))
 
--- and what is new there and needed
+-- plus the needed new ones
 abbrev pub retained_at : Row → List Bool → List PendingLeftTrees → State → ℕ
 retained_at row truths pending_lefts z = held_after row truths z + length (needed row.last pending_lefts (step_new row truths z))
 
--- the store on the right admits what is new below it, but after left a FOLLOWEDBY
+-- the right store admits what is new below it, except for a FOLLOWEDBY
 abbrev pub AdmitsRight : Join → Window → ℤ → List PartialMatchTree → Type 0
 AdmitsRight join.Then window now new = ⊤
 AdmitsRight _ window now new = kept window now new ≡ new
 
--- each level admits what is new at it
+-- each level admits what is new there
 abbrev pub AdmitLevels : Window → ℤ → List PartialMatchTree → List PartialMatchTree → List (List PartialMatchTree) → Type 0
 AdmitLevels window now first new [] = ⊤
 AdmitLevels window now first new (held ∷ levels) =
@@ -40,6 +40,6 @@ Admits row truths (a_limit part) = Admits row truths part
 Admits row truths (a_chain part count window levels) =
     Admits row truths part × AdmitLevels window row.last (map (held_with Single) (step_new row truths part)) (step_new row truths part) levels
 
--- more is retained at a node than the budget that is left
+-- the retained count of a node exceeds the budget
 abbrev pub IsOverAt : Row → List Bool → List PendingLeftTrees → State → ℕ → Type 0
 IsOverAt row truths pending_lefts z budget = Admits row truths z → budget < retained_at row truths pending_lefts z

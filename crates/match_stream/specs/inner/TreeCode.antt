@@ -1,10 +1,10 @@
--- How the logic stores a tree of a bind: as its nodes in turn, each after left what it is made of.
+-- An encoding of bindings for the logic: the nodes of the tree in postfix order.
 use Rattle.std.specs.Prelude.{◌≡◌, ℕ, ◌==◌, cond, List, [], ◌∷◌, refl}
 use Rattle.std.specs.Coded.{Coded, code_by, coded×, coded_ℕ, coded_list}
 use Rattle.std.proofs.Common.{◌∙◌, ap}
 use Rattle.match_bindings.specs.BindTree.{BindTree, One, Pair, First, Second, Empty, Single, More}
 
--- the nodes of a tree, before others: of each its kind, and the number of a One
+-- the nodes of a tree, before others: for each its kind, and the number of a One
 abbrev nodes : BindTree → List (ℕ × ℕ) → List (ℕ × ℕ)
 nodes (One n) more = (0, n) ∷ more
 nodes (Pair a b) more = nodes a (nodes b ((1, 0) ∷ more))
@@ -14,7 +14,7 @@ nodes Empty more = (4, 0) ∷ more
 nodes (Single a) more = nodes a ((5, 0) ∷ more)
 nodes (More m a) more = nodes m (nodes a ((6, 0) ∷ more))
 
--- the trees that are built, the last one first, and a node over the last one or the last two
+-- a stack of trees, the last one first, and a node over the last one or the last two
 abbrev over_one : (BindTree → BindTree) → List BindTree → List BindTree
 over_one make [] = []
 over_one make (a ∷ trees) = make a ∷ trees
@@ -37,7 +37,7 @@ abbrev first_of : List BindTree → BindTree
 first_of [] = Empty
 first_of (a ∷ trees) = a
 
--- the nodes of a tree build it
+-- decoding the nodes of a tree gives the tree
 pub built-nodes : (x : BindTree) (more : List (ℕ × ℕ)) (trees : List BindTree) → built (nodes x more) trees ≡ built more (x ∷ trees)
 built-nodes (One n) more trees = refl
 built-nodes (Pair a b) more trees = built-nodes a (nodes b ((1, 0) ∷ more)) trees ∙ built-nodes b ((1, 0) ∷ more) (a ∷ trees)

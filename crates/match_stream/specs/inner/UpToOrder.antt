@@ -1,10 +1,10 @@
--- For private clauses: the same things, in whatever order each store has them.
+-- For private clauses: equality of states up to the order in each store.
 use Rattle.std.specs.Prelude.{◌≡◌, ℕ, ⊤, List, [], ◌∷◌}
 use Rattle.std.specs.List.{sum_by}
 use Rattle.match_stream.specs.PartialMatchTree.{PartialMatchTree}
 use Rattle.match_stream.specs.inner.Steps.{SideStores, State, a_leaf, a_join, a_choice, a_limit, a_chain}
 
--- whatever each thing weighs, they weigh the same together
+-- equal as multisets: the sums agree for every weight
 abbrev pub AreSameMultiset : List PartialMatchTree → List PartialMatchTree → Type 0
 AreSameMultiset held other = (weight : PartialMatchTree → ℕ) → sum_by weight other ≡ sum_by weight held
 
