@@ -9,31 +9,33 @@ use Rattle.match_stream.specs.Answer.{IsAnswer, IsOverLimit, IsWithinLimit}
 use Rattle.hunt_engine.specs.declared.found.Hit.{Hit}
 use Rattle.hunt_engine.specs.EngineLog.{Row, IsLogOf}
 
--- what was found for one position of the hunted list
+-- the bindings of the pattern at an index
 abbrev pub binds_at : ℕ → List Hit → List BindTree
 binds_at position [] = []
 binds_at position (f ∷ found) = cond (nat_eq f.hunted position) (tree_of f.bind ∷ binds_at position found) (binds_at position found)
 
--- the positions never fall from one to the next
+-- the numbers never decrease
 abbrev pub NeverFalls : List ℕ → Type 0
 NeverFalls positions = (j k m n : ℕ) → j ≤ k → slice_get positions j ≡ Some m → slice_get positions k ≡ Some n → m ≤ n
 
--- for each pattern the bindings that end at the last row, each once, by flat list; by position, and for no other position
+-- for each pattern the bindings that end at the last row, each once, in the order of flat lists;
+-- ordered by pattern, and for no other index
 pub record ReportsRow (patterns : List Pattern) (rows : List Row) (found : List Hit) : Type 0 where
   pub answers : (position : ℕ) (p : Pattern) → slice_get patterns position ≡ Some p
       → (log : List LogEntry) × IsLogOf (plain_pattern p) rows log × IsAnswer (numbered_pattern p) log (binds_at position found)
   pub no_other : (position : ℕ) → slice_get patterns position ≡ None → binds_at position found ≡ []
   pub ascend : NeverFalls (map (λ f. f.hunted) found)
 
--- more of a pattern is retained after the last row than the retained limit allows
+-- after the last row the pattern retains more than the limit
 abbrev pub IsOverLimitFor : Pattern → ℕ → List Row → Type 0
 IsOverLimitFor p retained_limit rows = (log : List LogEntry) × IsLogOf (plain_pattern p) rows log × IsOverLimit (numbered_pattern p) log retained_limit
 
--- no more is
+-- after the last row it retains no more than the limit
 abbrev pub IsWithinLimitFor : Pattern → ℕ → List Row → Type 0
 IsWithinLimitFor p retained_limit rows = (log : List LogEntry) × IsLogOf (plain_pattern p) rows log × IsWithinLimit (numbered_pattern p) log retained_limit
 
--- the pattern at that position is over limit at the last row, whose number is named, and none before it is
+-- the pattern at that index is the first to exceed the limit at the last row; its number and the
+-- limit are reported
 pub record IsFirstOverLimit (patterns : List Pattern) (retained_limit : ℕ) (rows : List Row) (position number named : ℕ) : Type 0 where
   pub pattern : Pattern
   pub pattern_is : slice_get patterns position ≡ Some pattern

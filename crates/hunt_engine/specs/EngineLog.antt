@@ -1,4 +1,4 @@
--- The log of an engine, and the log that it is to one pattern.
+-- The log of an engine, and the log of one pattern over it.
 use Rattle.std.specs.Prelude.{◌≡◌, ⊤, ℤ, List, [], ◌∷◌, Option, None, Some}
 use Rattle.serde_json.specs.Data.{Data}
 use Rattle.stix_bundles.specs.declared.observation.Observation.{Observation}
@@ -14,7 +14,7 @@ pub record Row : Type 0 where
 abbrev pub row_of : Observation → List Data → Row
 row_of observation objects = record { observation = observation; objects = objects }
 
--- what a row is to a pattern: its span of time, and a truth for each bracket
+-- the log entry of a pattern for a row: its times, and a truth for each bracket
 pub record IsEntry (p : PlainPattern) (row : Row) (entry : LogEntry) : Type 0 where
   pub first : entry.first ≡ row.observation.first
   pub last : entry.last ≡ row.observation.last
@@ -26,7 +26,7 @@ IsLogOf p [] [] = ⊤
 IsLogOf p (row ∷ rows) (entry ∷ log) = IsEntry p row entry × IsLogOf p rows log
 IsLogOf p _ _ = ⊥
 
--- the last time of the last row
+-- the end of the last row
 abbrev pub last_of_rows : List Row → Option ℤ
 last_of_rows [] = None
 last_of_rows (row ∷ []) = Some row.observation.last

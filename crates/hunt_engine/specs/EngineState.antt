@@ -1,4 +1,4 @@
--- What an engine is, without where it lies in memory, and the rows that it stands for.
+-- The observable state of an engine, and the rows that it represents.
 use Rattle.std.specs.Prelude.{◌≡◌, ℕ, ℤ, Bool, false, Option, Some, List, length, slice_get}
 use Rattle.pattern_types.specs.declared.pattern.Pattern.{Pattern}
 use Rattle.pattern_types.specs.PlainPattern.{plain_pattern}
@@ -9,22 +9,22 @@ use Rattle.hunt_engine.specs.LazyMatcherState.{LazyMatcherState, Follows}
 pub record EngineState : Type 0 where
   -- the patterns of the hunted list
   pub patterns : List Pattern
-  -- how much may be retained of each
+  -- how much each may retain
   pub retained_limit : ℕ
   -- how many rows it took
   pub rows : ℕ
-  -- the last time of the last one
+  -- the end of the last row
   pub last : Option ℤ
   -- whether it has ended
   pub ended : Bool
-  -- who follows the log, by the position of the pattern
+  -- the state of each pattern, by its index
   pub lazy_matchers : List LazyMatcherState
 
--- the log that some rows are to a pattern is followed
+-- the state of a pattern follows its log over the rows
 abbrev pub FollowsRows : Pattern → ℕ → List Row → LazyMatcherState → Type 0
 FollowsRows p retained_limit rows lazy_matcher = (log : List LogEntry) × IsLogOf (plain_pattern p) rows log × Follows p retained_limit log lazy_matcher
 
--- an engine that hasn't ended stands for rows where each pattern's log of them is followed
+-- an engine that hasn't ended represents the rows which the state of each pattern follows
 pub record EngineRepresents (state : EngineState) (rows : List Row) : Type 0 where
   pub runs : state.ended ≡ false
   pub rows_are : state.rows ≡ length rows
@@ -33,6 +33,6 @@ pub record EngineRepresents (state : EngineState) (rows : List Row) : Type 0 whe
   pub each : (position : ℕ) (p : Pattern) (lazy_matcher : LazyMatcherState) → slice_get state.patterns position ≡ Some p
       → slice_get state.lazy_matchers position ≡ Some lazy_matcher → FollowsRows p state.retained_limit rows lazy_matcher
 
--- it has ended, or stands for some rows
+-- it has ended, or represents some rows
 abbrev pub IsReady : EngineState → Type 0
 IsReady state = state.ended ≡ false → (rows : List Row) × EngineRepresents state rows

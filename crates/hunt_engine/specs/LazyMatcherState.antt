@@ -1,4 +1,4 @@
--- Who follows a log for one pattern, without where it lies in memory.
+-- The observable state of one pattern.
 use Rattle.std.specs.Prelude.{◌≡◌, ℕ, Option, Some, None, List, ◌++◌, length}
 use Rattle.pattern_types.specs.declared.pattern.Pattern.{Pattern}
 use Rattle.pattern_types.specs.declared.pattern.Pattern.TheVariants as pattern
@@ -13,11 +13,11 @@ use Rattle.match_stream.specs.Passing.{AreNonmatching}
 pub record LazyMatcherState : Type 0 where
   -- its matcher; a pattern of one bracket needs none
   pub matcher : Option MatcherState
-  -- how many rows the matcher saw
+  -- how many rows the matcher has seen
   pub seen : ℕ
 
--- a matcher stands for the first rows of a log, as many as it saw; no bracket holds at those behind them, so that it has
--- only to pass them
+-- the matcher represents the first `seen` rows of the log; at the rows after them no bracket holds,
+-- so it has only to pass them
 pub record LagsBehind (log : List LogEntry) (seen : ℕ) (matcher : MatcherState) : Type 0 where
   pub before : List LogEntry
   pub nonmatching : List LogEntry
@@ -26,12 +26,13 @@ pub record LagsBehind (log : List LogEntry) (seen : ℕ) (matcher : MatcherState
   pub count : seen ≡ length before
   pub represents : Represents matcher before
 
--- it does so for this pattern under this retained limit; where there is no matcher the pattern is one bracket
+-- it does so for this pattern and limit; a pattern without a matcher is one bracket
 abbrev pub MatchesFor : Pattern → ℕ → List LogEntry → ℕ → Option MatcherState → Type 0
 MatchesFor p retained_limit log seen None = (leaf : Leaf) × (p ≡ pattern.Leaf leaf)
 MatchesFor p retained_limit log seen (Some matcher) = (matcher.pattern ≡ p) × (matcher.retained_limit ≡ retained_limit) × LagsBehind log seen matcher
 
--- a pattern's log is followed: its rows are in order, and no more is retained after the last one than the retained limit allows
+-- it follows the log of a pattern: the rows are in order, and after the last one no more is
+-- retained than the limit
 pub record Follows (p : Pattern) (retained_limit : ℕ) (log : List LogEntry) (lazy_matcher : LazyMatcherState) : Type 0 where
   pub order : IsInOrder log
   pub within_limit : IsWithinLimit (numbered_pattern p) log retained_limit

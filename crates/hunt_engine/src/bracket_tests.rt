@@ -1,4 +1,4 @@
-//! Each bracket of a root batch is asked of all its roots at once.
+//! Evaluates each bracket at all roots of a batch together.
 
 ghost use Rattle.std.specs.Prelude.{◌≡◌, All, Contains, map, OnOk};
 ghost use Rattle.stix_bundles.specs.Objects.{data_in};
@@ -15,8 +15,9 @@ use match_comparisons::leaf_roots;
 use std::alloc::Global;
 use stix_bundles::Bundle;
 
-/// Adds to what is known of the roots of some pairs the positions of the brackets that hold there. Each bracket whose
-/// pairs stand together is asked once: it costs at most the size of the bundle for each of its steps.
+/// For each pair of a bracket and a root, adds the bracket to the memo of the root where it holds
+/// there. Pairs of one bracket must be adjacent: the bracket is evaluated once for all its roots,
+/// at most the size of the bundle for each step of its paths.
 pub(crate) fn test_brackets(
     alloc: Global,
     brackets: &Brackets<'_>,
@@ -24,9 +25,13 @@ pub(crate) fn test_brackets(
     bundle: &Bundle,
     memo: &mut Memo,
 ) -> Result<(), NoMemory>
-    requires sound { All IsSoundLeaf (map plain_leaf (map (λ leaf. leaf.now) brackets.now.leaves.items)) }
-    requires certain { AreCertain (data_in bundle.now) (map plain_leaf (map (λ leaf. leaf.now) brackets.now.leaves.items)) pairs.now }
-    ensures { OnOk result (AddsMatching (data_in bundle.now) (map plain_leaf (map (λ leaf. leaf.now) brackets.now.leaves.items)) pairs.now memo.old memo.new) }
+    requires sound { All IsSoundLeaf
+        (map plain_leaf (map (λ leaf. leaf.now) brackets.now.leaves.items)) }
+    requires certain { AreCertain (data_in bundle.now)
+        (map plain_leaf (map (λ leaf. leaf.now) brackets.now.leaves.items)) pairs.now }
+    ensures { OnOk result (AddsMatching (data_in bundle.now)
+        (map plain_leaf (map (λ leaf. leaf.now) brackets.now.leaves.items)) pairs.now memo.old
+        memo.new) }
 {
     let mut own = 0;
     let mut roots = Vec::new(alloc);
@@ -41,7 +46,8 @@ pub(crate) fn test_brackets(
     test_bracket(alloc, brackets, own, roots.as_slice(), bundle, memo)
 }
 
-/// Asks the bracket at a position of some roots. One that is exact isn't asked: the index found what it asks for.
+/// Evaluates one bracket at some roots. A definite bracket isn't evaluated: the index has already
+/// compared its value.
 fn test_bracket(
     alloc: Global,
     brackets: &Brackets<'_>,
@@ -50,10 +56,13 @@ fn test_bracket(
     bundle: &Bundle,
     memo: &mut Memo,
 ) -> Result<(), NoMemory>
-    requires sound { All IsSoundLeaf (map plain_leaf (map (λ leaf. leaf.now) brackets.now.leaves.items)) }
-    requires certain { IsCertain (data_in bundle.now) (map plain_leaf (map (λ leaf. leaf.now) brackets.now.leaves.items)) position roots.now }
+    requires sound { All IsSoundLeaf
+        (map plain_leaf (map (λ leaf. leaf.now) brackets.now.leaves.items)) }
+    requires certain { IsCertain (data_in bundle.now)
+        (map plain_leaf (map (λ leaf. leaf.now) brackets.now.leaves.items)) position roots.now }
     ensures { OnOk result (AddsPositions (λ root added. (added ≡ position) × Contains roots.now root
-        × IsMet (data_in bundle.now) (map plain_leaf (map (λ leaf. leaf.now) brackets.now.leaves.items)) root position) memo.old memo.new) }
+        × IsMet (data_in bundle.now) (map plain_leaf
+        (map (λ leaf. leaf.now) brackets.now.leaves.items)) root position) memo.old memo.new) }
 {
     let Some(leaf) = brackets.leaves.get(position as usize) else {
         return Ok(());
@@ -65,9 +74,10 @@ fn test_bracket(
     add_to(position, matching.as_slice(), memo)
 }
 
-/// Adds a position to those of each of some roots.
+/// Adds a bracket to the memo of each of some roots.
 fn add_to(position: u32, roots: &[u32], memo: &mut Memo) -> Result<(), NoMemory>
-    ensures { OnOk result (AddsPositions (λ root added. (added ≡ position) × Contains roots.now root) memo.old memo.new) }
+    ensures { OnOk result (AddsPositions (λ root added. (added ≡ position)
+        × Contains roots.now root) memo.old memo.new) }
 {
     for root in roots {
         memo.add_position(*root, position)?;

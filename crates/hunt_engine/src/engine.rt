@@ -29,13 +29,14 @@ use std::marker::Model;
 use stix_bundles::{Bundle, Observation};
 use stix_times::Instant;
 
-/// Many patterns over one log. Contracts see the patterns of the hunted list, how much may be retained of each, how
-/// many rows it took, the last time of the last of them, whether it has ended, and who follows the log for each
-/// pattern; and by `EngineRepresents` the rows that this stands for.
+/// Many patterns over one log. Contracts observe the patterns of the hunted list, the limit for
+/// each, and the state of each. They also observe how many rows it took, the end of the last row,
+/// and whether it has ended. `EngineRepresents` relates them to the rows taken.
 ///
-/// A row costs what the index of brackets finds for those of its roots that aren't known, the brackets that
-/// hold at the others, and one look at the stores of one matcher that it doesn't concern, in turn, so that what
-/// has expired there goes. A pattern of one bracket takes some 40 bytes and what the index keeps.
+/// Cost of a row: what the index finds for roots that aren't in the memo, the brackets that hold at
+/// the others, and one sweep step. The sweep visits the matchers in turn, one at each row, and
+/// drops what has expired there. A pattern of one bracket takes some 40 bytes besides its entry in
+/// the index.
 #[derive(Drop)]
 pub struct Engine<'p> {
     alloc: Global,
@@ -45,7 +46,8 @@ pub struct Engine<'p> {
     index: Index<'p>,
     marks: Vec<bool>,
     lazy_matchers: Vec<LazyMatcher<'p>>,
-    /// The positions of the patterns that have a matcher, and whose turn is next.
+    /// The indices of the patterns that have a matcher, in the order of the sweep, and which of
+    /// them is next.
     sweep_order: Vec<u32>,
     sweep_position: usize,
     rows: u64,
@@ -78,8 +80,9 @@ impl<'p> Model for Engine<'p> {
 }
 
 impl<'p> Engine<'p> {
-    /// An engine for the patterns of a hunted list, that took no row yet. More than `retained_limit` may never be retained of
-    /// one pattern. So many brackets as a u32 doesn't count take more memory than there is.
+    /// An engine for the patterns of a hunted list that took no row yet. No pattern may retain more
+    /// than `retained_limit`. Out of memory also where there are more brackets than a u32 can
+    /// count.
     pub fn new(
         alloc: Global,
         hunted: &'p [Hunted],
@@ -89,7 +92,8 @@ impl<'p> Engine<'p> {
         requires sound { All (λ h. IsSoundPattern (plain_pattern h.pattern)) hunted.now }
         requires narrow { All (λ h. leaves h.pattern < 2 ^ 32) hunted.now }
         ensures represents { IfOk result (λ engine. EngineRepresents engine []) }
-        ensures patterns { IfOk result (λ engine. engine.patterns ≡ map (λ h. h.pattern) hunted.now) }
+        ensures patterns { IfOk result (λ engine. engine.patterns
+            ≡ map (λ h. h.pattern) hunted.now) }
         ensures retained_limit { IfOk result (λ engine. engine.retained_limit ≡ retained_limit) }
     {
         let lazy_matchers = lazy_matchers_of(alloc, hunted, retained_limit)?;
@@ -113,11 +117,12 @@ impl<'p> Engine<'p> {
         })
     }
 
-    /// Takes the next observation of a log, with the bundle that it is of and what is known of that: by the
-    /// pattern's position in the hunted list all bindings that end there, each once, by flat list.
+    /// Takes the next observation of a log, with its bundle and the memo of that bundle. Answers
+    /// all bindings that end there, each once: by the pattern's index in the hunted list, and for
+    /// one pattern in the order of flat lists.
     ///
-    /// It is refused where more of a pattern is retained than the retained limit allows, or for want of memory; the engine has
-    /// ended then.
+    /// Errors: `OverLimit` where a pattern would retain more than the limit, `NoMemory` where
+    /// memory runs out, `Ended` where it had ended before. After an error the engine has ended.
     pub fn take(
         &mut self,
         observation: &Observation,
@@ -131,22 +136,30 @@ impl<'p> Engine<'p> {
         requires room { observation.now.number < 2 ^ 63 }
         requires order { ¬ (Falls self.old.last observation.now.last) }
         ensures represents { (rows : List Row) → EngineRepresents self.old rows
-            → OnOk result (EngineRepresents self.new (rows ++ row_of observation.now (data_in bundle.now) ∷ [])) }
+            → OnOk result (EngineRepresents self.new
+            (rows ++ row_of observation.now (data_in bundle.now) ∷ [])) }
         ensures reports { (rows : List Row) → EngineRepresents self.old rows
-            → IfOk result (ReportsRow self.old.patterns (rows ++ row_of observation.now (data_in bundle.now) ∷ [])) }
-        ensures over_limit { (rows : List Row) → EngineRepresents self.old rows → (position number retained_limit : ℕ) → result ≡ Err (refusal.OverLimit position number retained_limit)
-            → IsFirstOverLimit self.old.patterns self.old.retained_limit (rows ++ row_of observation.now (data_in bundle.now) ∷ []) position number retained_limit }
+            → IfOk result (ReportsRow self.old.patterns
+            (rows ++ row_of observation.now (data_in bundle.now) ∷ [])) }
+        ensures over_limit { (rows : List Row) → EngineRepresents self.old rows
+            → (position number retained_limit : ℕ)
+            → result ≡ Err (refusal.OverLimit position number retained_limit)
+            → IsFirstOverLimit self.old.patterns self.old.retained_limit
+            (rows ++ row_of observation.now (data_in bundle.now) ∷ []) position number
+            retained_limit }
         ensures ended { (result ≡ Err refusal.Ended) ↔ (self.old.ended ≡ true) }
         ensures ends { OnErr result (self.new.ended ≡ true) }
         ensures unchanged { self.old.ended ≡ true → self.new ≡ self.old }
-        ensures kept { (self.new.patterns ≡ self.old.patterns) × (self.new.retained_limit ≡ self.old.retained_limit) }
-        ensures right { OnOk result (IsSoundMemo (data_in bundle.now) (brackets_of self.old.patterns) memo.new) }
+        ensures kept { (self.new.patterns ≡ self.old.patterns)
+            × (self.new.retained_limit ≡ self.old.retained_limit) }
+        ensures right { OnOk result (IsSoundMemo (data_in bundle.now)
+            (brackets_of self.old.patterns) memo.new) }
     {
         test_is_the_rule();
         if self.ended {
             return Err(EngineRefusal::Ended);
         }
-        // what fails on the way leaves it so
+        // an early return on an error leaves the engine ended
         self.ended = true;
         let row = NextRow {
             rows: self.rows,
@@ -195,10 +208,15 @@ impl<'p> Engine<'p> {
 fn brackets_of<'p>(alloc: Global, hunted: &'p [Hunted]) -> Result<Brackets<'p>, NoMemory>
     requires few { length hunted.now < 2 ^ 32 }
     requires sound { All (λ h. IsSoundPattern (plain_pattern h.pattern)) hunted.now }
-    ensures table { IfOk result (λ brackets. IsTable (map plain_pattern (map (λ h. h.pattern) hunted.now)) (map plain_leaf (map (λ leaf. leaf.now) brackets.leaves.items))
+    ensures table { IfOk result (λ brackets. IsTable
+        (map plain_pattern (map (λ h. h.pattern) hunted.now))
+        (map plain_leaf (map (λ leaf. leaf.now) brackets.leaves.items))
         brackets.owners.items brackets.bracket_ranges.items) }
-    ensures sound { IfOk result (λ brackets. All IsSoundLeaf (map plain_leaf (map (λ leaf. leaf.now) brackets.leaves.items))) }
-    ensures leaves { IfOk result (λ brackets. map plain_leaf (map (λ leaf. leaf.now) brackets.leaves.items) ≡ brackets_of (map (λ h. h.pattern) hunted.now)) }
+    ensures sound { IfOk result (λ brackets. All IsSoundLeaf
+        (map plain_leaf (map (λ leaf. leaf.now) brackets.leaves.items))) }
+    ensures leaves { IfOk result (λ brackets. map plain_leaf
+        (map (λ leaf. leaf.now) brackets.leaves.items)
+        ≡ brackets_of (map (λ h. h.pattern) hunted.now)) }
     ensures few { IfOk result (λ brackets. length brackets.leaves.items < 2 ^ 32) }
 {
     let mut brackets = Brackets::new(alloc);
@@ -208,7 +226,7 @@ fn brackets_of<'p>(alloc: Global, hunted: &'p [Hunted]) -> Result<Brackets<'p>, 
     Ok(brackets)
 }
 
-/// Who follows the log for each pattern of a hunted list.
+/// The initial state of each pattern of a hunted list.
 fn lazy_matchers_of<'p>(
     alloc: Global,
     hunted: &'p [Hunted],
@@ -216,8 +234,11 @@ fn lazy_matchers_of<'p>(
 ) -> Result<Vec<LazyMatcher<'p>>, NoMemory>
     requires narrow { All (λ h. leaves h.pattern < 2 ^ 32) hunted.now }
     ensures count { IfOk result (λ lazy_matchers. length lazy_matchers.items ≡ length hunted.now) }
-    ensures each { IfOk result (λ lazy_matchers. (position : ℕ) (p : Pattern) (lazy_matcher : LazyMatcherState) → slice_get (map (λ h. h.pattern) hunted.now) position ≡ Some p
-        → slice_get lazy_matchers.items position ≡ Some lazy_matcher → Follows p retained_limit [] lazy_matcher) }
+    ensures each { IfOk result (λ lazy_matchers. (position : ℕ) (p : Pattern)
+        (lazy_matcher : LazyMatcherState) → slice_get (map (λ h. h.pattern) hunted.now) position
+        ≡ Some p
+        → slice_get lazy_matchers.items position ≡ Some lazy_matcher
+        → Follows p retained_limit [] lazy_matcher) }
 {
     let mut lazy_matchers = Vec::new(alloc);
     for indicator in hunted {
@@ -227,7 +248,8 @@ fn lazy_matchers_of<'p>(
     Ok(lazy_matchers)
 }
 
-/// The positions of the lazy matchers that have a matcher.
+/// The indices of the patterns that have a matcher. No contract: the sweep only frees memory, so
+/// its order affects no answer.
 fn sweep_order_of(alloc: Global, lazy_matchers: &[LazyMatcher<'_>]) -> Result<Vec<u32>, NoMemory>
     requires { length lazy_matchers.now < 2 ^ 32 }
 {

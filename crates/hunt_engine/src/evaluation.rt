@@ -16,16 +16,17 @@ use hunt_index::Index;
 use std::alloc::Global;
 use stix_bundles::Bundle;
 
-/// What holds at a row.
+/// The brackets that hold at a row.
 #[derive(Drop)]
 pub(crate) struct RowBrackets {
-    /// The positions of the brackets that hold.
+    /// Their indices.
     pub(crate) matching: Vec<u32>,
-    /// The positions of their patterns, in order and each once.
+    /// The indices of their patterns, ascending, each once.
     pub(crate) affected: Vec<u32>,
 }
 
-/// Marks the brackets that hold at a row of these roots. A root that isn't known is asked, and known then.
+/// Marks the brackets that hold at a row with these roots. Adds roots that aren't in the memo to
+/// it.
 pub(crate) fn evaluate(
     alloc: Global,
     brackets: &Brackets<'_>,
@@ -35,24 +36,30 @@ pub(crate) fn evaluate(
     memo: &mut Memo,
     marks: &mut [bool],
 ) -> Result<RowBrackets, NoMemory>
-    requires sound { All IsSoundLeaf (map plain_leaf (map (λ leaf. leaf.now) brackets.now.leaves.items)) }
+    requires sound { All IsSoundLeaf
+        (map plain_leaf (map (λ leaf. leaf.now) brackets.now.leaves.items)) }
     requires index { index.now ≡ map (λ leaf. leaf.now) brackets.now.leaves.items }
     requires owned { length brackets.now.owners.items ≡ length brackets.now.leaves.items }
     requires ascend { NeverFalls brackets.now.owners.items }
-    requires right { IsSoundMemo (data_in bundle.now) (map plain_leaf (map (λ leaf. leaf.now) brackets.now.leaves.items)) memo.old }
+    requires right { IsSoundMemo (data_in bundle.now)
+        (map plain_leaf (map (λ leaf. leaf.now) brackets.now.leaves.items)) memo.old }
     requires count { length marks.old ≡ length brackets.now.leaves.items }
     requires clear { AreClear marks.old }
-    ensures evaluated { IfOk result (λ row_brackets. IsEvaluated (data_in bundle.now) roots.now (map plain_leaf (map (λ leaf. leaf.now) brackets.now.leaves.items))
+    ensures evaluated { IfOk result
+        (λ row_brackets. IsEvaluated (data_in bundle.now) roots.now
+        (map plain_leaf (map (λ leaf. leaf.now) brackets.now.leaves.items))
         brackets.now.owners.items marks.new row_brackets.affected.items) }
-    ensures matching { IfOk result (λ row_brackets. (at : ℕ) → slice_get marks.new at ≡ Some true ↔ Contains row_brackets.matching.items at) }
-    ensures right { OnOk result (IsSoundMemo (data_in bundle.now) (map plain_leaf (map (λ leaf. leaf.now) brackets.now.leaves.items)) memo.new) }
+    ensures matching { IfOk result (λ row_brackets. (at : ℕ) → slice_get marks.new at ≡ Some true
+        ↔ Contains row_brackets.matching.items at) }
+    ensures right { OnOk result (IsSoundMemo (data_in bundle.now)
+        (map plain_leaf (map (λ leaf. leaf.now) brackets.now.leaves.items)) memo.new) }
 {
     let matching = mark_matching(alloc, brackets, index, roots, bundle, memo, marks)?;
     let affected = owners_of(alloc, brackets.owners.as_slice(), matching.as_slice())?;
     Ok(RowBrackets { matching, affected })
 }
 
-/// Marks them. The answer is their positions, in order.
+/// Marks them, and answers their indices, ascending.
 fn mark_matching(
     alloc: Global,
     brackets: &Brackets<'_>,
@@ -62,14 +69,18 @@ fn mark_matching(
     memo: &mut Memo,
     marks: &mut [bool],
 ) -> Result<Vec<u32>, NoMemory>
-    requires sound { All IsSoundLeaf (map plain_leaf (map (λ leaf. leaf.now) brackets.now.leaves.items)) }
+    requires sound { All IsSoundLeaf
+        (map plain_leaf (map (λ leaf. leaf.now) brackets.now.leaves.items)) }
     requires index { index.now ≡ map (λ leaf. leaf.now) brackets.now.leaves.items }
-    requires right { IsSoundMemo (data_in bundle.now) (map plain_leaf (map (λ leaf. leaf.now) brackets.now.leaves.items)) memo.old }
+    requires right { IsSoundMemo (data_in bundle.now)
+        (map plain_leaf (map (λ leaf. leaf.now) brackets.now.leaves.items)) memo.old }
     requires count { length marks.old ≡ length brackets.now.leaves.items }
     requires clear { AreClear marks.old }
-    ensures marks { IfOk result (λ positions. MarksMatching (data_in bundle.now) roots.now (map plain_leaf (map (λ leaf. leaf.now) brackets.now.leaves.items))
+    ensures marks { IfOk result (λ positions. MarksMatching (data_in bundle.now) roots.now
+        (map plain_leaf (map (λ leaf. leaf.now) brackets.now.leaves.items))
         marks.new positions.items) }
-    ensures right { OnOk result (IsSoundMemo (data_in bundle.now) (map plain_leaf (map (λ leaf. leaf.now) brackets.now.leaves.items)) memo.new) }
+    ensures right { OnOk result (IsSoundMemo (data_in bundle.now)
+        (map plain_leaf (map (λ leaf. leaf.now) brackets.now.leaves.items)) memo.new) }
 {
     let mut positions = Vec::new(alloc);
     for root in roots {
@@ -81,10 +92,11 @@ fn mark_matching(
     Ok(positions)
 }
 
-/// Marks brackets, and adds the positions of those that weren't marked.
+/// Marks brackets, and appends the indices of those that weren't marked.
 fn mark_more(own: &[u32], marks: &mut [bool], positions: &mut Vec<u32>) -> Result<(), NoMemory>
     requires { All (λ at. at < length marks.old) own.now }
-    ensures { OnOk result (MarksMore own.now (length own.now) marks.old positions.old.items marks.new positions.new.items) }
+    ensures { OnOk result (MarksMore own.now (length own.now) marks.old positions.old.items
+        marks.new positions.new.items) }
 {
     for position in own {
         let at = *position as usize;
@@ -96,12 +108,14 @@ fn mark_more(own: &[u32], marks: &mut [bool], positions: &mut Vec<u32>) -> Resul
     Ok(())
 }
 
-/// The positions of the patterns that brackets at some positions are of, in order and each once.
+/// The owners of some brackets, ascending, each once. The owners are sorted, so equal ones are
+/// adjacent.
 fn owners_of(alloc: Global, owners: &[u32], positions: &[u32]) -> Result<Vec<u32>, NoMemory>
     requires inside { All (λ at. at < length owners.now) positions.now }
     requires ascend { NeverFalls owners.now }
     requires in_order { NeverFalls positions.now }
-    ensures { IfOk result (λ affected. AreOwners owners.now positions.now (length positions.now) affected.items) }
+    ensures { IfOk result (λ affected. AreOwners owners.now positions.now
+        (length positions.now) affected.items) }
 {
     let mut affected = Vec::new(alloc);
     for position in positions {
@@ -110,10 +124,11 @@ fn owners_of(alloc: Global, owners: &[u32], positions: &[u32]) -> Result<Vec<u32
     Ok(affected)
 }
 
-/// Adds a position behind those that are there, unless it is the last one.
+/// Appends an index, unless it equals the last one.
 fn add_position(affected: &mut Vec<u32>, position: u32) -> Result<(), NoMemory>
     requires ascend { IsAscending affected.old.items }
-    requires least { (k other : ℕ) → slice_get affected.old.items k ≡ Some other → other ≤ position }
+    requires least { (k other : ℕ) → slice_get affected.old.items k ≡ Some other
+        → other ≤ position }
     ensures { OnOk result (AddsPosition affected.old.items position affected.new.items) }
 {
     if let Some(last) = affected.last()
@@ -125,7 +140,7 @@ fn add_position(affected: &mut Vec<u32>, position: u32) -> Result<(), NoMemory>
     Ok(())
 }
 
-/// Takes the marks off again.
+/// Clears the marks.
 pub(crate) fn clear(positions: &[u32], marks: &mut [bool])
     requires marked { (at : ℕ) → slice_get marks.old at ≡ Some true ↔ Contains positions.now at }
     ensures clear { AreClear marks.new }

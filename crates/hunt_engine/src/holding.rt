@@ -1,4 +1,4 @@
-//! Whether a bracket holds at one object.
+//! Whether a bracket holds at one object, by recursion over its `AND`s and `OR`s.
 
 ghost use Rattle.std.specs.Prelude.{◌↔◌, IsTrue, IfOk};
 ghost use Rattle.stix_bundles.specs.Objects.{data_in};
@@ -12,7 +12,7 @@ use pattern_types::Leaf;
 use std::alloc::Global;
 use stix_bundles::Bundle;
 
-/// Whether the object at a position meets the whole of a bracket.
+/// Whether the object at index `root` of the bundle meets the whole bracket.
 #[cycle(leaves)]
 pub(crate) fn holds_at(
     alloc: Global,
@@ -21,7 +21,8 @@ pub(crate) fn holds_at(
     root: u32,
 ) -> Result<bool, NoMemory>
     requires { IsSoundLeaf (plain_leaf leaf.now) }
-    ensures { IfOk result (λ met. IsTrue met ↔ HoldsAt (data_in bundle.now) root (plain_leaf leaf.now)) }
+    ensures { IfOk result (λ met. IsTrue met
+        ↔ HoldsAt (data_in bundle.now) root (plain_leaf leaf.now)) }
 {
     match leaf {
         Leaf::Test(test) => holds(alloc, test, bundle, root),
@@ -30,11 +31,12 @@ pub(crate) fn holds_at(
     }
 }
 
-/// Whether it meets each of some parts.
+/// Whether it meets all of these parts.
 #[cycle(leaves)]
 fn all_hold_at(alloc: Global, parts: &[Leaf], bundle: &Bundle, root: u32) -> Result<bool, NoMemory>
     requires { AreSoundLeaves (listed parts.now) }
-    ensures { IfOk result (λ met. IsTrue met ↔ AllHold (data_in bundle.now) root (listed parts.now)) }
+    ensures { IfOk result (λ met. IsTrue met
+        ↔ AllHold (data_in bundle.now) root (listed parts.now)) }
 {
     for part in parts {
         if !holds_at(alloc, part, bundle, root)? {
@@ -44,11 +46,12 @@ fn all_hold_at(alloc: Global, parts: &[Leaf], bundle: &Bundle, root: u32) -> Res
     Ok(true)
 }
 
-/// Whether it meets some of them.
+/// Whether it meets one of these parts.
 #[cycle(leaves)]
 fn some_hold_at(alloc: Global, parts: &[Leaf], bundle: &Bundle, root: u32) -> Result<bool, NoMemory>
     requires { AreSoundLeaves (listed parts.now) }
-    ensures { IfOk result (λ met. IsTrue met ↔ SomeHold (data_in bundle.now) root (listed parts.now)) }
+    ensures { IfOk result (λ met. IsTrue met
+        ↔ SomeHold (data_in bundle.now) root (listed parts.now)) }
 {
     for part in parts {
         if holds_at(alloc, part, bundle, root)? {

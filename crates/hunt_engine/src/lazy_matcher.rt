@@ -1,4 +1,8 @@
-//! One pattern of many, as it follows the log.
+//! One pattern of many, updated lazily.
+//!
+//! Its matcher takes only the rows at which one of its brackets holds. Before that it passes all
+//! rows missed so far at once. This is right since no binding ends at a row where no bracket holds,
+//! and passing many rows has the same result as passing them one by one.
 
 ghost use Rattle.std.specs.Prelude.{◌≡◌, ◌<◌, ◌≤◌, ◌≤ℤ◌, ◌^◌, ◌++◌, ◌+◌, [], List, length, Some, None, Err, IfOk, OnOk, map};
 ghost use Rattle.std.specs.Option.{option_map};
@@ -26,9 +30,9 @@ use std::alloc::Global;
 use std::marker::Model;
 use stix_times::Instant;
 
-/// Who follows a log for one pattern. A pattern of one bracket needs no matcher: what ends at a row is
-/// told by the row single bracket. Another one has its matcher, which sees the rows at which one of its brackets
-/// holds, and passes the others once it is needed.
+/// The state of one pattern. A pattern of one bracket has no matcher: its bindings at a row are the
+/// row itself, where the bracket holds. Any other pattern has a matcher, and how many rows that has
+/// seen.
 #[derive(Drop)]
 pub(crate) struct LazyMatcher<'p> {
     matcher: Option<Box<Matcher<'p>>>,
@@ -50,7 +54,7 @@ impl<'p> Model for LazyMatcher<'p> {
 }
 
 impl<'p> LazyMatcher<'p> {
-    /// One that saw no row yet.
+    /// A pattern that took no row yet.
     pub(crate) fn new(
         alloc: Global,
         pattern: &'p Pattern,
@@ -78,7 +82,8 @@ impl<'p> LazyMatcher<'p> {
     ) -> Result<(), NoMemory>
         requires follows { FollowsSome retained_limit rows last self.old }
         requires room { rows < 2 ^ 63 }
-        ensures { (p : Pattern) (log : List LogEntry) → Follows p retained_limit log self.old → EndsAt log rows last
+        ensures { (p : Pattern) (log : List LogEntry) → Follows p retained_limit log self.old
+            → EndsAt log rows last
             → OnOk result (CatchesUp p retained_limit log self.new) }
     {
         let Some(matcher) = &mut self.matcher else {
@@ -94,7 +99,7 @@ impl<'p> LazyMatcher<'p> {
         Ok(())
     }
 
-    /// Takes the next row, with a truth for each bracket: the bindings that end there.
+    /// Takes the next row, with a truth for each bracket: answers the bindings that end there.
     pub(crate) fn take(
         &mut self,
         alloc: Global,
@@ -105,10 +110,14 @@ impl<'p> LazyMatcher<'p> {
         requires follows { FollowsSome retained_limit row.now.rows row.now.before self.old }
         requires room { row.now.rows + 1 < 2 ^ 63 }
         requires continues { Continues row.now }
-        ensures took { (p : Pattern) (log : List LogEntry) → Follows p retained_limit log self.old → EndsAt log row.now.rows row.now.before
-            → IfOk result (λ binds. TakesRow p retained_limit (log_with row.now truths.now log) self.new (map tree_of binds)) }
-        ensures over_limit { (p : Pattern) (log : List LogEntry) → Follows p retained_limit log self.old → EndsAt log row.now.rows row.now.before
-            → result ≡ Err refused.OverLimit → IsOverLimit (numbered_pattern p) (log_with row.now truths.now log) retained_limit }
+        ensures took { (p : Pattern) (log : List LogEntry) → Follows p retained_limit log self.old
+            → EndsAt log row.now.rows row.now.before
+            → IfOk result (λ binds. TakesRow p retained_limit (log_with row.now truths.now log)
+            self.new (map tree_of binds)) }
+        ensures over_limit { (p : Pattern) (log : List LogEntry)
+            → Follows p retained_limit log self.old → EndsAt log row.now.rows row.now.before
+            → result ≡ Err refused.OverLimit
+            → IsOverLimit (numbered_pattern p) (log_with row.now truths.now log) retained_limit }
     {
         self.catch_up(row.rows, row.before, retained_limit)?;
         let Some(matcher) = &mut self.matcher else {
@@ -124,14 +133,15 @@ impl<'p> LazyMatcher<'p> {
     }
 }
 
-/// The matcher of a pattern, where it needs one.
+/// The matcher of a pattern, unless that is one bracket.
 fn matcher_of(
     alloc: Global,
     pattern: &Pattern,
     retained_limit: u64,
 ) -> Result<Option<Box<Matcher<'_>>>, NoMemory>
     requires { leaves pattern.now < 2 ^ 32 }
-    ensures { IfOk result (λ matcher. MatchesFor pattern.now retained_limit [] 0 (option_map (λ matching. matching.value) matcher)) }
+    ensures { IfOk result (λ matcher. MatchesFor pattern.now retained_limit [] 0
+        (option_map (λ matching. matching.value) matcher)) }
 {
     match pattern {
         Pattern::Leaf(_) => Ok(None),
@@ -147,26 +157,30 @@ fn matcher_of(
     }
 }
 
-/// A matcher that saw no row yet.
+/// A matcher that took no row yet.
 fn boxed_matcher(
     alloc: Global,
     pattern: &Pattern,
     retained_limit: u64,
 ) -> Result<Box<Matcher<'_>>, NoMemory>
     requires { leaves pattern.now < 2 ^ 32 }
-    ensures { IfOk result (λ matcher. MatchesFor pattern.now retained_limit [] 0 (Some matcher.value)) }
+    ensures { IfOk result (λ matcher. MatchesFor pattern.now retained_limit [] 0
+        (Some matcher.value)) }
 {
     let matcher = Matcher::new(alloc, pattern, retained_limit)?;
     Ok(Box::new(alloc, matcher)?)
 }
 
-/// Passes rows at which no bracket of the pattern holds, in order, so that none is refused.
+/// Passes rows at which no bracket of the pattern holds. They are in order, so only lack of memory
+/// refuses them.
 fn pass_rows(matcher: &mut Matcher<'_>, rows: u64, last: Instant) -> Result<(), NoMemory>
     requires some { 1 ≤ rows }
     requires room { matcher.old.ended ≡ None → matcher.old.rows + rows < 2 ^ 64 }
-    ensures represents { (log nonmatching : List LogEntry) → Represents matcher.old log → ContinuesWithoutMatch log nonmatching rows last
+    ensures represents { (log nonmatching : List LogEntry) → Represents matcher.old log
+        → ContinuesWithoutMatch log nonmatching rows last
         → OnOk result (Represents matcher.new (log ++ nonmatching)) }
-    ensures kept { (matcher.new.pattern ≡ matcher.old.pattern) × (matcher.new.retained_limit ≡ matcher.old.retained_limit) }
+    ensures kept { (matcher.new.pattern ≡ matcher.old.pattern)
+        × (matcher.new.retained_limit ≡ matcher.old.retained_limit) }
 {
     match matcher.pass(rows, last) {
         Ok(()) => Ok(()),
@@ -174,7 +188,7 @@ fn pass_rows(matcher: &mut Matcher<'_>, rows: u64, last: Instant) -> Result<(), 
     }
 }
 
-/// Takes the next row, which is in order, so that only want of memory or of room refuses it.
+/// Takes the next row. It is in order, so only the limit or lack of memory refuses it.
 fn take_row(
     matcher: &mut Matcher<'_>,
     row: &NextRow,
@@ -183,10 +197,14 @@ fn take_row(
     requires span { row.now.first ≤ℤ row.now.last }
     requires room { matcher.old.ended ≡ None → matcher.old.rows + 1 < 2 ^ 64 }
     ensures answers { (log : List LogEntry) → Represents matcher.old log → IsInOrder log
-        → IfOk result (λ binds. AnswersRow matcher.old matcher.new (log_with row.now truths.now log) (map tree_of binds)) }
+        → IfOk result (λ binds. AnswersRow matcher.old matcher.new
+        (log_with row.now truths.now log) (map tree_of binds)) }
     ensures over_limit { (log : List LogEntry) → Represents matcher.old log → IsInOrder log
-        → result ≡ Err refused.OverLimit → IsOverLimit (numbered_pattern matcher.old.pattern) (log_with row.now truths.now log) matcher.old.retained_limit }
-    ensures kept { (matcher.new.pattern ≡ matcher.old.pattern) × (matcher.new.retained_limit ≡ matcher.old.retained_limit) }
+        → result ≡ Err refused.OverLimit
+        → IsOverLimit (numbered_pattern matcher.old.pattern) (log_with row.now truths.now log)
+        matcher.old.retained_limit }
+    ensures kept { (matcher.new.pattern ≡ matcher.old.pattern)
+        × (matcher.new.retained_limit ≡ matcher.old.retained_limit) }
 {
     match matcher.take(row.first, row.last, truths) {
         Ok(binds) => Ok(binds),
@@ -198,15 +216,18 @@ fn take_row(
     }
 }
 
-/// What ends at the row of a number for a pattern of one bracket: the row, where the bracket holds.
+/// The bindings of a pattern of one bracket that end at this row: the row alone, where the bracket
+/// holds.
 fn take_single_bracket(
     alloc: Global,
     number: u64,
     retained_limit: u64,
     truths: &[bool],
 ) -> Result<Items<Bind>, LazyMatcherRefusal>
-    ensures answers { IfOk result (λ binds. IsSingleBracket retained_limit number truths.now (map tree_of binds)) }
-    ensures over_limit { result ≡ Err refused.OverLimit → retained_limit < length (single_bracket_at number truths.now) }
+    ensures answers { IfOk result (λ binds. IsSingleBracket retained_limit number truths.now
+        (map tree_of binds)) }
+    ensures over_limit { result ≡ Err refused.OverLimit
+        → retained_limit < length (single_bracket_at number truths.now) }
 {
     let mut binds = Items::new(alloc);
     if truths.first().copied().unwrap_or(false) {

@@ -1,4 +1,4 @@
-//! All lazy matchers at one row: those whose brackets hold take it, the others aren't affected.
+//! All patterns at one row: only those with a bracket that holds take it.
 
 ghost use Rattle.std.specs.Prelude.{◌≡◌, ◌≢◌, ◌≤◌, ◌<◌, ◌+◌, ◌^◌, ◌++◌, ℕ, All, Err, Some, length, map, slice_get, IfOk, OnOk};
 ghost use Rattle.match_bindings.specs.BindTree.{tree_of};
@@ -17,8 +17,8 @@ use flow_values::{Items, NoMemory};
 use match_bindings::Bind;
 use std::alloc::Global;
 
-/// Gives the next row to the lazy matchers at these positions, in order, each with the truths of its brackets:
-/// the bindings that end there.
+/// Gives the next row to the patterns at these indices, in order, each with the truths of its
+/// brackets. Answers the bindings that end there.
 pub(crate) fn take_all(
     alloc: Global,
     lazy_matchers: &mut [LazyMatcher<'_>],
@@ -32,12 +32,17 @@ pub(crate) fn take_all(
     requires ascend { IsAscending affected.now }
     requires there { All (λ position. position < length lazy_matchers.old) affected.now }
     requires bracket_ranges { length brackets.now.bracket_ranges.items ≡ length lazy_matchers.old }
-    requires inside { (position : ℕ) (bracket_range : BracketRange) → slice_get brackets.now.bracket_ranges.items position ≡ Some bracket_range → bracket_range.first + bracket_range.count ≤ length marks.now }
+    requires inside { (position : ℕ) (bracket_range : BracketRange)
+        → slice_get brackets.now.bracket_ranges.items position ≡ Some bracket_range
+        → bracket_range.first + bracket_range.count ≤ length marks.now }
     requires room { row.now.rows + 1 < 2 ^ 63 }
     requires continues { Continues row.now }
-    ensures took { IfOk result (TookSome row.now retained_limit brackets.now.bracket_ranges.items marks.now affected.now (length affected.now) lazy_matchers.old lazy_matchers.new) }
-    ensures over_limit { (position number named : ℕ) → result ≡ Err (refusal.OverLimit position number named)
-        → CrowdsAt row.now retained_limit brackets.now.bracket_ranges.items marks.now affected.now lazy_matchers.old position number named }
+    ensures took { IfOk result (TookSome row.now retained_limit brackets.now.bracket_ranges.items
+        marks.now affected.now (length affected.now) lazy_matchers.old lazy_matchers.new) }
+    ensures over_limit { (position number named : ℕ)
+        → result ≡ Err (refusal.OverLimit position number named)
+        → CrowdsAt row.now retained_limit brackets.now.bracket_ranges.items marks.now affected.now
+        lazy_matchers.old position number named }
     ensures no_end { result ≢ Err refusal.Ended }
 {
     let mut found = Vec::new(alloc);
@@ -59,7 +64,7 @@ pub(crate) fn take_all(
     Ok(Items::from_vec(found))
 }
 
-/// Adds the bindings of the pattern at a position.
+/// Appends the bindings of one pattern.
 fn add_found(found: &mut Vec<Hit>, position: u32, binds: Items<Bind>) -> Result<(), NoMemory>
     ensures { OnOk result (found.new.items ≡ found.old.items ++ map (found_of position) binds) }
 {
@@ -72,8 +77,8 @@ fn add_found(found: &mut Vec<Hit>, position: u32, binds: Items<Bind>) -> Result<
     Ok(())
 }
 
-/// Lets the lazy matcher whose turn it is pass the rows that it missed, so that what has expired of it goes. The
-/// answer is the next turn.
+/// Lets the next matcher of the sweep pass the rows that it missed, so that it drops what has
+/// expired. Answers the next position of the sweep.
 pub(crate) fn sweep(
     lazy_matchers: &mut [LazyMatcher<'_>],
     sweep_order: &[u32],
@@ -83,7 +88,8 @@ pub(crate) fn sweep(
 ) -> Result<usize, NoMemory>
     requires follow { AllFollow retained_limit row.now lazy_matchers.old }
     requires room { row.now.rows < 2 ^ 63 }
-    ensures { OnOk result (StillFollow retained_limit row.now.rows row.now.before lazy_matchers.old lazy_matchers.new) }
+    ensures { OnOk result (StillFollow retained_limit row.now.rows row.now.before lazy_matchers.old
+        lazy_matchers.new) }
 {
     let Some(position) = sweep_order.get(sweep_position) else {
         return Ok(0);

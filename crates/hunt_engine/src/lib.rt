@@ -1,11 +1,21 @@
-//! The engine of a hunter: many patterns over one log, at a cost that doesn't grow with their number.
+//! The engine of the hunter: evaluates many STIX patterns over one log (STIX 2.1, section 9), at a
+//! cost per observation that doesn't grow with their number.
 //!
-//! An `Engine` takes the observations of a log one by one, and answers to each the bindings that end there,
-//! by the pattern's position in the hunted list. An observation costs what the index of brackets finds for it:
-//! a pattern of which no bracket holds isn't affected, and its matcher is caught up once one does (STIX 2.1,
-//! section 9, of patterns; the bindings are those of `match_bindings`). What is `Memo` of a root serves all
-//! observations of a bundle that have it, and each bracket is asked of many roots at once, so that what their
-//! paths lead to by a reference isn't gone through for each.
+//! An `Engine` takes the observations of a log one by one, and answers to each the bindings that
+//! end there, by the pattern's index in the hunted list. An inverted index (`hunt_index`) finds the
+//! brackets (observation expressions) that can hold; only their patterns are touched. The matcher
+//! of any other pattern is updated lazily, when one of its brackets next holds. A `Memo` keeps
+//! which brackets hold at each root of a bundle, so no root is evaluated twice. Each bracket is
+//! evaluated at a batch of roots together, so that objects they reference in common are searched
+//! once. The bindings are those of `match_bindings`.
+//!
+//! ```text
+//! let mut engine = Engine::new(alloc, &hunted, 100_000)?;
+//! let mut memo = Memo::of(alloc, &observations)?; // one for each bundle
+//! for observation in &observations {
+//!     let hits = engine.take(observation, &bundle, &mut memo)?; // of each: hit.hunted, hit.bind
+//! }
+//! ```
 #![tactic(auto)]
 
 mod bracket_tests;

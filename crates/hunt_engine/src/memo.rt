@@ -1,3 +1,11 @@
+//! A memo: which brackets hold at each root of a bundle, so that a root which several observations
+//! share is evaluated once.
+//!
+//! The memo is a cache with a bound: where it holds more than `MAX_POSITIONS` indices, it is
+//! emptied before more is added. Contracts promise that each entry is correct, so an eviction only
+//! costs time. `upcoming` and `pass` are a hint which roots follow, so that they can be evaluated
+//! as a batch. `upcoming` carries no contract, since any answer of it would be correct.
+
 ghost use Rattle.std.specs.Prelude.{◌≡◌, ◌↔◌, ◌⊎◌, ◌<◌, ◌^◌, ℕ, List, [], IsTrue, Some, length, slice_get, IfOk, OnOk};
 ghost use Rattle.hunt_engine.specs.inner.Memos.{IsMemoized, AddsRoot, AddsPositions};
 
@@ -6,25 +14,23 @@ use std::alloc::Global;
 use std::marker::Model;
 use stix_bundles::Observation;
 
-/// So many positions of brackets are kept, and besides them those of the roots that are asked at once: a position takes
-/// 4 bytes.
+/// How many bracket indices the memo holds before it is emptied, at 4 bytes each. One batch of
+/// roots may come on top.
 pub(crate) const MAX_POSITIONS: usize = 1_048_576;
 
-/// What is known of the roots of one bundle: the positions of the brackets that hold there. Contracts see a list
-/// that has the positions of each root whose brackets were asked.
+/// The memo of one bundle: for each root evaluated so far, the indices of the brackets that hold
+/// there. Contracts observe it as a list with an entry for each root, `None` where it wasn't
+/// evaluated.
 ///
-/// Where many brackets hold at each of many roots, all of it would take their product. So past `MAX_POSITIONS`
-/// positions it is forgotten before more are asked, and a root that comes again is asked anew.
-///
-/// It has besides which roots come, so that a bracket can be asked of many at once: a hint, of which contracts
-/// say nothing.
+/// Where many brackets hold at each of many roots, a full memo would take their product. So it is
+/// emptied past `MAX_POSITIONS` indices, and a root that occurs again is evaluated again.
 #[derive(Drop)]
 pub struct Memo {
     roots: Vec<Option<Items<u32>>>,
     positions: usize,
-    /// The roots of the bundle's observations, in their order.
+    /// The roots of the bundle's observations, in order.
     order: Vec<u32>,
-    /// So many of them are behind.
+    /// How many of them were passed.
     passed: usize,
 }
 
@@ -40,7 +46,7 @@ impl Model for Memo {
 }
 
 impl Memo {
-    /// Nothing is known yet of a bundle with these observations, which come in their order. It takes 4 bytes for
+    /// An empty memo for a bundle with these observations, to be taken in order. Takes 4 bytes for
     /// each of their roots.
     pub fn of(alloc: Global, observations: &[Observation]) -> Result<Memo, NoMemory>
         ensures { IfOk result (λ memo. memo ≡ []) }
@@ -57,29 +63,30 @@ impl Memo {
         })
     }
 
-    /// The roots that come, the one that is looked at first.
+    /// The roots that follow, the current one first.
     pub(crate) fn upcoming(&self) -> &[u32] {
         let from = self.passed.min(self.order.len());
         &self.order[from..]
     }
 
-    /// Goes on to the next root.
+    /// Advances to the next root.
     pub(crate) fn pass(&mut self)
         ensures { self.new ≡ self.old }
     {
         self.passed = self.passed.saturating_add(1);
     }
 
-    /// Whether a root is known.
+    /// Whether a root has an entry.
     pub(crate) fn has(&self, root: u32) -> bool
         ensures { IsTrue result ↔ IsMemoized self.now root }
     {
         matches!(self.roots.get(root as usize), Some(Some(_)))
     }
 
-    /// The positions of the brackets that hold at a root that is known.
+    /// The brackets that hold at a root which has an entry; empty for any other.
     pub(crate) fn positions_at(&self, root: u32) -> &[u32]
-        ensures { (positions : List ℕ) → slice_get self.now root ≡ Some (Some positions) → result.now ≡ positions }
+        ensures { (positions : List ℕ) → slice_get self.now root ≡ Some (Some positions)
+            → result.now ≡ positions }
     {
         match self.roots.get(root as usize) {
             Some(Some(positions)) => positions.as_slice(),
@@ -87,7 +94,7 @@ impl Memo {
         }
     }
 
-    /// Forgets what is known, where that is past `MAX_POSITIONS`.
+    /// Empties the memo, where it holds more than `MAX_POSITIONS` indices.
     pub(crate) fn evict_if_full(&mut self)
         ensures { (self.new ≡ self.old) ⊎ (self.new ≡ []) }
     {
@@ -97,7 +104,7 @@ impl Memo {
         }
     }
 
-    /// Adds the positions of the brackets that hold at a root.
+    /// Adds the entry of a root.
     pub(crate) fn add(&mut self, root: u32, positions: Items<u32>) -> Result<(), NoMemory>
         ensures { OnOk result (AddsRoot root positions self.old self.new) }
     {
@@ -108,9 +115,10 @@ impl Memo {
         Ok(())
     }
 
-    /// Adds a position to those of a root, where that is known.
+    /// Adds a bracket to the entry of a root, where it has one.
     pub(crate) fn add_position(&mut self, root: u32, position: u32) -> Result<(), NoMemory>
-        ensures { OnOk result (AddsPositions (λ own added. (own ≡ root) × (added ≡ position)) self.old self.new) }
+        ensures { OnOk result (AddsPositions (λ own added. (own ≡ root)
+            × (added ≡ position)) self.old self.new) }
     {
         let at = root as usize;
         if at >= self.roots.len() {
@@ -125,11 +133,13 @@ impl Memo {
     }
 }
 
-/// Makes room for a root: those before it aren't known.
+/// Extends the list so that it has this root; the new entries are empty.
 fn ensure_length(roots: &mut Vec<Option<Items<u32>>>, at: usize) -> Result<(), NoMemory>
     requires { at < 2 ^ 32 }
     ensures room { OnOk result (at < length roots.new.items) }
-    ensures same { OnOk result ((root : ℕ) (positions : List ℕ) → slice_get roots.new.items root ≡ Some (Some positions) ↔ slice_get roots.old.items root ≡ Some (Some positions)) }
+    ensures same { OnOk result ((root : ℕ) (positions : List ℕ)
+        → slice_get roots.new.items root ≡ Some (Some positions)
+        ↔ slice_get roots.old.items root ≡ Some (Some positions)) }
 {
     for _ in roots.len()..at + 1 {
         roots.push(None)?;

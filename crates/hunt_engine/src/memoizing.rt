@@ -1,4 +1,4 @@
-//! What holds at roots that aren't known yet.
+//! Evaluates roots that have no entry in the memo.
 
 ghost use Rattle.std.specs.Prelude.{◌≡◌, ◌↔◌, ◌∷◌, [], IsTrue, All, map, IfOk, OnOk};
 ghost use Rattle.stix_bundles.specs.Objects.{data_in};
@@ -20,10 +20,10 @@ use pattern_types::Leaf;
 use std::alloc::Global;
 use stix_bundles::Bundle;
 
-/// Where fewer roots come than so many, each is asked by itself: a bracket of one root costs least so.
+/// With fewer roots to follow than this, a root is evaluated alone, which costs less than a batch.
 const FEW: usize = 8;
 
-/// Makes a root known, and with it those that come next and aren't known.
+/// Adds a root to the memo, and with it the roots that follow without an entry.
 pub(crate) fn memoize(
     alloc: Global,
     brackets: &Brackets<'_>,
@@ -32,11 +32,14 @@ pub(crate) fn memoize(
     bundle: &Bundle,
     memo: &mut Memo,
 ) -> Result<(), NoMemory>
-    requires sound { All IsSoundLeaf (map plain_leaf (map (λ leaf. leaf.now) brackets.now.leaves.items)) }
+    requires sound { All IsSoundLeaf
+        (map plain_leaf (map (λ leaf. leaf.now) brackets.now.leaves.items)) }
     requires index { index.now ≡ map (λ leaf. leaf.now) brackets.now.leaves.items }
-    requires right { IsSoundMemo (data_in bundle.now) (map plain_leaf (map (λ leaf. leaf.now) brackets.now.leaves.items)) memo.old }
+    requires right { IsSoundMemo (data_in bundle.now)
+        (map plain_leaf (map (λ leaf. leaf.now) brackets.now.leaves.items)) memo.old }
     ensures memo { OnOk result (IsMemoized memo.new root) }
-    ensures right { OnOk result (IsSoundMemo (data_in bundle.now) (map plain_leaf (map (λ leaf. leaf.now) brackets.now.leaves.items)) memo.new) }
+    ensures right { OnOk result (IsSoundMemo (data_in bundle.now)
+        (map plain_leaf (map (λ leaf. leaf.now) brackets.now.leaves.items)) memo.new) }
 {
     if memo.has(root) {
         return Ok(());
@@ -49,7 +52,7 @@ pub(crate) fn memoize(
     memoize_batch(alloc, brackets, index, root, bundle, memo)
 }
 
-/// The same, where many come: each bracket is asked of all of them at once.
+/// Evaluates a batch: each bracket at all of its roots together.
 fn memoize_batch(
     alloc: Global,
     brackets: &Brackets<'_>,
@@ -58,11 +61,14 @@ fn memoize_batch(
     bundle: &Bundle,
     memo: &mut Memo,
 ) -> Result<(), NoMemory>
-    requires sound { All IsSoundLeaf (map plain_leaf (map (λ leaf. leaf.now) brackets.now.leaves.items)) }
+    requires sound { All IsSoundLeaf
+        (map plain_leaf (map (λ leaf. leaf.now) brackets.now.leaves.items)) }
     requires index { index.now ≡ map (λ leaf. leaf.now) brackets.now.leaves.items }
-    requires right { IsSoundMemo (data_in bundle.now) (map plain_leaf (map (λ leaf. leaf.now) brackets.now.leaves.items)) memo.old }
+    requires right { IsSoundMemo (data_in bundle.now)
+        (map plain_leaf (map (λ leaf. leaf.now) brackets.now.leaves.items)) memo.old }
     ensures memo { OnOk result (IsMemoized memo.new root) }
-    ensures right { OnOk result (IsSoundMemo (data_in bundle.now) (map plain_leaf (map (λ leaf. leaf.now) brackets.now.leaves.items)) memo.new) }
+    ensures right { OnOk result (IsSoundMemo (data_in bundle.now)
+        (map plain_leaf (map (λ leaf. leaf.now) brackets.now.leaves.items)) memo.new) }
 {
     let root_batch = RootBatch::of(alloc, index, root, bundle, memo)?;
     insert_empty(alloc, root_batch.roots.as_slice(), memo)?;
@@ -70,7 +76,7 @@ fn memoize_batch(
     Ok(())
 }
 
-/// Adds roots, with no positions yet.
+/// Adds empty entries for some roots.
 fn insert_empty(alloc: Global, roots: &[u32], memo: &mut Memo) -> Result<(), NoMemory>
     ensures { OnOk result (InsertsEmpty roots.now memo.old memo.new) }
 {
@@ -80,8 +86,8 @@ fn insert_empty(alloc: Global, roots: &[u32], memo: &mut Memo) -> Result<(), NoM
     Ok(())
 }
 
-/// The positions of the brackets that hold at a root. Only the candidates are asked: all that hold are among
-/// them, and those that are exact hold.
+/// The brackets that hold at a root. Evaluates the candidates of the index: all that hold are among
+/// them, and definite ones hold without evaluation.
 fn matching_at(
     alloc: Global,
     brackets: &Brackets<'_>,
@@ -89,9 +95,11 @@ fn matching_at(
     root: u32,
     bundle: &Bundle,
 ) -> Result<Items<u32>, NoMemory>
-    requires sound { All IsSoundLeaf (map plain_leaf (map (λ leaf. leaf.now) brackets.now.leaves.items)) }
+    requires sound { All IsSoundLeaf
+        (map plain_leaf (map (λ leaf. leaf.now) brackets.now.leaves.items)) }
     requires index { index.now ≡ map (λ leaf. leaf.now) brackets.now.leaves.items }
-    ensures { IfOk result (AreHeld (data_in bundle.now) (map plain_leaf (map (λ leaf. leaf.now) brackets.now.leaves.items)) root) }
+    ensures { IfOk result (AreHeld (data_in bundle.now)
+        (map plain_leaf (map (λ leaf. leaf.now) brackets.now.leaves.items)) root) }
 {
     let candidates = index.candidates(&[root], bundle)?;
     let mut matching = Vec::new(alloc);
@@ -103,11 +111,14 @@ fn matching_at(
     Ok(Items::from_vec(matching))
 }
 
-/// Whether a candidate holds at a root. One that is exact isn't asked: the index found what it asks for.
+/// Whether a candidate holds at a root. A definite bracket isn't evaluated: the index has already
+/// compared its value.
 fn candidate_holds(alloc: Global, leaf: &Leaf, bundle: &Bundle, root: u32) -> Result<bool, NoMemory>
     requires sound { IsSoundLeaf (plain_leaf leaf.now) }
-    requires certain { IsDefinite (plain_leaf leaf.now) → LeafHolds (data_in bundle.now) (root ∷ []) (plain_leaf leaf.now) }
-    ensures { IfOk result (λ met. IsTrue met ↔ HoldsAt (data_in bundle.now) root (plain_leaf leaf.now)) }
+    requires certain { IsDefinite (plain_leaf leaf.now)
+        → LeafHolds (data_in bundle.now) (root ∷ []) (plain_leaf leaf.now) }
+    ensures { IfOk result (λ met. IsTrue met
+        ↔ HoldsAt (data_in bundle.now) root (plain_leaf leaf.now)) }
 {
     if is_definite(leaf) {
         return Ok(true);

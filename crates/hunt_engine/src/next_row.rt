@@ -1,11 +1,11 @@
 use stix_times::Instant;
 
-/// The next row of a log, as it is to every pattern.
+/// The next row of a log, as far as it is common to all patterns.
 #[derive(Clone, Copy, Debug)]
 pub(crate) struct NextRow {
-    /// How many rows stand before it.
+    /// How many rows come before it.
     pub(crate) rows: u64,
-    /// The last time of the row before it.
+    /// The end of the row before it.
     pub(crate) before: Option<Instant>,
     /// Its first time.
     pub(crate) first: Instant,

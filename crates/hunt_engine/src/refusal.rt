@@ -4,8 +4,8 @@ use thiserror::Error;
 /// Why a row has no answer. The engine has then ended.
 #[derive(Clone, Copy, Debug, PartialEq, Eq, Error)]
 pub enum EngineRefusal {
-    /// More of a pattern is retained after the row of this number than the retained limit allows: the first such pattern,
-    /// by its position in the hunted list.
+    /// After the row of this number a pattern would retain more than the limit: the first such
+    /// pattern, by its index in the hunted list.
     #[error("more than {retained_limit} are live of pattern {hunted} after row {number}")]
     OverLimit {
         hunted: u32,
@@ -15,7 +15,7 @@ pub enum EngineRefusal {
     /// The engine had ended before.
     #[error("the engine has ended")]
     Ended,
-    /// There was no memory.
+    /// Out of memory.
     #[error("out of memory")]
     NoMemory,
 }
@@ -34,9 +34,9 @@ impl From<NoMemory> for EngineRefusal {
 /// Why one pattern has no answer to a row.
 #[derive(Clone, Copy, Debug)]
 pub(crate) enum LazyMatcherRefusal {
-    /// More of it is retained after the row than the retained limit allows.
+    /// After the row it would retain more than the limit.
     OverLimit,
-    /// There was no memory.
+    /// Out of memory.
     NoMemory,
 }
 

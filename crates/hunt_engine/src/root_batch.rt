@@ -1,4 +1,4 @@
-//! Roots of a bundle of which each bracket is asked at once.
+//! A batch of roots at which each bracket is evaluated together.
 
 ghost use Rattle.std.specs.Prelude.{◌≡◌, ◌∷◌, ◌++◌, [], Contains, map, IfOk, OnOk};
 ghost use Rattle.stix_bundles.specs.Objects.{data_in};
@@ -17,13 +17,13 @@ use stix_bundles::Bundle;
 #[derive(Drop)]
 pub(crate) struct RootBatch {
     pub(crate) roots: Vec<u32>,
-    /// Positions of brackets, each with a root at which it may hold.
+    /// Pairs of a bracket's index and a root at which it may hold.
     pub(crate) pairs: Vec<(u32, u32)>,
 }
 
 impl RootBatch {
-    /// A root and those that come next and aren't known, until more than `MAX_POSITIONS` pairs stand there. The pairs of
-    /// a bracket stand together.
+    /// A batch of `root` and the roots that follow without an entry in the memo, until it has more
+    /// than `MAX_POSITIONS` pairs. Pairs of one bracket are adjacent.
     pub(crate) fn of(
         alloc: Global,
         index: &Index<'_>,
@@ -31,7 +31,8 @@ impl RootBatch {
         bundle: &Bundle,
         memo: &Memo,
     ) -> Result<RootBatch, NoMemory>
-        ensures is { IfOk result (λ root_batch. IsRootBatch (data_in bundle.now) (map plain_leaf index.now) root_batch.roots.items root_batch.pairs.items) }
+        ensures is { IfOk result (λ root_batch. IsRootBatch (data_in bundle.now)
+            (map plain_leaf index.now) root_batch.roots.items root_batch.pairs.items) }
         ensures there { IfOk result (λ root_batch. Contains root_batch.roots.items root) }
     {
         let mut root_batch = RootBatch {
@@ -44,7 +45,7 @@ impl RootBatch {
         Ok(root_batch)
     }
 
-    /// Adds the roots that come, but for those that are known and this one.
+    /// Adds the roots that follow, except those with an entry and `root` itself.
     fn add_upcoming(
         &mut self,
         alloc: Global,
@@ -53,9 +54,12 @@ impl RootBatch {
         bundle: &Bundle,
         memo: &Memo,
     ) -> Result<(), NoMemory>
-        requires { IsRootBatch (data_in bundle.now) (map plain_leaf index.now) self.old.roots.items self.old.pairs.items }
-        ensures is { OnOk result (IsRootBatch (data_in bundle.now) (map plain_leaf index.now) self.new.roots.items self.new.pairs.items) }
-        ensures there { OnOk result (Contains self.old.roots.items root → Contains self.new.roots.items root) }
+        requires { IsRootBatch (data_in bundle.now) (map plain_leaf index.now) self.old.roots.items
+            self.old.pairs.items }
+        ensures is { OnOk result (IsRootBatch (data_in bundle.now) (map plain_leaf index.now)
+            self.new.roots.items self.new.pairs.items) }
+        ensures there { OnOk result (Contains self.old.roots.items root
+            → Contains self.new.roots.items root) }
     {
         let mut taken = BTreeSet::new(alloc);
         taken.insert(root)?;
@@ -70,10 +74,12 @@ impl RootBatch {
         Ok(())
     }
 
-    /// Adds a root.
+    /// Adds a root with its candidates.
     fn add(&mut self, index: &Index<'_>, root: u32, bundle: &Bundle) -> Result<(), NoMemory>
-        requires { IsRootBatch (data_in bundle.now) (map plain_leaf index.now) self.old.roots.items self.old.pairs.items }
-        ensures is { OnOk result (IsRootBatch (data_in bundle.now) (map plain_leaf index.now) self.new.roots.items self.new.pairs.items) }
+        requires { IsRootBatch (data_in bundle.now) (map plain_leaf index.now) self.old.roots.items
+            self.old.pairs.items }
+        ensures is { OnOk result (IsRootBatch (data_in bundle.now) (map plain_leaf index.now)
+            self.new.roots.items self.new.pairs.items) }
         ensures roots { OnOk result (self.new.roots.items ≡ self.old.roots.items ++ root ∷ []) }
     {
         let positions = index.candidates(&[root], bundle)?;
@@ -83,7 +89,8 @@ impl RootBatch {
     }
 }
 
-/// Whether a root is neither known nor taken. It is taken then.
+/// Whether a root has no entry and isn't in the batch yet. Notes it as taken. No contract: a root
+/// left out or taken twice only costs time.
 fn is_new_root(root: u32, memo: &Memo, taken: &mut BTreeSet<u32>) -> Result<bool, NoMemory> {
     if memo.has(root) {
         return Ok(false);
@@ -92,9 +99,10 @@ fn is_new_root(root: u32, memo: &Memo, taken: &mut BTreeSet<u32>) -> Result<bool
     Ok(new)
 }
 
-/// Adds pairs of some positions and a root.
+/// Appends a pair for each of these brackets.
 fn add_pairs(positions: &[u32], root: u32, pairs: &mut Vec<(u32, u32)>) -> Result<(), NoMemory>
-    ensures { OnOk result (pairs.new.items ≡ pairs.old.items ++ map (λ position. (position, root)) positions.now) }
+    ensures { OnOk result (pairs.new.items ≡ pairs.old.items
+        ++ map (λ position. (position, root)) positions.now) }
 {
     for position in positions {
         pairs.push((*position, root))?;

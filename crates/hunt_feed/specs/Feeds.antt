@@ -1,5 +1,5 @@
--- What a feed is read as: its objects, a line each, up to the first line that is refused, and why that is. Lines are those of any
--- input: blank ones are passed over.
+-- The reading of a feed: its objects, one per line, up to the first refused line, and why that is
+-- refused. Blank lines are skipped.
 use Rattle.std.specs.Prelude.{◌≡◌, ℕ, List, [], ◌∷◌, All, Option, IfSome}
 use Rattle.serde_json.specs.Data.{Data}
 use Rattle.flow_lines.specs.Lines.{LineStream, ended, refused, line_then, lines_of}
@@ -11,12 +11,12 @@ use Rattle.hunt_feed.specs.declared.rule.FeedRule.{FeedRule}
 use Rattle.hunt_feed.specs.declared.rule.FeedRule.TheVariants as rule
 use Rattle.hunt_feed.specs.Line.{IsObjectOf, IsRefusedFor}
 
--- how a feed ends: whole, or at the first line that is refused
+-- how a feed ends: complete, or at the first refused line
 pub data FeedClose : Type 0 where
   Whole : FeedClose
   Refused : (line : ℕ) → FeedRule → FeedClose
 
--- why a line is refused that is too long, or with which the feed is
+-- why a line is refused that is too long, or that makes the feed too long
 abbrev pub IsTooLong : LineRefusal → ℕ → FeedRule → Type 0
 IsTooLong line_refusal.Fault line why = ⊥
 IsTooLong (line_refusal.LineTooLong number) line why = (line ≡ number) × (why ≡ rule.LineTooLong)
@@ -29,7 +29,7 @@ IsRefusedAt ended line why = ⊥
 IsRefusedAt (refused refusal) line why = IsTooLong refusal line why
 IsRefusedAt (line_then number bytes later) line why = (line ≡ number) × IsRefusedFor bytes why
 
--- The lines that come are these objects, and end so.
+-- The reading of the remaining lines: these objects, and this end.
 pub data Reads : LineStream → List Data → FeedClose → Type 0 where
   -- the feed ends
   at_end : Reads ended [] Whole
@@ -39,7 +39,7 @@ pub data Reads : LineStream → List Data → FeedClose → Type 0 where
   one_object : {number : ℕ} {bytes : List ℕ} {later : LineStream} {object : Data} {objects : List Data} {close : FeedClose}
       → IsObjectOf bytes object → Reads later objects close → Reads (line_then number bytes later) (object ∷ objects) close
 
--- these bytes are a feed of these objects, and end so, where they are told
+-- the reading of the bytes of a feed, where they are observable
 abbrev pub ReadsFeed : Option (List ℕ) → List Data → FeedClose → Type 0
 ReadsFeed left objects close = IfSome left (λ bytes. Reads (lines_of bytes) objects close)
 
@@ -47,7 +47,7 @@ ReadsFeed left objects close = IfSome left (λ bytes. Reads (lines_of bytes) obj
 abbrev pub AreUnbroken : List Data → Type 0
 AreUnbroken objects = All (λ object. AreBreaksOf object []) objects
 
--- the whole feed was read, and what is kept of it is kept of these objects
+-- the whole feed was read, and this was gathered from its objects
 pub record GathersFeed (left : Option (List ℕ)) (gathered : Gathered) (objects : List Data) : Type 0 where
   pub reading : ReadsFeed left objects Whole
   pub unbroken : AreUnbroken objects

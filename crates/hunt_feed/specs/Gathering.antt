@@ -1,4 +1,4 @@
--- What is kept of objects that come one by one, so that those to hunt are known at the end.
+-- What is kept of objects that come one by one, enough to know at the end which to hunt.
 use Rattle.std.specs.Prelude.{◌≡◌, ◌↔◌, ℕ, List, map, length, All, Contains, IsTrue, slice_get, Option, Some, None, codes}
 use Rattle.std.specs.Ordering.{nat_cmp}
 use Rattle.std.specs.BTreeMap.{is_at}
@@ -17,31 +17,31 @@ use Rattle.hunt_feed.specs.Indicators.{IsStixIndicator, IsRevoked, IsCurrent, Is
 pub record Gathered : Type 0 where
   -- how many objects came
   pub count : ℕ
-  -- what a hunt asks of the indicators that may be hunted, in the order in which they came
+  -- what a hunt needs of the indicators that may be hunted, in the order in which they came
   pub kept : List Kept
-  -- of each indicator, by the number of its identifier, what is known of its versions
+  -- for each indicator, by its UUID as a number, what is known of its versions
   pub versions : List (ℕ × Version)
 
--- the identifier of an indicator
+-- the identifier of an indicator with this UUID
 abbrev pub indicator_id : ℕ → Id
 indicator_id number = record { kind = codes "indicator"; number = number }
 
--- what is known of the versions of the indicator with that number
+-- what is known of the versions of an indicator
 abbrev pub known_in : List (ℕ × Version) → ℕ → Option Version
 known_in versions number = lookup (is_at (nat_cmp number)) versions
 
--- where the latest version stands, when it was modified, and whether one of the versions is revoked
+-- the position of the latest version, when it was modified, and whether some version is revoked
 pub record IsVersionAs (objects : List Data) (id : Id) (version : Version) : Type 0 where
   pub latest : IsLatest objects id version.at
   pub modified : latest.modified ≡ Some version.modified
   pub revoked : IsTrue version.revoked ↔ IsRevoked objects id
 
--- the same, and that nothing is known where the objects have no version
+-- the same; None where the objects have no version of it
 abbrev pub IsKnown : List Data → Id → Option Version → Type 0
 IsKnown objects id None = (at : ℕ) → ¬ IsOf objects id at
 IsKnown objects id (Some version) = IsVersionAs objects id version
 
--- the indicator that this was kept of: its identifier, its times and the text of its pattern
+-- what is kept of the indicator: its identifier, its times and the text of its pattern
 pub record IsKeptAs (object : Data) (kept : Kept) : Type 0 where
   pub has : HasId object (indicator_id kept.number)
   pub indicator : IsStixIndicator object
@@ -50,15 +50,15 @@ pub record IsKeptAs (object : Data) (kept : Kept) : Type 0 where
   pub until : FindsExactly (IsTimestampAt Any (codes "valid_until") object) kept.until
   pub told : text_at (codes "pattern") object ≡ Some kept.pattern
 
--- it was kept of the object at its place
+-- it is kept of the object at its position
 abbrev pub IsKeptOf : List Data → Kept → Type 0
 IsKeptOf objects kept = (object : Data) × (slice_get objects kept.at ≡ Some object) × IsKeptAs object kept
 
--- the places of the kept indicators
+-- the positions of the kept indicators
 abbrev pub kept_places : List Kept → List ℕ
 kept_places kept = map (λ k. k.at) kept
 
--- these are the objects that came
+-- this was gathered from these objects
 pub record GathersFor (gathered : Gathered) (objects : List Data) : Type 0 where
   pub counted : gathered.count ≡ length objects
   pub versions : (number : ℕ) → IsKnown objects (indicator_id number) (known_in gathered.versions number)

@@ -18,7 +18,7 @@ pub record IsStixIndicator (d : Data) : Type 0 where
   pub typed : text_at (codes "type") d ≡ Some (codes "indicator")
   pub language : text_at (codes "pattern_type") d ≡ Some (codes "stix")
 
--- it revokes what it is a version of
+-- it has `revoked` set
 abbrev pub Revokes : Data → Type 0
 Revokes d = get (codes "revoked") d ≡ Some (boolean true)
 
@@ -38,19 +38,19 @@ pub record IsCurrent (objects : List Data) (at : ℕ) (id : Id) (object : Data) 
   pub latest : IsLatest objects id at
   pub not_revoked : ¬ IsRevoked objects id
 
--- it is valid from a time that isn't later than the moment, until one that is later where it tells one
+-- it is valid from a time not after the moment, and until a time after it, if it has one
 pub record IsValidAt (moment : ℤ) (d : Data) : Type 0 where
   pub from : ℤ
   pub begins : IsTimestampAt Any (codes "valid_from") d from
   pub begun : from ≤ℤ moment
   pub lasts : (until : ℤ) → IsTimestampAt Any (codes "valid_until") d until → moment <ℤ until
 
--- the object at the place may be hunted at the moment
+-- the object at the position may be hunted at the moment
 pub record IsCandidate (objects : List Data) (moment : ℤ) (at : ℕ) (id : Id) (object : Data) : Type 0 where
   pub current : IsCurrent objects at id object
   pub valid : IsValidAt moment object
 
--- the hunted indicator is a candidate, created then, whose text is read as the pattern
+-- the hunted indicator is a candidate with this creation time, whose text parses to this pattern
 pub record IsHunted (objects : List Data) (moment : ℤ) (hunted : Hunted) : Type 0 where
   pub object : Data
   pub candidate : IsCandidate objects moment hunted.at hunted.id object
@@ -59,7 +59,7 @@ pub record IsHunted (objects : List Data) (moment : ℤ) (hunted : Hunted) : Typ
   pub told : text_at (codes "pattern") object ≡ Some text
   pub read : IsReadAs text hunted.pattern
 
--- the skipped indicator is a candidate whose text is refused so
+-- the skipped indicator is a candidate whose text is refused for this reason
 pub record IsSkipped (objects : List Data) (moment : ℤ) (skipped : Skipped) : Type 0 where
   pub object : Data
   pub candidate : IsCandidate objects moment skipped.at skipped.id object
@@ -67,18 +67,19 @@ pub record IsSkipped (objects : List Data) (moment : ℤ) (skipped : Skipped) : 
   pub told : text_at (codes "pattern") object ≡ Some text
   pub refused : IsRefusedAs text skipped.refusal
 
--- each number is less than the ones behind it
+-- strictly ascending
 abbrev pub IsAscending : List ℕ → Type 0
 IsAscending numbers = (j k m n : ℕ) → j < k → slice_get numbers j ≡ Some m → slice_get numbers k ≡ Some n → m < n
 
--- the places of the hunted indicators, and of the skipped ones
+-- the positions of the hunted indicators, and of the skipped ones
 abbrev pub hunted_places : Hunt → List ℕ
 hunted_places hunt = map (λ h. h.at) hunt.hunted
 
 abbrev pub skipped_places : Hunt → List ℕ
 skipped_places hunt = map (λ s. s.at) hunt.skipped
 
--- the hunt of the objects at the moment: each candidate is hunted or skipped, once, by its place, and nothing else is
+-- the hunt of the objects at the moment: each candidate is hunted or skipped, once, ordered by
+-- position, and nothing else is
 pub record IsHuntOf (objects : List Data) (moment : ℤ) (hunt : Hunt) : Type 0 where
   pub hunted : All (IsHunted objects moment) hunt.hunted
   pub skipped : All (IsSkipped objects moment) hunt.skipped

@@ -1,4 +1,4 @@
--- What the bytes of a line of a feed are: an object of STIX, or why the line is refused.
+-- The reading of one line of a feed: a STIX object, or why it is refused.
 use Rattle.std.specs.Prelude.{◌≡◌, ◌≢◌, ℕ, List, []}
 use Rattle.serde_json.specs.Data.{Data}
 use Rattle.stix_json.specs.declared.value.Json.{Json}
@@ -24,7 +24,7 @@ pub record IsBroken (bytes : List ℕ) (breaks : List Break) : Type 0 where
   pub some : breaks ≢ []
   pub are : AreBreaksOf (data_of value) breaks
 
--- why the bytes are refused, of which there aren't too many: the first cause in this order
+-- why the bytes, if not too many, are refused: the first cause in this order
 abbrev pub IsRefusedFor : List ℕ → FeedRule → Type 0
 IsRefusedFor bytes LineTooLong = ⊥
 IsRefusedFor bytes InputTooLong = ⊥

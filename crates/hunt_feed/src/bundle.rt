@@ -8,8 +8,8 @@ use std::alloc::Global;
 use stix_bundles::Bundle;
 use stix_times::Instant;
 
-/// Which indicators of a bundle are hunted at a moment, and which are skipped. A bundle of n objects takes
-/// n log n, and the time in which the patterns of the candidates are read.
+/// Which indicators of a bundle are hunted at a moment, and which are skipped. O(n log n) for n
+/// objects, plus the time to parse the patterns of the candidates.
 pub fn hunt(alloc: Global, bundle: &Bundle, moment: Instant) -> Result<Hunt, NoMemory>
     ensures { IfOk result (IsHuntOf (data_in bundle.now) moment) }
 {

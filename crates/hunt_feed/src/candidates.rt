@@ -1,4 +1,4 @@
-//! Which of the kept indicators are candidates at a moment, and what their patterns are read as.
+//! Selects the candidates among the kept indicators, and parses their patterns.
 
 ghost use Rattle.std.specs.Prelude.{◌≡◌, ◌↔◌, ℕ, List, IsTrue, IfOk, OnOk};
 ghost use Rattle.serde_json.specs.Data.{Data};
@@ -19,7 +19,7 @@ use stix_objects::laws::{one_id, one_timestamp};
 use stix_times::Instant;
 use stix_times::laws::is_before;
 
-/// The hunt at a moment among the kept indicators, of whose versions that is known.
+/// The hunt at a moment among the kept indicators, given the versions of each.
 pub(crate) fn hunt_among(
     alloc: Global,
     kept: Vec<Kept>,
@@ -27,7 +27,8 @@ pub(crate) fn hunt_among(
     moment: Instant,
 ) -> Result<Hunt, NoMemory>
     ensures { (objects : List Data) (count : ℕ)
-        → GathersFor (record { count = count; kept = kept.items; versions = versions.now.entries }) objects
+        → GathersFor (record { count = count; kept = kept.items; versions = versions.now.entries })
+        objects
         → IfOk result (IsHuntOf objects moment) }
 {
     one_id();
@@ -45,7 +46,7 @@ pub(crate) fn hunt_among(
     Ok(hunt)
 }
 
-/// Whether an indicator is the latest of its versions, of which none is revoked.
+/// Whether an indicator is its latest version, and none of its versions is revoked.
 fn is_last(kept: &Kept, versions: &BTreeMap<u128, Version>) -> bool
     ensures { IsTrue result ↔ IsLast versions.now.entries kept.now }
 {
@@ -68,7 +69,7 @@ fn is_valid(kept: &Kept, moment: Instant) -> bool
     }
 }
 
-/// Reads the pattern of a candidate, which is then hunted or skipped.
+/// Parses the pattern of a candidate, and adds it to the hunted or the skipped indicators.
 fn classify(alloc: Global, kept: Kept, hunt: &mut Hunt) -> Result<(), NoMemory>
     ensures { OnOk result (IsClassified kept hunt.old hunt.new) }
 {
@@ -86,7 +87,7 @@ fn classify(alloc: Global, kept: Kept, hunt: &mut Hunt) -> Result<(), NoMemory>
     }
 }
 
-/// The identifier of an indicator.
+/// The identifier of an indicator, from its UUID as a number.
 fn indicator_id(alloc: Global, number: u128) -> Result<Id, NoMemory>
     ensures { IfOk result (λ id. id ≡ indicator_id number) }
 {

@@ -9,11 +9,11 @@ use flow_values::NoMemory;
 /// Why a feed isn't read to its end.
 #[derive(Debug, Drop)]
 pub enum FeedEnd {
-    /// The line of that number is the first that is refused.
+    /// The line of this number is refused.
     Refused { line: u64, rule: FeedRule },
-    /// The source failed, and counted it.
+    /// The source failed, and counted the failure.
     Fault,
-    /// Memory ran out.
+    /// Out of memory.
     NoMemory,
 }
 

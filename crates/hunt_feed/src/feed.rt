@@ -1,4 +1,4 @@
-//! A feed, read a line at a time.
+//! Reads a feed line by line.
 
 ghost use Rattle.std.specs.Prelude.{◌≡◌, ◌∷◌, ◌++◌, ℕ, [], List, Err, None, IfOk, IfSome, OnOk};
 ghost use Rattle.flow_edges.specs.Faults.{Counted};
@@ -20,10 +20,12 @@ use flow_values::NoMemory;
 use std::alloc::Global;
 use stix_json::Json;
 
-/// Reads a feed to its end, an object a line, and keeps of it what a hunt asks of its indicators: of an object that isn't
-/// hunted, at most what is known of its versions. A feed of more objects than a u32 counts takes more memory than there is.
+/// Reads a feed with one object per line to its end, and keeps what a hunt needs of its indicators.
+/// Of an indicator that isn't hunted, it keeps at most a summary of its versions. Out of memory
+/// also where the feed has more objects than a u32 can count.
 pub fn gather<S: Source>(alloc: Global, source: &mut S) -> Result<Gathering, FeedEnd>
-    ensures whole { IfOk result (λ gathering. (objects : List Data) × GathersFeed (S.left source.old) gathering objects) }
+    ensures whole { IfOk result (λ gathering. (objects : List Data)
+        × GathersFeed (S.left source.old) gathering objects) }
     ensures refused { (line : ℕ) (why : FeedRule) → result ≡ Err (end.Refused line why)
         → (objects : List Data) × ReadsFeed (S.left source.old) objects (Refused line why) }
     ensures causes { Counted (result ≡ Err end.Fault) (S.faults source.old) (S.faults source.new) }
@@ -40,14 +42,15 @@ pub fn gather<S: Source>(alloc: Global, source: &mut S) -> Result<Gathering, Fee
     }
 }
 
-/// The object of the next line that isn't blank; none at the end of the feed.
+/// The object of the next line that isn't blank. None at the end of the feed.
 fn next_object<S: Source>(
     alloc: Global,
     lines: &mut Lines,
     source: &mut S,
 ) -> Result<Option<Json>, FeedEnd>
     requires unrefused { lines.old.refusal ≡ None }
-    ensures next { AnswersObject (lines_remaining lines.old (S.left source.old)) (lines_remaining lines.new (S.left source.new)) result }
+    ensures next { AnswersObject (lines_remaining lines.old (S.left source.old))
+        (lines_remaining lines.new (S.left source.new)) result }
     ensures moves { IfOk result (λ found. IfSome found (λ _. MovesOn lines.old lines.new)) }
     ensures causes { Counted (result ≡ Err end.Fault) (S.faults source.old) (S.faults source.new) }
 {
@@ -63,7 +66,7 @@ fn next_object<S: Source>(
     }
 }
 
-/// Adds an object, where it can be counted.
+/// Adds an object, unless there would be more than a u32 can count.
 fn add(gathering: &mut Gathering, object: &Json) -> Result<(), NoMemory>
     requires unbroken { AreBreaksOf (data_of object.now) [] }
     ensures { (objects : List Data) → GathersFor gathering.old objects

@@ -1,4 +1,4 @@
-//! What the bytes of a line are: an object, or why the line is refused.
+//! One line of a feed: from bytes to an object, or the rule by which the line is refused.
 
 ghost use Rattle.std.specs.Prelude.{ℕ, List, IfErr, IfOk};
 ghost use Rattle.stix_json.specs.DataOf.{data_of};
@@ -11,9 +11,10 @@ use std::alloc::Global;
 use stix_json::{Json, JsonRefusal, read_json};
 use stix_objects::breaks;
 
-/// The object that the bytes of a line are, or why the line is refused.
+/// Parses a line as an object.
 pub(crate) fn read_object(alloc: Global, bytes: &[u8]) -> Result<Result<Json, FeedRule>, NoMemory>
-    ensures ok { IfOk result (λ outcome. IfOk outcome (λ object. IsObjectOf bytes.now (data_of object))) }
+    ensures ok { IfOk result (λ outcome. IfOk outcome
+        (λ object. IsObjectOf bytes.now (data_of object))) }
     ensures refused { IfOk result (λ outcome. IfErr outcome (IsRefusedFor bytes.now)) }
 {
     match json_of(alloc, bytes)? {
@@ -22,7 +23,7 @@ pub(crate) fn read_object(alloc: Global, bytes: &[u8]) -> Result<Result<Json, Fe
     }
 }
 
-/// The JSON value that the bytes are.
+/// Parses bytes as JSON.
 fn json_of(alloc: Global, bytes: &[u8]) -> Result<Result<Json, FeedRule>, NoMemory>
     ensures ok { IfOk result (λ outcome. IfOk outcome (IsJsonOf bytes.now)) }
     ensures refused { IfOk result (λ outcome. IfErr outcome (IsRefusedFor bytes.now)) }
@@ -38,7 +39,8 @@ fn json_of(alloc: Global, bytes: &[u8]) -> Result<Result<Json, FeedRule>, NoMemo
 fn unbroken(alloc: Global, json: Json) -> Result<Result<Json, FeedRule>, NoMemory>
     ensures ok { (bytes : List ℕ) → IsJsonOf bytes json
         → IfOk result (λ outcome. IfOk outcome (λ object. IsObjectOf bytes (data_of object))) }
-    ensures refused { (bytes : List ℕ) → IsJsonOf bytes json → IfOk result (λ outcome. IfErr outcome (IsRefusedFor bytes)) }
+    ensures refused { (bytes : List ℕ) → IsJsonOf bytes json
+        → IfOk result (λ outcome. IfErr outcome (IsRefusedFor bytes)) }
 {
     let found = breaks(alloc, &json)?;
     if found.is_empty() {

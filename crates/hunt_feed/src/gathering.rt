@@ -20,12 +20,12 @@ use stix_json::Json;
 use stix_objects::laws::{no_breaks, one_id};
 use stix_times::Instant;
 
-/// The indicators of a feed, out of objects that come one by one. Contracts see how many came, what is
-/// kept of the indicators that may be hunted, and what is known of the versions of each; and by
-/// `GathersFor` the objects that this stands for.
+/// The indicators of a feed, gathered from objects one by one. Contracts observe how many objects
+/// came, what is kept of the indicators that may be hunted, and the versions of each. `GathersFor`
+/// relates them to the objects.
 ///
-/// Of objects that are no indicators nothing is kept, and of versions that can't be hunted, whether one of
-/// them is revoked. An object costs the logarithm of the number of indicators.
+/// Of other objects nothing is kept, and of outdated versions only that there was one. Takes O(log
+/// n) for each object.
 #[derive(Drop)]
 pub struct Gathering {
     alloc: Global,
@@ -55,14 +55,14 @@ impl Gathering {
         }
     }
 
-    /// Whether so many objects came as can be counted. Takes no memory.
+    /// Whether as many objects came as a u32 can count. Takes no memory.
     pub fn is_full(&self) -> bool
         ensures { IsTrue result ↔ ¬ (self.now.count < 2 ^ 32) }
     {
         self.count > u64::from(u32::MAX)
     }
 
-    /// Adds an object that breaks no rule. Without memory all is as it was.
+    /// Adds an object that breaks no rule. Out of memory leaves all unchanged.
     pub fn add(&mut self, object: &Json) -> Result<(), NoMemory>
         requires unbroken { AreBreaksOf (data_of object.now) [] }
         requires room { self.old.count < 2 ^ 32 }
@@ -81,7 +81,7 @@ impl Gathering {
         Ok(())
     }
 
-    /// Adds an indicator, but doesn't count it.
+    /// Adds an indicator without counting it.
     fn add_indicator(&mut self, object: &Json) -> Result<(), NoMemory>
         requires unbroken { AreBreaksOf (data_of object.now) [] }
         requires indicator { IsIndicator (data_of object.now) }
@@ -101,7 +101,7 @@ impl Gathering {
         }
     }
 
-    /// Keeps an indicator, and what is known of its versions.
+    /// Keeps an indicator and its versions.
     fn put_kept(&mut self, number: u128, versions: Version, kept: Kept) -> Result<(), NoMemory>
         ensures ok { OnOk result (Puts self.old self.new number versions (Some kept)) }
         ensures err { OnErr result (self.new ≡ self.old) }
@@ -114,7 +114,7 @@ impl Gathering {
         put
     }
 
-    /// Keeps what is known of an indicator's versions.
+    /// Keeps the versions of an indicator.
     fn put(&mut self, number: u128, versions: Version) -> Result<(), NoMemory>
         ensures ok { OnOk result (Puts self.old self.new number versions None) }
         ensures err { OnErr result (self.new ≡ self.old) }
@@ -123,9 +123,10 @@ impl Gathering {
         Ok(())
     }
 
-    /// The hunt at a moment. Patterns are read of candidates alone.
+    /// The hunt at a moment. Parses the patterns of the candidates only.
     pub fn hunt(self, moment: Instant) -> Result<Hunt, NoMemory>
-        ensures { (objects : List Data) → GathersFor self objects → IfOk result (IsHuntOf objects moment) }
+        ensures { (objects : List Data) → GathersFor self objects
+            → IfOk result (IsHuntOf objects moment) }
     {
         let Gathering {
             alloc,

@@ -13,22 +13,22 @@ pub struct Hunted {
     pub id: Id,
     /// When it was created: a whole number of microseconds.
     pub created: Instant,
-    /// What its pattern is read as.
+    /// Its parsed pattern.
     pub pattern: Pattern,
 }
 
-/// An indicator that would be hunted, had it a pattern that is read.
+/// An indicator that would be hunted if its pattern parsed.
 #[derive(Debug, Drop)]
 pub struct Skipped {
     /// Its position among the objects, counted from 0.
     pub at: u32,
     /// Its identifier.
     pub id: Id,
-    /// Why its pattern is refused; never for want of memory.
+    /// Why its pattern is refused; never for lack of memory.
     pub refusal: PatternRefusal,
 }
 
-/// The indicators that are hunted at a moment, and those that are skipped, both by position.
+/// The indicators hunted at a moment, and those skipped, each by position.
 #[derive(Debug, Drop)]
 pub struct Hunt {
     pub hunted: Items<Hunted>,

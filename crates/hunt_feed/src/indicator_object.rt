@@ -1,4 +1,4 @@
-//! What an object tells that breaks no rule.
+//! The properties of an indicator that breaks no rule of its type.
 
 ghost use Rattle.std.specs.Prelude.{◌≡◌, ◌↔◌, ℤ, [], IsTrue, IfOk, Some, codes};
 ghost use Rattle.stix_json.specs.DataOf.{data_of};
@@ -18,7 +18,7 @@ use stix_objects::laws::{no_breaks, one_id};
 use stix_objects::{Precision, object_id, timestamp_at};
 use stix_times::Instant;
 
-/// An indicator without breaks tells an identifier, times and a pattern.
+/// Such an indicator has an identifier, times and a pattern.
 fn indicators_have_fields(object: &Json)
     requires unbroken { AreBreaksOf (data_of object.now) [] }
     requires indicator { IsIndicator (data_of object.now) }
@@ -34,14 +34,14 @@ pub(crate) fn is_indicator(object: &Json) -> bool
     text_at(object, "type") == Some("indicator")
 }
 
-/// Whether an object is an indicator with a pattern of STIX.
+/// Whether an object is an indicator with a STIX pattern (`pattern_type` is `stix`).
 fn is_stix_indicator(object: &Json) -> bool
     ensures { IsTrue result ↔ IsStixIndicator (data_of object.now) }
 {
     is_indicator(object) && text_at(object, "pattern_type") == Some("stix")
 }
 
-/// Whether an object revokes what it is a version of.
+/// Whether an object has `revoked` set.
 fn revokes(object: &Json) -> bool
     ensures { IsTrue result ↔ Revokes (data_of object.now) }
 {
@@ -51,7 +51,7 @@ fn revokes(object: &Json) -> bool
     }
 }
 
-/// The number of an indicator's identifier.
+/// The UUID of an indicator, as a number.
 pub(crate) fn number_of(object: &Json) -> u128
     requires unbroken { AreBreaksOf (data_of object.now) [] }
     requires indicator { IsIndicator (data_of object.now) }
@@ -65,7 +65,7 @@ pub(crate) fn number_of(object: &Json) -> u128
     }
 }
 
-/// The time that an indicator tells in a property.
+/// The time in a property of an indicator.
 fn time_of(object: &Json, precision: Precision, name: &str) -> Instant
     requires there { (instant : ℤ) × IsTimestampAt precision name.now (data_of object.now) instant }
     ensures { IsTimestampAt precision name.now (data_of object.now) result }
@@ -76,7 +76,7 @@ fn time_of(object: &Json, precision: Precision, name: &str) -> Instant
     }
 }
 
-/// The text that an indicator tells as its pattern.
+/// The text of an indicator's pattern.
 fn pattern_of(object: &Json) -> &str
     requires { HasFields (data_of object.now) }
     ensures { text_under (codes "pattern") (data_of object.now) ≡ Some result.now }
@@ -87,7 +87,7 @@ fn pattern_of(object: &Json) -> &str
     }
 }
 
-/// What an indicator at a position tells of itself as a version.
+/// The version information of the indicator at a position.
 pub(crate) fn version_at(object: &Json, at: u32) -> Version
     requires unbroken { AreBreaksOf (data_of object.now) [] }
     requires indicator { IsIndicator (data_of object.now) }
@@ -102,8 +102,8 @@ pub(crate) fn version_at(object: &Json, at: u32) -> Version
     }
 }
 
-/// What is kept of the indicator at a position, whose identifier has that number, where it is the latest
-/// of its versions and may be hunted.
+/// Extracts what is kept of the indicator at a position, if it is its latest version and may be
+/// hunted.
 pub(crate) fn to_keep(
     alloc: Global,
     object: &Json,
@@ -123,7 +123,7 @@ pub(crate) fn to_keep(
     Ok(Some(kept))
 }
 
-/// What is kept of an indicator.
+/// Extracts what is kept of an indicator.
 fn kept_at(alloc: Global, object: &Json, at: u32, number: u128) -> Result<Kept, NoMemory>
     requires unbroken { AreBreaksOf (data_of object.now) [] }
     requires indicator { IsStixIndicator (data_of object.now) }

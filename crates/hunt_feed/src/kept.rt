@@ -1,17 +1,17 @@
 use flow_values::Text;
 use stix_times::Instant;
 
-/// What a hunt asks of an indicator that may be hunted. The fields lie in this order, in which the least room is
-/// left between them: there is one for each indicator of a feed.
+/// The data that a hunt needs of an indicator that may be hunted. The order of the fields leaves
+/// the least padding, since there is one for each indicator of a feed.
 #[derive(Debug, Drop)]
 pub(crate) struct Kept {
-    /// The number of its identifier.
+    /// Its UUID as a number.
     pub(crate) number: u128,
     /// When it was created.
     pub(crate) created: Instant,
-    /// From when on it is valid.
+    /// `valid_from`.
     pub(crate) from: Instant,
-    /// Until when, where it tells so.
+    /// `valid_until`, if it has one.
     pub(crate) until: Option<Instant>,
     /// The text of its pattern.
     pub(crate) pattern: Text,

@@ -1,14 +1,15 @@
-//! Which indicators of a feed are hunted at a moment (STIX 2.1, section 4.7): the latest versions that
-//! are valid then, not revoked, and have a pattern of STIX that is read.
+//! The indicators of a feed: which are hunted at a moment (STIX 2.1, section 4.7)? The latest
+//! versions that are valid then, not revoked, and have a STIX pattern that parses.
 //!
-//! `hunt` tells them of a bundle. A `Gathering` takes the objects of a feed one by one, however many,
-//! and keeps of each what a hunt asks of it.
+//! `hunt` answers it for a bundle. `gather` reads a feed with one object per line (STIX 2.1,
+//! sections 2 to 7), up to its end or to the first refused line, and answers a `Gathering`. A
+//! `Gathering` takes objects one by one, and keeps only what a hunt needs of each indicator, so
+//! that a feed may be larger than memory. `write_feed_refusal` writes why a line is refused.
 //!
-//! The indicators of a feed that is given a line at a time: each line is an object of STIX 2.1 that breaks no rule of
-//! its type (sections 2 to 7).
-//!
-//! `gather` reads such a feed to its end or to the first line that is refused, and keeps of it what a hunt asks of its
-//! indicators. `write_feed_refusal` writes why a line is refused.
+//! ```text
+//! let gathering = gather(alloc, &mut source)?;
+//! let hunt = gathering.hunt(moment)?; // hunt.hunted: with parsed patterns; hunt.skipped: with why not
+//! ```
 #![tactic(auto)]
 
 mod bundle;

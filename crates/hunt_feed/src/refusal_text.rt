@@ -1,3 +1,5 @@
+//! The texts of refused lines of a feed.
+
 ghost use Rattle.std.specs.Prelude.{◌≡◌, ◌++◌, codes, IsErr};
 ghost use Rattle.flow_edges.specs.Faults.{Counted};
 ghost use Rattle.flow_edges.specs.Flow.{WritesWhole};
@@ -12,7 +14,8 @@ use itoa::Buffer;
 use stix_json::JsonRefusal;
 use stix_objects::Break;
 
-/// What is said of a refusal: a name, the rule that is broken, and the path to what it is told of. The last two may be empty.
+/// The parts of a refusal's text: a name, the rule that is broken, and a path. The last two may be
+/// empty.
 #[derive(Clone, Copy, Debug)]
 pub(crate) struct Reason<'a> {
     pub(crate) name: &'static str,
@@ -20,10 +23,11 @@ pub(crate) struct Reason<'a> {
     pub(crate) path: &'a str,
 }
 
-/// Writes why a line of a feed is refused, as `indicators line 2 refused: Breaks Missing at pattern` and a line feed. After a
-/// `Fault` a prefix of the text was written. Takes no memory.
+/// Writes why a line of a feed is refused, such as `indicators line 2 refused: Breaks Missing at
+/// pattern` and a line feed. After a `Fault` a prefix of the text was written. Takes no memory.
 pub fn write_feed_refusal<S: Sink>(line: u64, rule: &FeedRule, sink: &mut S) -> Result<(), Fault>
-    ensures text { WritesWhole (feed_refusal_text line rule.now) (S.written sink.old) (S.written sink.new) result }
+    ensures text { WritesWhole (feed_refusal_text line rule.now) (S.written sink.old)
+        (S.written sink.new) result }
     ensures causes { Counted (IsErr result) (S.faults sink.old) (S.faults sink.new) }
 {
     let reason = reason_of(rule);
@@ -32,7 +36,7 @@ pub fn write_feed_refusal<S: Sink>(line: u64, rule: &FeedRule, sink: &mut S) -> 
     write_reason(line, reason, sink)
 }
 
-/// What is said of a rule.
+/// The parts for a rule.
 fn reason_of<'a>(rule: &'a FeedRule) -> Reason<'a>
     ensures { reason_text result ≡ rule_text rule.now }
 {
@@ -44,7 +48,7 @@ fn reason_of<'a>(rule: &'a FeedRule) -> Reason<'a>
     }
 }
 
-/// A name, of the whole.
+/// A name alone.
 fn name_alone<'a>(name: &'static str) -> Reason<'a>
     ensures { reason_text result ≡ name.now }
 {
@@ -55,7 +59,7 @@ fn name_alone<'a>(name: &'static str) -> Reason<'a>
     }
 }
 
-/// A name, and the path of what it is told of.
+/// A name and a path.
 fn name_at<'a>(name: &'static str, path: &'a str) -> Reason<'a>
     ensures { reason_text result ≡ at_path name.now path.now }
 {
@@ -66,7 +70,7 @@ fn name_at<'a>(name: &'static str, path: &'a str) -> Reason<'a>
     }
 }
 
-/// What is said of bytes that are no JSON value.
+/// The parts for bytes that are no JSON.
 fn reason_of_json<'a>(refusal: &'a JsonRefusal) -> Reason<'a>
     ensures { reason_text result ≡ json_text refusal.now }
 {
@@ -81,7 +85,7 @@ fn reason_of_json<'a>(refusal: &'a JsonRefusal) -> Reason<'a>
     }
 }
 
-/// What is said of breaks: the first one.
+/// The parts for broken rules: the first one.
 fn reason_of_breaks<'a>(breaks: &'a [Break]) -> Reason<'a>
     ensures { reason_text result ≡ first_break_text breaks.now }
 {
@@ -95,15 +99,17 @@ fn reason_of_breaks<'a>(breaks: &'a [Break]) -> Reason<'a>
     }
 }
 
-/// Writes the line of a reason.
+/// Writes the line of a refusal.
 fn write_reason<S: Sink>(line: &str, reason: Reason<'_>, sink: &mut S) -> Result<(), Fault>
-    ensures text { WritesWhole (codes "indicators " ++ line_of_text line.now (reason_text reason.entry)) (S.written sink.old) (S.written sink.new) result }
+    ensures text { WritesWhole (codes "indicators "
+        ++ line_of_text line.now (reason_text reason.entry)) (S.written sink.old)
+        (S.written sink.new) result }
     ensures causes { Counted (IsErr result) (S.faults sink.old) (S.faults sink.new) }
 {
     write_parts(line, reason.name, reason.rule, reason.path, sink)
 }
 
-/// The same, of the parts of the reason.
+/// Writes the line, given its parts.
 fn write_parts<'a, S: Sink>(
     line: &'a str,
     name: &'a str,
@@ -111,7 +117,9 @@ fn write_parts<'a, S: Sink>(
     path: &'a str,
     sink: &mut S,
 ) -> Result<(), Fault>
-    ensures text { WritesWhole (codes "indicators " ++ line_of_text line.now (at_path (name.now ++ rule.now) path.now)) (S.written sink.old) (S.written sink.new) result }
+    ensures text { WritesWhole (codes "indicators "
+        ++ line_of_text line.now (at_path (name.now ++ rule.now) path.now)) (S.written sink.old)
+        (S.written sink.new) result }
     ensures causes { Counted (IsErr result) (S.faults sink.old) (S.faults sink.new) }
 {
     let at = lead_of(path);
@@ -130,7 +138,7 @@ fn write_parts<'a, S: Sink>(
     )
 }
 
-/// What stands before a path.
+/// The text before a path.
 fn lead_of<'a>(path: &'a str) -> &'a str
     ensures { result.now ≡ path_lead path.now }
 {

@@ -2,15 +2,16 @@ use flow_values::Items;
 use stix_json::JsonRefusal;
 use stix_objects::Break;
 
-/// Why a line of a feed is refused. Where several causes stand in a line, the first of this list is told.
+/// Why a line of a feed is refused. Where a line has several causes, the first of this list is
+/// reported.
 #[derive(Debug, Drop)]
 pub enum FeedRule {
     /// It has more than 8,388,608 bytes before its line feed.
     LineTooLong,
     /// With it the feed has more than 1,099,511,627,776 bytes.
     InputTooLong,
-    /// Its bytes are no JSON value without fractions and null.
+    /// It is no JSON value, or has a fraction or a null in it.
     Json(JsonRefusal),
-    /// The value breaks rules of its type, or is no object: all of these.
+    /// The value is no object, or breaks rules of its type: all of these.
     Breaks(Items<Break>),
 }

@@ -4,18 +4,18 @@ ghost use Rattle.hunt_feed.specs.inner.Adding.{IsNextVersion};
 use stix_times::Instant;
 use stix_times::laws::is_before;
 
-/// What is known of the versions of an indicator. The fields lie in this order, as those of `Kept` do.
+/// A summary of the versions of an indicator. The order of the fields leaves the least padding.
 #[derive(Clone, Copy, Debug)]
 pub(crate) struct Version {
-    /// When the latest one was modified.
+    /// When the latest version was modified.
     pub(crate) modified: Instant,
-    /// The position of that one.
+    /// The position of the latest version.
     pub(crate) at: u32,
-    /// Whether one of all is revoked.
+    /// Whether some version is revoked.
     pub(crate) revoked: bool,
 }
 
-/// What is known once there is one more, of which this is known alone.
+/// Includes one more version.
 pub(crate) fn with_version(known: Option<Version>, next: Version) -> Version
     ensures { IsNextVersion known next result }
 {

@@ -1,5 +1,5 @@
--- Brackets that hold wherever one of the values that they name is found: comparisons by equality, alone or joined by
--- OR (STIX 2.1, section 9.6).
+-- Definite brackets hold wherever one of the values that they list is found: comparisons by
+-- equality, alone or joined by OR (STIX 2.1, section 9.6).
 use Rattle.std.specs.Prelude.{◌≡◌, ⊤, false, List, All}
 use Rattle.pattern_types.specs.declared.constant.Constant.{Constant}
 use Rattle.pattern_types.specs.declared.constant.Constant.TheVariants.{Integer, String}
@@ -10,7 +10,7 @@ use Rattle.pattern_types.specs.declared.path.Step.TheVariants.{Name, Place, Each
 use Rattle.pattern_types.specs.declared.leaf.Test.{Test}
 use Rattle.pattern_types.specs.PlainLeaf.{PlainLeaf, one, every, some, PlainLeaves, none, more}
 
--- one value alone equals the constant: it is a whole number or a text
+-- one value alone equals the constant: an integer or a text
 abbrev pub IsDefiniteConstant : Constant → Type 0
 IsDefiniteConstant (Integer whole) = ⊤
 IsDefiniteConstant (String text) = ⊤
@@ -28,7 +28,7 @@ IsPlain (Name name) = ⊤
 IsPlain (Place n) = ⊤
 IsPlain Each = ⊥
 
--- and so each of the steps: they lead to one value at most
+-- none of the steps is, so they lead to one value at most
 abbrev pub ArePlain : List Step → Type 0
 ArePlain steps = All IsPlain steps
 
@@ -38,7 +38,7 @@ pub record IsDefiniteTest (test : Test) : Type 0 where
   pub asked : test.negated ≡ false
   pub check : IsDefiniteCheck test.check
 
--- a bracket of one such test, or of some that are joined by OR
+-- a bracket of one such test, or of several joined by OR
 abbrev mutual
   pub IsDefinite : PlainLeaf → Type 0
   IsDefinite (one test) = IsDefiniteTest test

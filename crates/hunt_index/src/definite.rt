@@ -1,4 +1,5 @@
-//! Brackets that hold wherever one of their index keys is met.
+//! Definite brackets: those that hold wherever one of their index keys is found, so that a
+//! candidate needs no evaluation.
 
 ghost use Rattle.std.specs.Prelude.{◌↔◌, IsTrue, All};
 ghost use Rattle.pattern_types.specs.PlainLeaf.{plain_leaf, listed};
@@ -6,8 +7,8 @@ ghost use Rattle.hunt_index.specs.Definite.{IsDefiniteConstant, IsDefiniteCheck,
 
 use pattern_types::{Check, Constant, Leaf, Step, Test};
 
-/// Whether a bracket is a comparison of one value by equality, or several that are joined by OR: it holds
-/// wherever it is a candidate.
+/// Whether a bracket is an equality (or `IN`) on a path without `[*]`, or several joined by `OR`.
+/// Then it holds wherever it is a candidate.
 #[cycle(leaves)]
 pub fn is_definite(leaf: &Leaf) -> bool
     ensures { IsTrue result ↔ IsDefinite (plain_leaf leaf.now) }
@@ -19,7 +20,7 @@ pub fn is_definite(leaf: &Leaf) -> bool
     }
 }
 
-/// Whether each of some parts is.
+/// Whether each of some parts is definite.
 #[cycle(leaves)]
 fn are_definite(parts: &[Leaf]) -> bool
     ensures { IsTrue result ↔ AreDefinite (listed parts.now) }
@@ -32,14 +33,14 @@ fn are_definite(parts: &[Leaf]) -> bool
     true
 }
 
-/// Whether one comparison is.
+/// Whether one comparison is definite.
 fn is_definite_test(test: &Test) -> bool
     ensures { IsTrue result ↔ IsDefiniteTest test.now }
 {
     !test.negated && is_definite_check(&test.check) && are_plain(test.path.steps.as_slice())
 }
 
-/// Whether a check is met by the values that it names alone.
+/// Whether a check is met by exactly the values that it lists.
 fn is_definite_check(check: &Check) -> bool
     ensures { IsTrue result ↔ IsDefiniteCheck check.now }
 {
@@ -58,28 +59,29 @@ fn is_definite_check(check: &Check) -> bool
     }
 }
 
-/// Whether each of some constants is definite.
+/// Whether each of some constants equals one value only.
 fn are_definite_constants(constants: &[Constant]) -> bool
     ensures { IsTrue result ↔ All IsDefiniteConstant constants.now }
 {
     constants.iter().all(is_definite_constant)
 }
 
-/// Whether one value alone equals a constant.
+/// Whether a constant equals one value only. Others don't: a timestamp, for example, has several
+/// spellings.
 fn is_definite_constant(constant: &Constant) -> bool
     ensures { IsTrue result ↔ IsDefiniteConstant constant.now }
 {
     matches!(constant, Constant::Integer(_) | Constant::String(_))
 }
 
-/// Whether none of the steps is `[*]`.
+/// Whether no step is `[*]`.
 fn are_plain(steps: &[Step]) -> bool
     ensures { IsTrue result ↔ ArePlain steps.now }
 {
     steps.iter().all(is_plain)
 }
 
-/// Whether a step isn't.
+/// Whether a step isn't `[*]`.
 fn is_plain(step: &Step) -> bool
     ensures { IsTrue result ↔ IsPlain step.now }
 {

@@ -1,4 +1,8 @@
-//! What finds brackets by what the roots of an observation say.
+//! The inverted index itself: from a value at a path of a root to the brackets that ask for it.
+//!
+//! A query walks each path that some bracket has for the type of the root, and looks up the value
+//! at its end by binary search. Each bracket has index keys, one of which is met wherever it holds.
+//! So no bracket that holds is missed.
 
 ghost use Rattle.std.specs.Prelude.{◌≡◌, ◌<◌, ◌^◌, ◌++◌, All, Contains, map, length, IfOk, OnOk};
 ghost use Rattle.stix_bundles.specs.Objects.{data_in};
@@ -21,21 +25,21 @@ use std::alloc::Global;
 use stix_bundles::Bundle;
 use stix_json::Json;
 
-/// Finds brackets by the index keys that they have.
+/// The tables of an index.
 #[derive(Drop)]
 pub(crate) struct Finder<'p> {
-    /// The numbers of the paths of the index keys, by the types of the roots at which they begin.
+    /// The numbers of the paths, by the type of the root.
     pub(crate) kinds: Table<&'p str, usize>,
-    /// Of each path a index key that has it.
+    /// For each path number an index key with this path.
     pub(crate) paths: Vec<IndexKey<'p>>,
-    /// The places of the brackets that have index keys, by what is looked up.
+    /// The posting lists: brackets by what is looked up.
     pub(crate) brackets_found: Table<Lookup<'p>, u32>,
-    /// The places of the others.
+    /// The brackets without index keys: always candidates.
     pub(crate) unindexed: Vec<u32>,
 }
 
 impl<'p> Finder<'p> {
-    /// A finder of these brackets. It costs their number times its logarithm.
+    /// The tables of these brackets. O(n log n) for n index keys.
     pub(crate) fn new(alloc: Global, brackets: &[&'p Leaf]) -> Result<Finder<'p>, NoMemory>
         requires { length brackets.now < 2 ^ 32 }
         ensures { IfOk result (IsFinderOf (map (λ leaf. leaf.now) brackets.now)) }
@@ -51,7 +55,7 @@ impl<'p> Finder<'p> {
         })
     }
 
-    /// The places of the brackets of which a index key is met at one of the roots, and of those without one.
+    /// The brackets with an index key that one of the roots meets, and those without index keys.
     pub(crate) fn candidates_for(
         &self,
         alloc: Global,
@@ -59,7 +63,8 @@ impl<'p> Finder<'p> {
         roots: &[u32],
     ) -> Result<Vec<u32>, NoMemory>
         requires { All (IsOfKind self.now.paths.items) self.now.kinds.entries.items }
-        ensures { IfOk result (λ brackets_found. FindsPlaces self.now (data_in bundle.now) roots.now brackets_found.items) }
+        ensures { IfOk result (λ brackets_found. FindsPlaces self.now
+            (data_in bundle.now) roots.now brackets_found.items) }
     {
         let lookups = self.lookups(alloc, bundle, roots)?;
         let mut brackets_found = Vec::from_slice(alloc, self.unindexed.as_slice())?;
@@ -67,13 +72,14 @@ impl<'p> Finder<'p> {
         Ok(brackets_found)
     }
 
-    /// Adds the places of the brackets that have a index key by one of the look-ups.
+    /// Appends the brackets found by these look-ups.
     fn add_found(
         &self,
         lookups: &[Lookup<'_>],
         brackets_found: &mut Vec<u32>,
     ) -> Result<(), NoMemory>
-        ensures { OnOk result (AddsFound self.now.brackets_found.entries.items lookups.now brackets_found.old.items brackets_found.new.items) }
+        ensures { OnOk result (AddsFound self.now.brackets_found.entries.items lookups.now
+            brackets_found.old.items brackets_found.new.items) }
     {
         for lookup in lookups {
             add_brackets(self.brackets_found.find(lookup), brackets_found)?;
@@ -81,7 +87,7 @@ impl<'p> Finder<'p> {
         Ok(())
     }
 
-    /// What is looked up for some roots, each once.
+    /// The look-ups for some roots, each once.
     fn lookups<'b>(
         &self,
         alloc: Global,
@@ -89,8 +95,10 @@ impl<'p> Finder<'p> {
         roots: &[u32],
     ) -> Result<Vec<Lookup<'b>>, NoMemory>
         requires { All (IsOfKind self.now.paths.items) self.now.kinds.entries.items }
-        ensures asks { IfOk result (λ lookups. AreAsked self.now (data_in bundle.now) roots.now lookups.items) }
-        ensures seen { IfOk result (λ lookups. AreSeen self.now.paths.items (data_in bundle.now) roots.now lookups.items) }
+        ensures asks { IfOk result (λ lookups. AreAsked self.now (data_in bundle.now) roots.now
+            lookups.items) }
+        ensures seen { IfOk result (λ lookups. AreSeen self.now.paths.items
+            (data_in bundle.now) roots.now lookups.items) }
     {
         let mut lookups = Vec::new(alloc);
         for root in roots {
@@ -99,7 +107,7 @@ impl<'p> Finder<'p> {
         Ok(dedup_lookups(lookups))
     }
 
-    /// Adds what is looked up for a root: by each of the paths for its type the value there.
+    /// Appends the look-ups for a root: along each path for its type, the value there.
     fn add_lookups<'b>(
         &self,
         bundle: &'b Bundle,
@@ -109,7 +117,9 @@ impl<'p> Finder<'p> {
         requires { All (IsOfKind self.now.paths.items) self.now.kinds.entries.items }
         ensures keeps { OnOk result (Keeps lookups.old.items lookups.new.items) }
         ensures asks { OnOk result (AsksFor self.now (data_in bundle.now) root lookups.new.items) }
-        ensures only { OnOk result (AddsOnly (IsSeen self.now.paths.items (data_in bundle.now) root) lookups.old.items lookups.new.items) }
+        ensures only { OnOk result (AddsOnly
+            (IsSeen self.now.paths.items (data_in bundle.now) root) lookups.old.items
+            lookups.new.items) }
     {
         let Some(object) = object_at(bundle, root) else {
             return Ok(());
@@ -121,7 +131,7 @@ impl<'p> Finder<'p> {
         self.add_by_paths(bundle, object, paths, lookups)
     }
 
-    /// Adds what is looked up by some paths.
+    /// Appends the look-ups along some paths.
     fn add_by_paths<'b>(
         &self,
         bundle: &'b Bundle,
@@ -131,8 +141,11 @@ impl<'p> Finder<'p> {
     ) -> Result<(), NoMemory>
         requires { IsOrdered (data_of object.now) }
         ensures keeps { OnOk result (Keeps lookups.old.items lookups.new.items) }
-        ensures asks { OnOk result (AskByPaths self.now.paths.items (data_in bundle.now) (data_of object.now) paths.now lookups.new.items) }
-        ensures only { OnOk result (AddsOnly (IsSeenBy self.now.paths.items (data_in bundle.now) (data_of object.now) paths.now) lookups.old.items lookups.new.items) }
+        ensures asks { OnOk result (AskByPaths self.now.paths.items (data_in bundle.now)
+            (data_of object.now) paths.now lookups.new.items) }
+        ensures only { OnOk result (AddsOnly
+            (IsSeenBy self.now.paths.items (data_in bundle.now) (data_of object.now) paths.now)
+            lookups.old.items lookups.new.items) }
     {
         for (_, number) in paths {
             self.add_by_path(bundle, object, *number, lookups)?;
@@ -140,7 +153,8 @@ impl<'p> Finder<'p> {
         Ok(())
     }
 
-    /// Adds what is looked up by one path: that there is a value, and the value.
+    /// Appends the look-ups along one path, where it leads to a value: one for any value, and one
+    /// for this value.
     fn add_by_path<'b>(
         &self,
         bundle: &'b Bundle,
@@ -150,8 +164,10 @@ impl<'p> Finder<'p> {
     ) -> Result<(), NoMemory>
         requires { IsOrdered (data_of object.now) }
         ensures keeps { OnOk result (Keeps lookups.old.items lookups.new.items) }
-        ensures asks { OnOk result (AsksByPath self.now.paths.items (data_in bundle.now) (data_of object.now) path lookups.new.items) }
-        ensures only { OnOk result (AddsOnly (λ lookup. (lookup.path ≡ path) × IsSeenFrom self.now.paths.items (data_in bundle.now) (data_of object.now) lookup)
+        ensures asks { OnOk result (AsksByPath self.now.paths.items (data_in bundle.now)
+            (data_of object.now) path lookups.new.items) }
+        ensures only { OnOk result (AddsOnly (λ lookup. (lookup.path ≡ path)
+            × IsSeenFrom self.now.paths.items (data_in bundle.now) (data_of object.now) lookup)
             lookups.old.items lookups.new.items) }
     {
         let Some(index_key) = self.paths.get(path) else {
@@ -171,22 +187,24 @@ impl<'p> Finder<'p> {
     }
 }
 
-/// The same look-ups, each once.
+/// The look-ups without duplicates.
 fn dedup_lookups(mut lookups: Vec<Lookup<'_>>) -> Vec<Lookup<'_>>
     ensures keeps { Keeps lookups.entry.items result.items }
-    ensures only { (lookup : Lookup) → Contains result.items lookup → Contains lookups.entry.items lookup }
+    ensures only { (lookup : Lookup) → Contains result.items lookup
+        → Contains lookups.entry.items lookup }
 {
     lookups.sort_unstable();
     lookups.dedup();
     lookups
 }
 
-/// Adds the places of some entries.
+/// Appends the brackets of some entries.
 fn add_brackets(
     entries: &[(Lookup<'_>, u32)],
     brackets_found: &mut Vec<u32>,
 ) -> Result<(), NoMemory>
-    ensures { OnOk result (brackets_found.new.items ≡ brackets_found.old.items ++ map (λ entry. entry.1) entries.now) }
+    ensures { OnOk result (brackets_found.new.items ≡ brackets_found.old.items
+        ++ map (λ entry. entry.1) entries.now) }
 {
     for (_, bracket) in entries {
         brackets_found.push(*bracket)?;
@@ -194,7 +212,7 @@ fn add_brackets(
     Ok(())
 }
 
-/// The numbers of paths, by the types of their roots.
+/// The numbers of the paths, by the type of the root.
 fn kinds_of<'p>(alloc: Global, paths: &[IndexKey<'p>]) -> Result<Vec<(&'p str, usize)>, NoMemory>
     ensures all { IfOk result (λ kinds. AreKinds paths.now kinds.items) }
     ensures only { IfOk result (λ kinds. All (IsOfKind paths.now) kinds.items) }

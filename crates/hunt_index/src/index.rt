@@ -11,7 +11,7 @@ use std::alloc::Global;
 use std::marker::Model;
 use stix_bundles::Bundle;
 
-/// Brackets of patterns, found by what an observation says. Contracts see the brackets.
+/// An inverted index of brackets. Contracts observe the list of brackets.
 #[derive(Drop)]
 pub struct Index<'p> {
     alloc: Global,
@@ -37,8 +37,8 @@ impl<'p> Model for Index<'p> {
 }
 
 impl<'p> Index<'p> {
-    /// An index of these brackets, which are read once. It costs their number times its logarithm, and
-    /// keeps some 70 bytes for each test besides the texts, which it borrows.
+    /// Builds the index. O(n log n) for n comparisons, and some 70 bytes for each besides the
+    /// texts, which it borrows.
     pub fn new(alloc: Global, brackets: &[&'p Leaf]) -> Result<Index<'p>, NoMemory>
         requires { length brackets.now < 2 ^ 32 }
         ensures { IfOk result (λ index. index ≡ map (λ leaf. leaf.now) brackets.now) }
@@ -52,14 +52,14 @@ impl<'p> Index<'p> {
         })
     }
 
-    /// The places of the brackets that can hold for an observation of these roots, counted from 0, in order
-    /// and each once. All those that hold are among them; most of those that don't are left out.
+    /// The candidates for an observation with these roots: indices of brackets, ascending, each
+    /// once. All brackets that hold are among them, and most others aren't.
     ///
-    /// It costs a walk for each of the roots and each path that brackets have for its type, the logarithm of
-    /// the number of brackets for each value that is found, and the places that are given, however many
-    /// brackets there are.
+    /// Costs a walk for each root and each path that brackets have for its type, O(log n) for each
+    /// value found, and the candidates themselves.
     pub fn candidates(&self, roots: &[u32], bundle: &Bundle) -> Result<Items<u32>, NoMemory>
-        ensures { IfOk result (AreCandidates (data_in bundle.now) roots.now (map plain_leaf self.now)) }
+        ensures { IfOk result (AreCandidates (data_in bundle.now) roots.now
+            (map plain_leaf self.now)) }
     {
         let roots = Vec::from_slice(self.alloc, roots)?;
         let roots = sort_dedup(roots);

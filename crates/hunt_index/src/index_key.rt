@@ -1,8 +1,8 @@
 use crate::key::Key;
 use pattern_types::Step;
 
-/// What a root can say so that a bracket can hold for it: its type, and that the steps, none of which is
-/// `[*]`, lead from it to a value that the key stands for.
+/// A condition under which a bracket can hold: the root has this type, and the steps (none of them
+/// `[*]`) lead from it to a value that the key matches.
 #[derive(Clone, Copy)]
 pub(crate) struct IndexKey<'p> {
     pub(crate) kind: &'p str,

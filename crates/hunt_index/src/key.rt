@@ -1,3 +1,5 @@
+//! Keys: what a value is looked up by.
+
 ghost use Rattle.std.specs.Prelude.{IfSome};
 ghost use Rattle.stix_json.specs.DataOf.{data_of};
 ghost use Rattle.hunt_index.specs.inner.Keys.{Fits, IsAsked};
@@ -6,18 +8,18 @@ ghost use Rattle.hunt_index.specs.inner.IndexKeys.{Represents, Answers};
 use pattern_types::Constant;
 use stix_json::Json;
 
-/// What a value is looked up by.
+/// The key by which a value is looked up.
 #[derive(Clone, Copy, PartialEq, Eq, PartialOrd, Ord)]
 pub(crate) enum Key<'p> {
-    /// That there is a value, whichever it is.
+    /// Any value.
     Any,
-    /// The whole number that it is.
+    /// This integer.
     Integer(i64),
-    /// The text that it is.
+    /// This text.
     Text(&'p str),
 }
 
-/// What a value that equals a constant is looked up by.
+/// The key of a constant in a comparison. Constants that several values equal have the key `Any`.
 pub(crate) fn key_of(constant: &Constant) -> Key<'_>
     ensures stands { Represents constant.now result }
     ensures answers { Answers constant.now result }
@@ -30,7 +32,7 @@ pub(crate) fn key_of(constant: &Constant) -> Key<'_>
     }
 }
 
-/// What a value is looked up by besides that there is one.
+/// The key of a value besides `Any`. None for values that no key but `Any` matches.
 pub(crate) fn key_in(value: &Json) -> Option<Key<'_>>
     ensures asked { (key : Key) → Fits key (data_of value.now) → IsAsked result key }
     ensures fits { IfSome result (λ key. Fits key (data_of value.now)) }

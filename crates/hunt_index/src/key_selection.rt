@@ -1,4 +1,8 @@
-//! Index keys: of each bracket, what a root has to say so that it can hold.
+//! Chooses the index keys of each bracket: conditions one of which is met wherever the bracket
+//! holds.
+//!
+//! Of an `AND` one part is enough, and the most selective is taken. An `OR` needs the keys of all
+//! parts. `selectivity` carries no contract: it only ranks, and either choice is correct.
 
 ghost use Rattle.std.specs.Prelude.{◌≡◌, ◌⊎◌, ◌++◌, List, IfOk, Contains};
 ghost use Rattle.pattern_types.specs.declared.constant.Constant.{Constant};
@@ -14,14 +18,16 @@ use flow_values::{Items, NoMemory};
 use pattern_types::{Check, Constant, Leaf, Step, Test};
 use std::alloc::Global;
 
-/// The index keys of a bracket. None where it can hold whatever a root says.
+/// The index keys of a bracket. None where it can hold at any root.
 #[cycle(leaves)]
 pub(crate) fn index_keys_of<'p>(
     alloc: Global,
     leaf: &'p Leaf,
 ) -> Result<Option<Items<IndexKey<'p>>>, NoMemory>
-    ensures needed { IfOk result (IndexKeys (λ objects root. HoldsAt objects root (plain_leaf leaf.now))) }
-    ensures sufficient { IfOk result (λ found. IsDefinite (plain_leaf leaf.now) → Sufficient (λ objects root. HoldsAt objects root (plain_leaf leaf.now)) found) }
+    ensures needed { IfOk result (IndexKeys
+        (λ objects root. HoldsAt objects root (plain_leaf leaf.now))) }
+    ensures sufficient { IfOk result (λ found. IsDefinite (plain_leaf leaf.now)
+        → Sufficient (λ objects root. HoldsAt objects root (plain_leaf leaf.now)) found) }
 {
     match leaf {
         Leaf::Test(test) => {
@@ -33,7 +39,7 @@ pub(crate) fn index_keys_of<'p>(
     }
 }
 
-/// The index keys of parts that all have to hold: those of one of them will do, and the fewest are taken.
+/// The index keys of an `AND`: those of its most selective part.
 #[cycle(leaves)]
 fn index_keys_of_all<'p>(
     alloc: Global,
@@ -49,14 +55,16 @@ fn index_keys_of_all<'p>(
     Ok(fewest)
 }
 
-/// The index keys of parts of which one has to hold: those of all of them together.
+/// The index keys of an `OR`: those of all its parts.
 #[cycle(leaves)]
 fn index_keys_of_some<'p>(
     alloc: Global,
     parts: &'p [Leaf],
 ) -> Result<Option<Items<IndexKey<'p>>>, NoMemory>
-    ensures needed { IfOk result (IndexKeys (λ objects root. SomeHold objects root (listed parts.now))) }
-    ensures sufficient { IfOk result (λ found. AreDefinite (listed parts.now) → Sufficient (λ objects root. SomeHold objects root (listed parts.now)) found) }
+    ensures needed { IfOk result (IndexKeys
+        (λ objects root. SomeHold objects root (listed parts.now))) }
+    ensures sufficient { IfOk result (λ found. AreDefinite (listed parts.now)
+        → Sufficient (λ objects root. SomeHold objects root (listed parts.now)) found) }
 {
     let mut index_keys = Vec::new(alloc);
     for part in parts {
@@ -69,8 +77,7 @@ fn index_keys_of_some<'p>(
     Ok(Some(Items::from_vec(index_keys)))
 }
 
-/// Those of two lists of index keys that fewer roots meet, as far as can be told: by how many of them leave
-/// the value open, and then by how many there are.
+/// The more selective of two lists: with fewer keys `Any`, then with fewer keys.
 fn more_selective<'p>(
     one: Option<Items<IndexKey<'p>>>,
     other: Option<Items<IndexKey<'p>>>,
@@ -90,7 +97,8 @@ fn more_selective<'p>(
     }
 }
 
-/// How much it costs to have such index keys: how many of them leave the value open, and how many there are.
+/// The rank of a list, lower is better: how many keys are `Any`, and how many keys there are. No
+/// contract: see the head of this file.
 fn selectivity(index_keys: &[IndexKey<'_>]) -> (usize, usize) {
     let open = index_keys
         .iter()
@@ -99,11 +107,12 @@ fn selectivity(index_keys: &[IndexKey<'_>]) -> (usize, usize) {
     (open, index_keys.len())
 }
 
-/// The index keys of a test. Of a negated test only the type of the root is one, since other values don't
-/// meet it; behind a `[*]` the values are many, so that the steps before it are one.
+/// The index keys of a comparison. A negated one has only the type of the root. A path with `[*]`
+/// has its steps before that, since the values after it are many.
 fn index_keys_of_test<'p>(alloc: Global, test: &'p Test) -> Result<Items<IndexKey<'p>>, NoMemory>
     ensures needed { IfOk result (AreIndexKeys (λ objects root. TestHolds objects root test.now)) }
-    ensures sufficient { IfOk result (λ index_keys. IsDefiniteTest test.now → AreSufficient (λ objects root. TestHolds objects root test.now) index_keys) }
+    ensures sufficient { IfOk result (λ index_keys. IsDefiniteTest test.now
+        → AreSufficient (λ objects root. TestHolds objects root test.now) index_keys) }
 {
     let kind = test.path.kind.as_str();
     let steps = test.path.steps.as_slice();
@@ -129,7 +138,7 @@ fn index_keys_of_test<'p>(alloc: Global, test: &'p Test) -> Result<Items<IndexKe
     }
 }
 
-/// One index key.
+/// A list of one index key.
 fn one_index_key<'p>(
     alloc: Global,
     kind: &'p str,
@@ -144,14 +153,16 @@ fn one_index_key<'p>(
     Ok(index_keys)
 }
 
-/// A index key for each constant that the value may equal.
+/// An index key for each constant of an `IN`.
 fn index_keys_by_value<'p>(
     alloc: Global,
     kind: &'p str,
     steps: &'p [Step],
     constants: &'p [Constant],
 ) -> Result<Items<IndexKey<'p>>, NoMemory>
-    ensures has { IfOk result (λ index_keys. (constant : Constant) → Contains constants.now constant → HasIndexKey kind.now steps.now (Represents constant) index_keys) }
+    ensures has { IfOk result (λ index_keys. (constant : Constant)
+        → Contains constants.now constant
+        → HasIndexKey kind.now steps.now (Represents constant) index_keys) }
     ensures by { IfOk result (AreBy kind.now steps.now (AnswersSome constants.now)) }
 {
     let mut index_keys = Items::with_capacity(alloc, constants.len())?;

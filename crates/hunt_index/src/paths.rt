@@ -1,4 +1,4 @@
-//! The paths of index keys, and the places of brackets by what is looked up at the end of a path.
+//! Numbers the distinct paths of all index keys, and groups the brackets by path number and key.
 
 ghost use Rattle.std.specs.Prelude.{◌≡◌, length, IfOk, OnOk};
 ghost use Rattle.std.specs.declared.cmp.Ordering.TheVariants.{Equal};
@@ -12,22 +12,22 @@ use pattern_types::Step;
 use std::alloc::Global;
 use std::cmp::Ordering;
 
-/// What is looked up: the key of a value, and the number of the path that leads to it.
+/// A look-up: the number of a path, and the key of the value there.
 #[derive(Clone, Copy, PartialEq, Eq, PartialOrd, Ord)]
 pub(crate) struct Lookup<'p> {
     pub(crate) path: usize,
     pub(crate) key: Key<'p>,
 }
 
-/// The paths of some index keys, and the places of brackets by what is looked up.
+/// The numbered paths, and the entries of the posting lists.
 #[derive(Drop)]
 pub(crate) struct PathTable<'p> {
-    /// For each path a index key that has it.
+    /// For each path number an index key with this path.
     pub(crate) paths: Vec<IndexKey<'p>>,
     pub(crate) entries: Vec<(Lookup<'p>, u32)>,
 }
 
-/// Files postings by their paths. Those of one path are brought together first, so that each path has one
+/// Groups postings by path. Sorts them by path first, so that equal paths are adjacent and get one
 /// number.
 pub(crate) fn group_by_path<'p>(
     alloc: Global,
@@ -45,7 +45,7 @@ pub(crate) fn group_by_path<'p>(
 }
 
 impl<'p> PathTable<'p> {
-    /// Adds postings.
+    /// Adds postings, in order.
     fn add_each(&mut self, postings: &[Posting<'p>]) -> Result<(), NoMemory>
         requires { AreGrouped postings.now 0 self.old }
         ensures { OnOk result (AreGrouped postings.now (length postings.now) self.new) }
@@ -69,11 +69,12 @@ impl<'p> PathTable<'p> {
         Ok(())
     }
 
-    /// The number of a guard's path: that of the last one, or of a new one.
+    /// The number of an index key's path: the last one, where it is the same path, or a new one.
     fn number_of(&mut self, index_key: &IndexKey<'p>) -> Result<usize, NoMemory>
         ensures entries { self.new.entries ≡ self.old.entries }
         ensures kept { KeepsPaths self.old.paths.items self.new.paths.items }
-        ensures numbered { IfOk result (λ number. IsNumber self.new.paths.items number index_key.now) }
+        ensures numbered { IfOk result
+            (λ number. IsNumber self.new.paths.items number index_key.now) }
     {
         let count = self.paths.len();
         if count > 0 && path_order(&self.paths[count - 1], index_key) == Ordering::Equal {
@@ -84,7 +85,7 @@ impl<'p> PathTable<'p> {
     }
 }
 
-/// How two index keys stand by their paths.
+/// Orders index keys by type, then by steps. Equal only for the same path.
 fn path_order(one: &IndexKey<'_>, other: &IndexKey<'_>) -> Ordering
     ensures { result ≡ Equal → AreOnePath one.now other.now }
 {
@@ -94,7 +95,7 @@ fn path_order(one: &IndexKey<'_>, other: &IndexKey<'_>) -> Ordering
     }
 }
 
-/// How steps stand: step by step, and the shorter before the longer.
+/// Orders step lists lexicographically, a prefix first.
 fn steps_order(one: &[Step], other: &[Step]) -> Ordering
     ensures { result ≡ Equal → one.now ≡ other.now }
 {
@@ -109,7 +110,7 @@ fn steps_order(one: &[Step], other: &[Step]) -> Ordering
     }
 }
 
-/// How two steps stand: names by their bytes, and then places by their numbers.
+/// Orders steps: names by their bytes, then list indices, then `[*]`.
 fn step_order(one: &Step, other: &Step) -> Ordering
     ensures { result ≡ Equal → one.now ≡ other.now }
 {

@@ -1,4 +1,4 @@
-//! The index keys of many brackets, each with the place of its bracket.
+//! The postings of many brackets: each index key with its bracket.
 
 ghost use Rattle.std.specs.Prelude.{◌≡◌, ◌++◌, ◌<◌, ◌^◌, map, length, IfOk, OnOk};
 ghost use Rattle.hunt_index.specs.inner.Postings.{ArePostingsOf, AddsBracket};
@@ -9,14 +9,14 @@ use flow_values::NoMemory;
 use pattern_types::Leaf;
 use std::alloc::Global;
 
-/// A index key, and the place of its bracket.
+/// An index key, and the index of its bracket.
 #[derive(Clone, Copy)]
 pub(crate) struct Posting<'p> {
     pub(crate) index_key: IndexKey<'p>,
     pub(crate) bracket: u32,
 }
 
-/// The index keys of some brackets, and the places of those that have none.
+/// The postings of some brackets, and the brackets without index keys.
 #[derive(Drop)]
 pub(crate) struct Postings<'p> {
     pub(crate) indexed: Vec<Posting<'p>>,
@@ -29,7 +29,8 @@ pub(crate) fn postings_of<'p>(
     brackets: &[&'p Leaf],
 ) -> Result<Postings<'p>, NoMemory>
     requires { length brackets.now < 2 ^ 32 }
-    ensures { IfOk result (ArePostingsOf (map (λ leaf. leaf.now) brackets.now) (length brackets.now)) }
+    ensures { IfOk result (ArePostingsOf (map (λ leaf. leaf.now) brackets.now)
+        (length brackets.now)) }
 {
     let mut postings = Postings {
         indexed: Vec::with_capacity(alloc, brackets.len())?,
@@ -42,7 +43,7 @@ pub(crate) fn postings_of<'p>(
 }
 
 impl<'p> Postings<'p> {
-    /// Adds those of a bracket at a place.
+    /// Adds the postings of one bracket.
     fn add(&mut self, alloc: Global, leaf: &'p Leaf, bracket: u32) -> Result<(), NoMemory>
         ensures { OnOk result (AddsBracket leaf.now bracket self.old self.new) }
     {
@@ -56,9 +57,11 @@ impl<'p> Postings<'p> {
         }
     }
 
-    /// Adds its index keys.
+    /// Adds a posting for each of its index keys.
     fn add_index_keys(&mut self, index_keys: &[IndexKey<'p>], bracket: u32) -> Result<(), NoMemory>
-        ensures indexed { OnOk result (self.new.indexed.items ≡ self.old.indexed.items ++ map (λ index_key. record { index_key = index_key; bracket = bracket }) index_keys.now) }
+        ensures indexed { OnOk result (self.new.indexed.items ≡ self.old.indexed.items
+            ++ map (λ index_key. record { index_key = index_key; bracket = bracket })
+            index_keys.now) }
         ensures unindexed { self.new.unindexed ≡ self.old.unindexed }
     {
         for index_key in index_keys {

@@ -1,7 +1,7 @@
 ghost use Rattle.std.specs.Prelude.{◌↔◌, ℕ, Contains};
 ghost use Rattle.std.specs.List.Sorted.{IsStrictlyIncreasing};
 
-/// The same numbers in order, each once.
+/// The numbers in ascending order, each once.
 pub(crate) fn sort_dedup(mut numbers: Vec<u32>) -> Vec<u32>
     ensures ascend { IsStrictlyIncreasing result.items }
     ensures same { (n : ℕ) → Contains result.items n ↔ Contains numbers.items n }

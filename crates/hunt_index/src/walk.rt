@@ -12,16 +12,19 @@ use pattern_types::Step;
 use stix_bundles::Bundle;
 use stix_json::{Json, get_ordered, text_of};
 
-/// The value that steps lead to from an object, where none of them is `[*]`: there is at most one.
+/// The value at the end of a path without `[*]`: there is at most one.
 pub(crate) fn value_at_path<'a>(
     bundle: &'a Bundle,
     object: &'a Json,
     steps: &[Step],
 ) -> Option<&'a Json>
     requires { IsOrdered (data_of object.now) }
-    ensures all { (value : Data) → ArePlain steps.now → Reaches (data_in bundle.now) None steps.now (data_of object.now) value
+    ensures all { (value : Data) → ArePlain steps.now
+        → Reaches (data_in bundle.now) None steps.now (data_of object.now) value
         → option_map (λ tree. data_of tree.now) result ≡ Some value }
-    ensures reached { IfSome result (λ tree. Reaches (data_in bundle.now) None steps.now (data_of object.now) (data_of tree.now)) }
+    ensures reached { IfSome result
+        (λ tree. Reaches (data_in bundle.now) None steps.now (data_of object.now)
+        (data_of tree.now)) }
 {
     let mut last = None;
     let mut value = object;
@@ -35,7 +38,7 @@ pub(crate) fn value_at_path<'a>(
     Some(value)
 }
 
-/// The value that one such step leads to.
+/// The value after one such step.
 fn next_value<'a>(
     bundle: &'a Bundle,
     last: Option<&str>,
@@ -43,9 +46,13 @@ fn next_value<'a>(
     value: &'a Json,
 ) -> Option<&'a Json>
     requires { IsOrdered (data_of value.now) }
-    ensures next { (next : Data) → IsPlain step.now → StepReaches (data_in bundle.now) (option_map (λ name. name.now) last.entry) step.now (data_of value.now) next
+    ensures next { (next : Data) → IsPlain step.now
+        → StepReaches (data_in bundle.now) (option_map (λ name. name.now) last.entry) step.now
+        (data_of value.now) next
         → option_map (λ tree. data_of tree.now) result ≡ Some next }
-    ensures reached { IfSome result (λ tree. StepReaches (data_in bundle.now) (option_map (λ name. name.now) last.entry) step.now (data_of value.now) (data_of tree.now)) }
+    ensures reached { IfSome result
+        (λ tree. StepReaches (data_in bundle.now) (option_map (λ name. name.now) last.entry)
+        step.now (data_of value.now) (data_of tree.now)) }
     ensures ordered { IfSome result (λ tree. IsOrdered (data_of tree.now)) }
 {
     selected(bundle, last, step, value).first()

@@ -1,9 +1,10 @@
--- Many sightings as one text: an object whose one property `objects` is their list. It is written piece by piece.
+-- Many sightings as one text: an object whose one property `objects` is their list. It is written
+-- text by text.
 use Rattle.std.specs.Prelude.{ℕ, List, [], ◌∷◌, ◌++◌, codes}
 use Rattle.serde_json.specs.Data.{Data, array, object, no_members, member}
 use Rattle.serde_json.specs.View.{items_of}
 
--- texts, each behind a comma
+-- texts, each after a comma
 abbrev pub comma_joined : List (List ℕ) → List ℕ
 comma_joined [] = []
 comma_joined (text ∷ texts) = codes "," ++ (text ++ comma_joined texts)

@@ -1,4 +1,4 @@
--- What was seen of the indicators of a hunt, and the envelope of sightings in which it is told.
+-- The hits of each indicator in numbers, and the report with their sightings.
 use Rattle.std.specs.Prelude.{◌≡◌, ◌⊎◌, ℕ, ◌+◌, min, ℤ, List, [], ◌∷◌, ◌++◌, length, codes, Option, Some, None, slice_get}
 use Rattle.match_bindings.specs.BindTree.{BindTree, greatest}
 use Rattle.hunt_feed.specs.declared.hunted.Hunted.{Hunted}
@@ -19,8 +19,8 @@ pub record EndsWhen (rows : List Row) (tree : BindTree) (time : ℤ) : Type 0 wh
   pub there : slice_get rows before ≡ Some row
   pub time_is : time ≡ row.observation.last
 
--- the bindings of an indicator, in order of their last observations: how many there are, or the most that a sighting reports, and when
--- the first and the last of them ended
+-- the bindings of an indicator, in the order of their last observations: how many there are, at
+-- most the greatest count of a sighting, and when the first and the last of them ended
 pub record IsHitSummaryOf (rows : List Row) (trees : List BindTree) (hit_summary : HitSummary) : Type 0 where
   pub count : hit_summary.count ≡ min (length trees) MAX_COUNT
   pub one : BindTree
@@ -32,12 +32,12 @@ pub record IsHitSummaryOf (rows : List Row) (trees : List BindTree) (hit_summary
   pub ends : trees ≡ ahead_of_it ++ other ∷ []
   pub last : EndsWhen rows other hit_summary.last
 
--- the same; there is none where there is no binding
+-- the same; None where there is no binding
 abbrev pub IsHitSummary : List Row → List BindTree → Option HitSummary → Type 0
 IsHitSummary rows trees None = trees ≡ []
 IsHitSummary rows trees (Some hit_summary) = IsHitSummaryOf rows trees hit_summary
 
--- what is told of an indicator
+-- what the sighting of an indicator is made of
 pub record IsSeenOf (rows : List Row) (indicator : Hunted) (trees : List BindTree) (seen : SightingInput) : Type 0 where
   pub indicator_is : seen.indicator.now ≡ indicator.id
   pub created_is : seen.created ≡ indicator.created
@@ -49,7 +49,8 @@ pub record IsSighting (moment : ℤ) (rows : List Row) (indicator : Hunted) (tre
   pub seen_is : IsSeenOf rows indicator trees seen
   pub text_is : IsSightingText moment seen text
 
--- the texts of the sightings of indicators, which stand in the hunted list from a place on: of each that has a hit, in order
+-- the texts of the sightings of indicators, which are in the hunted list from an index on: one for
+-- each that has a hit, in order
 abbrev pub AreSightings : ℤ → List Row → List Hit → ℕ → List Hunted → List (List ℕ) → Type 0
 AreSightings moment rows hits place [] texts = texts ≡ []
 AreSightings moment rows hits place (indicator ∷ hunted) texts =
@@ -57,18 +58,18 @@ AreSightings moment rows hits place (indicator ∷ hunted) texts =
     ⊎ ((text : List ℕ) × (later : List (List ℕ)) × IsSighting moment rows indicator (binds_at place hits) text
     × AreSightings moment rows hits (place + 1) hunted later × (texts ≡ text ∷ later))
 
--- an envelope of sightings as a line; nothing where there are none
+-- the report as a line; empty without sightings
 abbrev pub report_of : List (List ℕ) → List ℕ
 report_of [] = []
 report_of (text ∷ texts) = envelope_text (text ∷ texts) ++ codes "\n"
 
--- the line that reports, at a moment, what was seen of the hunted indicators
+-- the report, made at a moment
 pub record IsReport (moment : ℤ) (rows : List Row) (hits : List Hit) (hunted : List Hunted) (text : List ℕ) : Type 0 where
   pub texts : List (List ℕ)
   pub sightings : AreSightings moment rows hits 0 hunted texts
   pub text_is : text ≡ report_of texts
 
--- that line up to the last of the sightings of the first indicators
+-- the report up to the last sighting of the first indicators
 abbrev pub begun_by : List (List ℕ) → List ℕ
 begun_by [] = []
 begun_by (text ∷ texts) = opened (text ∷ texts)
@@ -81,6 +82,6 @@ pub record IsReportBegun (moment : ℤ) (rows : List Row) (hits : List Hit) (hun
   pub sightings : AreSightings moment rows hits 0 front texts
   pub text_is : text ≡ begun_by texts
 
--- the line or such a beginning of it
+-- the report, or such a prefix of it
 abbrev pub IsReportText : ℤ → List Row → List Hit → List Hunted → List ℕ → Type 0
 IsReportText moment rows hits hunted text = IsReport moment rows hits hunted text ⊎ IsReportBegun moment rows hits hunted text

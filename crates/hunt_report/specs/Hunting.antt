@@ -1,4 +1,4 @@
--- Who hunts: what it is, without where it lies in memory, and what it says of the bundles that it sees.
+-- The observable state of a hunter, and what it writes about the bundles that it sees.
 use Rattle.std.specs.Prelude.{◌≡◌, ℕ, ◌<◌, ◌^◌, List, [], ◌∷◌, ◌++◌, map, length, All, Option, Some, slice_get, codes}
 use Rattle.serde_json.specs.Data.{Data}
 use Rattle.stix_times.specs.Writing.{IsWhole}
@@ -20,25 +20,25 @@ use Rattle.hunt_report.specs.Hits.{AnswerRows, AreNeverOverLimit}
 use Rattle.hunt_report.specs.Lines.{hits_text}
 use Rattle.hunt_report.specs.HitSummaries.{IsHitSummary}
 
--- who hunts, without where it lies in memory
+-- the observable state of a hunter
 pub record HunterState : Type 0 where
   pub hunted : List Hunted
   pub engine : EngineState
-  -- what was seen of each
+  -- the summary of each indicator
   pub hit_summaries : List (Option HitSummary)
 
 abbrev pub patterns_of : List Hunted → List Pattern
 patterns_of hunted = map (λ indicator. indicator.pattern) hunted
 
--- an indicator that can be hunted, and of which a sighting can be told
+-- an indicator that can be hunted, and of which a sighting can be made
 pub record IsHuntable (indicator : Hunted) : Type 0 where
   pub kind : indicator.id.kind ≡ codes "indicator"
   pub created : IsWhole 1000 indicator.created
   pub sound : IsSoundPattern (plain_pattern indicator.pattern)
   pub narrow : leaves indicator.pattern < 2 ^ 32
 
--- it hunted over these rows, and these are the hits: its engine stands for the rows, at none of which a pattern was over limit, and it
--- knows what was seen of each indicator
+-- it hunted over these rows, with these hits: its engine represents the rows, none of which exceeds
+-- the limit, and it has the summary of each indicator
 pub record HuntsOver (hunter : HunterState) (rows : List Row) (hits : List Hit) : Type 0 where
   pub patterns : hunter.engine.patterns ≡ patterns_of hunter.hunted
   pub engine : EngineRepresents hunter.engine rows
@@ -54,7 +54,7 @@ pub record IsReady (hunter : HunterState) : Type 0 where
   pub hits : List Hit
   pub hunts : HuntsOver hunter rows hits
 
--- behind whatever rows, it hunted over some more, and told their hits
+-- after any rows it took some more, and wrote their hits
 pub record TakesRows (rows : List Row) (before after : HunterState) (text : List ℕ) : Type 0 where
   pub hunted : after.hunted ≡ before.hunted
   pub retained_limit : after.engine.retained_limit ≡ before.engine.retained_limit
@@ -65,7 +65,7 @@ pub record TakesRows (rows : List Row) (before after : HunterState) (text : List
 abbrev pub SeesBundle : HunterState → BundleOf → HunterState → List ℕ → Type 0
 SeesBundle before bundle after text = TakesRows (rows_over bundle.objects bundle.observations) before after text
 
--- it told this of the first observations of some
+-- the text that it wrote about the first of some observations
 pub record TakesFirst (objects : List Data) (observations : List Observation) (before : HunterState) (text : List ℕ) : Type 0 where
   pub seen : List Observation
   pub later : List Observation
@@ -73,11 +73,12 @@ pub record TakesFirst (objects : List Data) (observations : List Observation) (b
   pub after : HunterState
   pub takes : TakesRows (rows_over objects seen) before after text
 
--- of those of a bundle
+-- the same for the observations of a bundle
 abbrev pub BeginsBundle : HunterState → BundleOf → List ℕ → Type 0
 BeginsBundle before bundle text = TakesFirst bundle.objects bundle.observations before text
 
--- it told this of the observations ahead of one at which a pattern is over limit, the first such place
+-- the text that it wrote about the observations before the first one at which a pattern exceeds the
+-- limit
 pub record TakesUpTo (objects : List Data) (observations : List Observation) (before : HunterState) (why : OverLimit) (text : List ℕ) : Type 0 where
   pub seen : List Observation
   pub observation : Observation
@@ -89,6 +90,6 @@ pub record TakesUpTo (objects : List Data) (observations : List Observation) (be
       → IsFirstOverLimit (patterns_of before.hunted) before.engine.retained_limit ((earlier ++ rows_over objects seen) ++ row_of observation objects ∷ [])
       why.hunted why.number why.retained_limit
 
--- of those of a bundle
+-- the same for the observations of a bundle
 abbrev pub StopsInBundle : HunterState → BundleOf → OverLimit → List ℕ → Type 0
 StopsInBundle before bundle why text = TakesUpTo bundle.objects bundle.observations before why text

@@ -1,4 +1,4 @@
--- What a hunt reports of its indicators: which are skipped, and each hit.
+-- The lines of a hunt: the skipped indicators, and each hit.
 use Rattle.std.specs.Prelude.{ℕ, List, [], ◌++◌, codes, Option, Some, None, slice_get}
 use Rattle.std.specs.List.{flat_map}
 use Rattle.stix_ids.specs.Identifier.{canonical_text}
@@ -9,7 +9,7 @@ use Rattle.hunt_feed.specs.declared.hunted.Hunted.{Hunted}
 use Rattle.hunt_feed.specs.declared.hunted.Skipped.{Skipped}
 use Rattle.hunt_engine.specs.declared.found.Hit.{Hit}
 
--- skipped ID: NAME at N, the place where there is one
+-- skipped ID: NAME at N, the offset if there is one
 abbrev pub skipped_line : Skipped → List ℕ
 skipped_line skipped = codes "skipped " ++ (canonical_text skipped.id ++ (codes ": " ++ (refusal_text skipped.refusal ++ codes "\n")))
 

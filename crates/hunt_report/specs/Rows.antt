@@ -1,4 +1,4 @@
--- The rows that the bundles of an input are to an engine.
+-- The rows of an engine for the bundles of an input.
 use Rattle.std.specs.Prelude.{List, map}
 use Rattle.std.specs.List.{flat_map}
 use Rattle.serde_json.specs.Data.{Data}
@@ -6,10 +6,10 @@ use Rattle.stix_bundles.specs.declared.observation.Observation.{Observation}
 use Rattle.match_input.specs.Reading.{BundleOf}
 use Rattle.hunt_engine.specs.EngineLog.{Row, row_of}
 
--- those of some observations, with the objects of their bundle
+-- the rows of some observations, with the objects of their bundle
 abbrev pub rows_over : List Data → List Observation → List Row
 rows_over objects observations = map (λ o. row_of o objects) observations
 
--- those of the bundles of an input, one after another
+-- the rows of the bundles of an input, concatenated
 abbrev pub rows_of : List BundleOf → List Row
 rows_of bundles = flat_map (λ bundle. rows_over bundle.objects bundle.observations) bundles

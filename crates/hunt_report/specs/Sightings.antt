@@ -1,5 +1,5 @@
--- The sighting of what was seen of an indicator (STIX 2.1, section 5.2): it has the indicator's UUID and is created when
--- the indicator was, so that each run of a hunt reports a version of one object.
+-- The sighting of an indicator (STIX 2.1, section 5.2). It has the indicator's UUID and creation
+-- time, so that each run of a hunt makes a version of the same object.
 use Rattle.std.specs.Prelude.{◌≡◌, ◌⊎◌, ℕ, ◌%◌, ◌==◌, min, ℤ, pos, ◌≤ℤ◌, ◌<ℤ◌, ◌+ℤ◌, unsigned_abs, List, [], ◌∷◌, codes, if◌then◌else◌}
 use Rattle.serde_json.specs.Data.{Data, number, string, object}
 use Rattle.serde_json.specs.Find.{of_integer}
@@ -11,14 +11,14 @@ use Rattle.stix_times.specs.Writing.{IsCanonicalTextOf, IsTextOfDigits, IsWhole}
 use Rattle.hunt_report.specs.declared.seen.SightingInput.{SightingInput}
 use Rattle.hunt_report.specs.declared.seen.TheConstants.{MAX_COUNT}
 
--- what may be told of an indicator: it was created at a whole number of microseconds, and the last binding didn't end
--- before the first
+-- what the input of a sighting has to satisfy: the creation time is a whole number of microseconds,
+-- and the last binding didn't end before the first
 pub record IsSeen (seen : SightingInput) : Type 0 where
   pub kind : seen.indicator.now.kind ≡ codes "indicator"
   pub created : IsWhole 1000 seen.created
   pub in_order : seen.first ≤ℤ seen.last
 
--- the digits of a second of a version: three where nothing is lost, else six
+-- the digits of a second of a version: three where that loses nothing, otherwise six
 abbrev pub version_digits : ℤ → ℕ
 version_digits instant = if unsigned_abs instant % 1_000_000 == 0 then 3 else 6
 
@@ -26,13 +26,13 @@ version_digits instant = if unsigned_abs instant % 1_000_000 == 0 then 3 else 6
 abbrev pub IsVersionText : ℤ → List ℕ → Type 0
 IsVersionText instant text = IsTextOfDigits (version_digits instant) text instant
 
--- the last whole number of milliseconds that isn't later than the moment
+-- the moment rounded down to milliseconds
 pub record IsRoundedDown (moment rounded : ℤ) : Type 0 where
   pub whole : IsWhole 1_000_000 rounded
   pub not_later : rounded ≤ℤ moment
   pub near : moment <ℤ (rounded +ℤ pos 1_000_000)
 
--- the later of when it was created and the moment, rounded down
+-- the moment rounded down, but not before the creation time
 pub record IsModifiedAt (created moment modified : ℤ) : Type 0 where
   pub rounded : ℤ
   pub is_rounded : IsRoundedDown moment rounded
@@ -40,7 +40,7 @@ pub record IsModifiedAt (created moment modified : ℤ) : Type 0 where
   pub after_rounded : rounded ≤ℤ modified
   pub one_of_both : (modified ≡ created) ⊎ (modified ≡ rounded)
 
--- a property that is a text
+-- a property with a text
 abbrev pub text_member : List ℕ → List ℕ → Member
 text_member name text = record { name = name; value = string text }
 
@@ -62,7 +62,7 @@ sighting_data count created first id last modified of = object (members_of (
 abbrev pub sighting_id : Id → Id
 sighting_id indicator = record { kind = codes "sighting"; number = indicator.number }
 
--- the sighting that is made at the moment of what was seen
+-- the sighting of this input, made at the moment
 pub record IsSightingOf (moment : ℤ) (seen : SightingInput) (d : Data) : Type 0 where
   pub created : List ℕ
   pub created_is : IsVersionText seen.created created

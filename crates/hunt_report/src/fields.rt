@@ -1,4 +1,4 @@
-//! The fields of a sighting, added one by one.
+//! Builds the properties of a sighting one by one.
 
 ghost use Rattle.std.specs.Prelude.{◌≡◌, ℕ, ◌<◌, ◌^◌, [], ◌++◌, ◌∷◌, List, OnOk, map, pos};
 ghost use Rattle.serde_json.specs.Data.{number as whole, object};
@@ -17,14 +17,14 @@ use stix_ids::{Id, write_id};
 use stix_json::{Field, Json, JsonText};
 use stix_times::Instant;
 
-/// Fields that come one by one.
+/// The properties so far.
 #[derive(Drop)]
 pub(crate) struct Fields {
     pub(crate) fields: Vec<Field>,
 }
 
 impl Fields {
-    /// No fields yet.
+    /// No properties.
     pub(crate) fn new(alloc: Global) -> Fields
         ensures { map field_data result.fields.items ≡ [] }
     {
@@ -33,24 +33,25 @@ impl Fields {
         }
     }
 
-    /// The object of the fields.
+    /// The object with these properties.
     pub(crate) fn into_object(self) -> Json
         ensures { data_of result ≡ object (members_of (map field_data self.fields.items)) }
     {
         Json::Object(Items::from_vec(self.fields))
     }
 
-    /// Adds a field.
+    /// Adds a property.
     fn add(&mut self, alloc: Global, name: &str, value: Json) -> Result<(), NoMemory>
         ensures { OnOk result (map field_data self.new.fields.items
-            ≡ map field_data self.old.fields.items ++ record { name = name.now; value = data_of value } ∷ []) }
+            ≡ map field_data self.old.fields.items
+            ++ record { name = name.now; value = data_of value } ∷ []) }
     {
         let name = Name::from_text(alloc, name)?;
         self.fields.push(Field { name, value })?;
         Ok(())
     }
 
-    /// Adds a field of a whole number.
+    /// Adds a property with an integer.
     pub(crate) fn add_count(
         &mut self,
         alloc: Global,
@@ -58,37 +59,41 @@ impl Fields {
         count: u32,
     ) -> Result<(), NoMemory>
         ensures { OnOk result (map field_data self.new.fields.items
-            ≡ map field_data self.old.fields.items ++ record { name = name.now; value = whole (of_integer (pos count)) } ∷ []) }
+            ≡ map field_data self.old.fields.items
+            ++ record { name = name.now; value = whole (of_integer (pos count)) } ∷ []) }
     {
         self.add(alloc, name, Json::Integer(i64::from(count)))
     }
 
-    /// Adds a field of a text.
+    /// Adds a property with a text.
     fn add_text(&mut self, alloc: Global, name: &str, text: Text) -> Result<(), NoMemory>
-        ensures { OnOk result (map field_data self.new.fields.items ≡ map field_data self.old.fields.items ++ text_member name.now text ∷ []) }
+        ensures { OnOk result (map field_data self.new.fields.items
+            ≡ map field_data self.old.fields.items ++ text_member name.now text ∷ []) }
     {
         let text = JsonText::from_text(alloc, text)?;
         self.add(alloc, name, Json::String(text))
     }
 
-    /// Adds a field of a text that is known.
+    /// Adds a property with a constant text.
     pub(crate) fn add_word(&mut self, alloc: Global, name: &str, word: &str) -> Result<(), NoMemory>
-        ensures { OnOk result (map field_data self.new.fields.items ≡ map field_data self.old.fields.items ++ text_member name.now word.now ∷ []) }
+        ensures { OnOk result (map field_data self.new.fields.items
+            ≡ map field_data self.old.fields.items ++ text_member name.now word.now ∷ []) }
     {
         let text = Text::from_text(alloc, word)?;
         self.add_text(alloc, name, text)
     }
 
-    /// Adds a field of an identifier.
+    /// Adds a property with an identifier.
     pub(crate) fn add_id(&mut self, alloc: Global, name: &str, id: &Id) -> Result<(), NoMemory>
         requires { IsKind id.now.kind }
-        ensures { OnOk result (AddsText (λ text. IsCanonicalIdOf text id.now) name.now (map field_data self.old.fields.items) (map field_data self.new.fields.items)) }
+        ensures { OnOk result (AddsText (λ text. IsCanonicalIdOf text id.now) name.now
+            (map field_data self.old.fields.items) (map field_data self.new.fields.items)) }
     {
         let text = write_id(alloc, id)?;
         self.add_text(alloc, name, text)
     }
 
-    /// Adds a field of the time of a version.
+    /// Adds a property with the time of a version.
     pub(crate) fn add_version(
         &mut self,
         alloc: Global,
@@ -96,20 +101,22 @@ impl Fields {
         instant: Instant,
     ) -> Result<(), NoMemory>
         requires { IsWhole 1000 instant }
-        ensures { OnOk result (AddsText (IsVersionText instant) name.now (map field_data self.old.fields.items) (map field_data self.new.fields.items)) }
+        ensures { OnOk result (AddsText (IsVersionText instant) name.now
+            (map field_data self.old.fields.items) (map field_data self.new.fields.items)) }
     {
         let text = version_text(alloc, instant)?;
         self.add_text(alloc, name, text)
     }
 
-    /// Adds a field of a time.
+    /// Adds a property with a time.
     pub(crate) fn add_time(
         &mut self,
         alloc: Global,
         name: &str,
         instant: Instant,
     ) -> Result<(), NoMemory>
-        ensures { OnOk result (AddsText (λ text. IsCanonicalTextOf text instant) name.now (map field_data self.old.fields.items) (map field_data self.new.fields.items)) }
+        ensures { OnOk result (AddsText (λ text. IsCanonicalTextOf text instant) name.now
+            (map field_data self.old.fields.items) (map field_data self.new.fields.items)) }
     {
         let text = time_text(alloc, instant)?;
         self.add_text(alloc, name, text)

@@ -1,4 +1,5 @@
-//! What follows from the definitions: the contracts are the laws, and the functions do nothing.
+//! Theorems about the definitions of this crate. The contracts state them; the functions do nothing
+//! at run time.
 
 ghost use Rattle.std.specs.Prelude.{List, [], All, ℤ};
 ghost use Rattle.serde_json.specs.Data.{Data};
@@ -18,17 +19,19 @@ use pattern_types::leaf_laws::leaves_are_brackets;
 use stix_objects::laws::{no_breaks, one_id};
 use stix_times::laws::millis_are_whole;
 
-/// The answers to the rows of a log, one after another, are its hits.
+/// The answers to the rows of a log, concatenated, are its hits.
 pub fn answers_are_the_hits()
-    ensures { (patterns : List Pattern) (rows : List Row) (hits : List Hit) → AnswerRows patterns [] rows hits → AreHits patterns rows hits }
+    ensures { (patterns : List Pattern) (rows : List Row) (hits : List Hit)
+        → AnswerRows patterns [] rows hits → AreHits patterns rows hits }
 {
     answers_are_the_listing();
     one_log();
 }
 
-/// Each indicator that is hunted can be, and a sighting of it can be told.
+/// Each hunted indicator satisfies what the hunter and its sightings require.
 pub fn hunted_are_huntable()
-    ensures { (objects : List Data) (moment : ℤ) (hunt : Hunt) → All (λ object. AreBreaksOf object []) objects
+    ensures { (objects : List Data) (moment : ℤ) (hunt : Hunt)
+        → All (λ object. AreBreaksOf object []) objects
         → IsHuntOf objects moment hunt → All IsHuntable hunt.hunted }
 {
     no_breaks();
@@ -37,9 +40,10 @@ pub fn hunted_are_huntable()
     leaves_are_brackets();
 }
 
-/// Each indicator that is skipped can be told: its identifier is of a kind.
+/// Each skipped indicator has a line: its identifier is valid.
 pub fn skipped_have_lines()
-    ensures { (objects : List Data) (moment : ℤ) (hunt : Hunt) → All (λ object. AreBreaksOf object []) objects
+    ensures { (objects : List Data) (moment : ℤ) (hunt : Hunt)
+        → All (λ object. AreBreaksOf object []) objects
         → IsHuntOf objects moment hunt → All (λ s. IsKind s.id.kind) hunt.skipped }
 {
     no_breaks();

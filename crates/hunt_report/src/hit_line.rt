@@ -1,4 +1,4 @@
-//! The lines of hits on their way to the output.
+//! The lines of hits, buffered.
 
 ghost use Rattle.std.specs.Prelude.{◌≡◌, ◌<◌, ◌++◌, ℕ, List, Option, Some, All, Err, length, IfOk, OnOk, OnErr, string_bytes};
 ghost use Rattle.flow_edges.specs.Faults.{Counted};
@@ -19,7 +19,7 @@ use match_run::{CutShort, Pending};
 use std::alloc::Global;
 use stix_ids::write_id;
 
-/// Adds the line of each hit to what is pending.
+/// Appends the line of each hit to the buffer, and writes the buffer whenever it is full.
 pub(crate) fn add_hits<O: Sink>(
     alloc: Global,
     hunted: &[Hunted],
@@ -29,11 +29,16 @@ pub(crate) fn add_hits<O: Sink>(
 ) -> Result<(), CutShort>
     requires kinds { All (λ h. IsKind h.id.kind) hunted.now }
     requires inside { All (λ hit. hit.hunted < length hunted.now) hits.now }
-    ensures ok { (before : List ℕ) (first : Option (List ℕ)) → IsBuffered before pending.old first (O.written output.old)
-        → OnOk result (IsBuffered (before ++ hits_text hunted.now hits.now) pending.new first (O.written output.new)) }
-    ensures err { (before : List ℕ) (first : Option (List ℕ)) → IsBuffered before pending.old first (O.written output.old)
-        → OnErr result (WritesPrefix (before ++ hits_text hunted.now hits.now) first (O.written output.new)) }
-    ensures causes { Counted (result ≡ Err CutShort.WriteFault) (O.faults output.old) (O.faults output.new) }
+    ensures ok { (before : List ℕ) (first : Option (List ℕ))
+        → IsBuffered before pending.old first (O.written output.old)
+        → OnOk result (IsBuffered (before ++ hits_text hunted.now hits.now) pending.new first
+        (O.written output.new)) }
+    ensures err { (before : List ℕ) (first : Option (List ℕ))
+        → IsBuffered before pending.old first (O.written output.old)
+        → OnErr result (WritesPrefix (before ++ hits_text hunted.now hits.now) first
+        (O.written output.new)) }
+    ensures causes { Counted (result ≡ Err CutShort.WriteFault) (O.faults output.old)
+        (O.faults output.new) }
 {
     for hit in hits {
         add_hit(alloc, hunted, hit, pending, output)?;
@@ -41,7 +46,7 @@ pub(crate) fn add_hits<O: Sink>(
     Ok(())
 }
 
-/// Adds the line of a hit.
+/// Appends the line of one hit.
 fn add_hit<O: Sink>(
     alloc: Global,
     hunted: &[Hunted],
@@ -51,11 +56,16 @@ fn add_hit<O: Sink>(
 ) -> Result<(), CutShort>
     requires kinds { All (λ h. IsKind h.id.kind) hunted.now }
     requires inside { hit.now.hunted < length hunted.now }
-    ensures ok { (before : List ℕ) (first : Option (List ℕ)) → IsBuffered before pending.old first (O.written output.old)
-        → OnOk result (IsBuffered (before ++ hit_line hunted.now hit.now) pending.new first (O.written output.new)) }
-    ensures err { (before : List ℕ) (first : Option (List ℕ)) → IsBuffered before pending.old first (O.written output.old)
-        → OnErr result (WritesPrefix (before ++ hit_line hunted.now hit.now) first (O.written output.new)) }
-    ensures causes { Counted (result ≡ Err CutShort.WriteFault) (O.faults output.old) (O.faults output.new) }
+    ensures ok { (before : List ℕ) (first : Option (List ℕ))
+        → IsBuffered before pending.old first (O.written output.old)
+        → OnOk result (IsBuffered (before ++ hit_line hunted.now hit.now) pending.new first
+        (O.written output.new)) }
+    ensures err { (before : List ℕ) (first : Option (List ℕ))
+        → IsBuffered before pending.old first (O.written output.old)
+        → OnErr result (WritesPrefix (before ++ hit_line hunted.now hit.now) first
+        (O.written output.new)) }
+    ensures causes { Counted (result ≡ Err CutShort.WriteFault) (O.faults output.old)
+        (O.faults output.new) }
 {
     parts_are_buffered();
     let place = hit.hunted as usize;
@@ -67,7 +77,8 @@ fn add_hit<O: Sink>(
 /// The line of a hit: the indicator's identifier, a space, and the line of the binding.
 fn hit_line(alloc: Global, indicator: &Hunted, bind: &Bind) -> Result<String, NoMemory>
     requires { IsKind indicator.now.id.kind }
-    ensures { IfOk result (λ line. string_bytes line ≡ line_for (Some indicator.now) (tree_of bind.now)) }
+    ensures { IfOk result (λ line. string_bytes line
+        ≡ line_for (Some indicator.now) (tree_of bind.now)) }
 {
     let id = write_id(alloc, &indicator.id)?;
     let binding = line_of(alloc, bind)?;

@@ -4,10 +4,10 @@ ghost use Rattle.hunt_report.specs.inner.Noting.{hit_summary_after};
 use crate::MAX_COUNT;
 use stix_times::Instant;
 
-/// What was seen of an indicator: its bindings so far.
+/// The hits of one indicator so far, in numbers.
 #[derive(Clone, Copy, Debug)]
 pub struct HitSummary {
-    /// How many there are, or the most that a sighting reports.
+    /// How many there were, at most the greatest count of a sighting.
     pub count: u64,
     /// When the observation was last observed at which the first of them ended.
     pub first: Instant,
@@ -15,7 +15,7 @@ pub struct HitSummary {
     pub last: Instant,
 }
 
-/// The same, once one more ended at an observation of that last time.
+/// Includes one more hit, which ended at an observation with this last time.
 pub(crate) fn hit_summary_after(hit_summary: Option<HitSummary>, last: Instant) -> HitSummary
     ensures { result ≡ hit_summary_after last hit_summary }
 {

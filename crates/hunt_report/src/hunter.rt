@@ -26,11 +26,12 @@ use std::marker::Model;
 use stix_bundles::{Bundle, Observation};
 use stix_times::Instant;
 
-/// No log has an observation of such a number.
+/// No log has an observation of this number.
 const TOO_MANY: u64 = 1 << 63;
 
-/// Who hunts: it reports the hits of a log as they end, and keeps what was seen of each indicator. Contracts see the hunted list, the
-/// engine and what was seen of each; and by `HuntsOver` the rows that it hunted over, with the hits there.
+/// The hunter: writes the hits of a log as they end, and counts them for each indicator. Contracts
+/// observe the hunted list, the engine and the counts. `HuntsOver` relates them to the rows taken
+/// and their hits.
 #[derive(Drop)]
 pub struct Hunter<'p> {
     alloc: Global,
@@ -57,7 +58,8 @@ impl<'p> Model for Hunter<'p> {
 }
 
 impl<'p> Hunter<'p> {
-    /// One for the indicators of a hunt, that hunted over nothing yet. More than `retained_limit` may never be live of one pattern.
+    /// A hunter for the indicators of a hunt that took no row yet. No pattern may retain more than
+    /// `retained_limit`.
     pub fn new(
         alloc: Global,
         hunted: &'p [Hunted],
@@ -66,7 +68,8 @@ impl<'p> Hunter<'p> {
         requires { All IsHuntable hunted.now }
         ensures hunts { IfOk result (λ hunter. HuntsOver hunter [] []) }
         ensures hunted { IfOk result (λ hunter. hunter.hunted ≡ hunted.now) }
-        ensures retained_limit { IfOk result (λ hunter. hunter.engine.retained_limit ≡ retained_limit) }
+        ensures retained_limit { IfOk result (λ hunter. hunter.engine.retained_limit
+            ≡ retained_limit) }
     {
         if u32::try_from(hunted.len()).is_err() {
             return Err(NoMemory);
@@ -81,7 +84,7 @@ impl<'p> Hunter<'p> {
         })
     }
 
-    /// Reports the hits at each observation of a bundle, in turn.
+    /// Writes the hits at each observation of a bundle, in turn.
     fn report_all<O: Sink>(
         &mut self,
         batch: &Batch,
@@ -89,11 +92,15 @@ impl<'p> Hunter<'p> {
         output: &mut O,
     ) -> Result<(), SeeEnd<OverLimit>>
         requires ready { IsReady self.old }
-        requires follow { MayFollow self.old.engine.last (self.old.engine.rows + 1) batch.now.observations }
+        requires follow { MayFollow self.old.engine.last (self.old.engine.rows
+            + 1) batch.now.observations }
         requires empty { pending.old ≡ [] }
-        ensures sees { OnOk result (TakesSoFar (data_in batch.now.bundle) batch.now.observations self.old self.new pending.new (O.written output.old) (O.written output.new)) }
-        ensures end { IfErr result (EndsAmong (data_in batch.now.bundle) batch.now.observations self.old pending.new (O.written output.old) (O.written output.new)) }
-        ensures causes { Counted (result ≡ Err SeeEnd.WriteFault) (O.faults output.old) (O.faults output.new) }
+        ensures sees { OnOk result (TakesSoFar (data_in batch.now.bundle) batch.now.observations
+            self.old self.new pending.new (O.written output.old) (O.written output.new)) }
+        ensures end { IfErr result (EndsAmong (data_in batch.now.bundle) batch.now.observations
+            self.old pending.new (O.written output.old) (O.written output.new)) }
+        ensures causes { Counted (result ≡ Err SeeEnd.WriteFault) (O.faults output.old)
+            (O.faults output.new) }
     {
         parts_are_buffered();
         let observations = batch.observations.as_slice();
@@ -108,7 +115,8 @@ impl<'p> Hunter<'p> {
         Ok(())
     }
 
-    /// Takes the next observation of a bundle of which so much is known, and notes the hits that end there.
+    /// Takes the next observation of a bundle with the bundle's memo, and counts the hits that end
+    /// there.
     fn take(
         &mut self,
         observation: &Observation,
@@ -116,13 +124,17 @@ impl<'p> Hunter<'p> {
         memo: &mut Memo,
     ) -> Result<Items<Hit>, SeeEnd<OverLimit>>
         requires ready { IsReady self.old }
-        requires right { IsSoundMemo (data_in bundle.now) (brackets_of (patterns_of self.old.hunted)) memo.old }
+        requires right { IsSoundMemo (data_in bundle.now)
+            (brackets_of (patterns_of self.old.hunted)) memo.old }
         requires span { observation.now.first ≤ℤ observation.now.last }
         requires number { observation.now.number ≡ self.old.engine.rows + 1 }
         requires order { ¬ (Falls self.old.engine.last observation.now.last) }
-        ensures row { IfOk result (TakesRow (row_of observation.now (data_in bundle.now)) self.old self.new) }
-        ensures end { IfErr result (EndsAtRow (row_of observation.now (data_in bundle.now)) self.old) }
-        ensures right { OnOk result (IsSoundMemo (data_in bundle.now) (brackets_of (patterns_of self.old.hunted)) memo.new) }
+        ensures row { IfOk result (TakesRow (row_of observation.now (data_in bundle.now)) self.old
+            self.new) }
+        ensures end { IfErr result (EndsAtRow (row_of observation.now (data_in bundle.now))
+            self.old) }
+        ensures right { OnOk result (IsSoundMemo (data_in bundle.now)
+            (brackets_of (patterns_of self.old.hunted)) memo.new) }
     {
         one_log();
         if observation.number >= TOO_MANY {
@@ -136,22 +148,24 @@ impl<'p> Hunter<'p> {
         Ok(hits)
     }
 
-    /// Notes hits that end at an observation of that last time.
+    /// Counts hits that end at an observation with this last time.
     fn count_all(&mut self, hits: &[Hit], last: Instant)
         requires inside { All (λ hit. hit.hunted < length self.old.hit_summaries) hits.now }
         requires order { AreBefore last self.old.hit_summaries }
-        ensures { self.new ≡ record self.old { hit_summaries = all_noted last hits.now self.old.hit_summaries } }
+        ensures { self.new ≡ record self.old
+            { hit_summaries = all_noted last hits.now self.old.hit_summaries } }
     {
         for hit in hits {
             self.note(hit, last);
         }
     }
 
-    /// Notes a hit.
+    /// Counts one hit.
     fn note(&mut self, hit: &Hit, last: Instant)
         requires inside { hit.now.hunted < length self.old.hit_summaries }
         requires order { AreBefore last self.old.hit_summaries }
-        ensures { self.new ≡ record self.old { hit_summaries = noted last hit.now self.old.hit_summaries } }
+        ensures { self.new ≡ record self.old
+            { hit_summaries = noted last hit.now self.old.hit_summaries } }
     {
         let place = hit.hunted as usize;
         let hit_summary = hit_summary_after(self.hit_summaries[place], last);
@@ -179,7 +193,7 @@ fn end_of(refusal: EngineRefusal) -> SeeEnd<OverLimit>
     }
 }
 
-/// Whether an end came in the middle of lines: memory ran out, or a write failed.
+/// Whether an end comes in the middle of lines: out of memory, or a failed write.
 fn has_cut_lines(ended: &Result<(), SeeEnd<OverLimit>>) -> bool
     ensures { IsTrue result ↔ HasCutLines ended.now }
 {

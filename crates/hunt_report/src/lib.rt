@@ -1,15 +1,18 @@
-//! What was seen of the indicators that are hunted, as sightings (STIX 2.1, section 5.2) that break no
-//! rule.
+//! Hunts over a log, and reports the hits: the bindings of the indicators' patterns, each written
+//! as it ends, and sightings at the end (STIX 2.1, section 5.2).
 //!
-//! `sighting` makes one as a value, and `sighting_text` as a text. The texts of many, one after another
-//! with commas between, are the list `objects` of an envelope, so that not all of them stand in memory
-//! at once.
+//! A `Hunter` is a `Watcher` of an input. It writes the line of each hit before more is read, and
+//! counts for each indicator how often it was seen, and when first and last. `write_report` writes
+//! these counts as an envelope of sightings, one at a time, so that they needn't fit in memory
+//! together. `write_skipped` writes the indicators whose patterns don't parse. `sighting` and
+//! `sighting_text` make a single sighting, which breaks no rule of its type.
 //!
-//! The hits of a hunt: the bindings of many indicators over one log, each told as it ends.
-//!
-//! A `Hunter` follows an input for the indicators of a hunt. It writes the line of each hit before more is read, and keeps of each
-//! indicator how often it was seen, and when first and last; `write_report` reports that at the end, as an envelope of sightings
-//! (STIX 2.1, section 5.2). `write_skipped` reports the indicators whose patterns aren't read.
+//! ```text
+//! write_skipped(alloc, &hunt.skipped, &mut output)?;
+//! let mut hunter = Hunter::new(alloc, &hunt.hunted, 100_000)?;
+//! let end = follow(&mut reader, &mut hunter, &mut input, &mut output); // of `match_run`: a WatchEnd
+//! write_report(alloc, &hunter, moment, &mut output)?;
+//! ```
 #![tactic(auto)]
 
 mod fields;

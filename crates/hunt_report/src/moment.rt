@@ -1,3 +1,5 @@
+//! The modification time of a sighting.
+
 ghost use Rattle.hunt_report.specs.Sightings.{IsModifiedAt, IsRoundedDown};
 ghost use Rattle.stix_times.specs.Writing.{IsWhole};
 
@@ -5,8 +7,8 @@ use stix_times::{Instant, from_nanos, nanos};
 
 const NANOS_PER_MILLI: i128 = 1_000_000;
 
-/// When a sighting is modified that is made at a moment: then, rounded down to milliseconds, but not
-/// before it was created.
+/// When a sighting is modified that is made at this moment: then, rounded down to milliseconds, but
+/// not before it was created.
 pub(crate) fn modified_at(created: Instant, moment: Instant) -> Instant
     requires { IsWhole 1000 created }
     ensures modified { IsModifiedAt created moment result }
@@ -20,7 +22,7 @@ pub(crate) fn modified_at(created: Instant, moment: Instant) -> Instant
     }
 }
 
-/// The last whole number of milliseconds that isn't later than an instant, in nanoseconds.
+/// An instant rounded down to milliseconds, in nanoseconds.
 fn rounded_down(instant: Instant) -> i128
     ensures { IsRoundedDown instant result }
 {

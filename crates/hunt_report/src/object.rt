@@ -1,3 +1,5 @@
+//! One sighting.
+
 ghost use Rattle.std.specs.Prelude.{◌≡◌, [], IfOk, min};
 ghost use Rattle.stix_json.specs.DataOf.{data_of};
 ghost use Rattle.stix_json.specs.Ordered.{IsOrdered};
@@ -16,7 +18,7 @@ use stix_json::{Json, write_json};
 use stix_times::Instant;
 use stix_times::laws::{one_instant, written_reads_back};
 
-/// The sighting of what was seen of an indicator, made at a moment. It breaks no rule.
+/// The sighting of an indicator, made at a moment. It breaks no rule of its type.
 pub fn sighting(alloc: Global, moment: Instant, seen: &SightingInput<'_>) -> Result<Json, NoMemory>
     requires { IsSeen seen.now }
     ensures sighting { IfOk result (λ json. IsSightingOf moment seen.now (data_of json)) }
@@ -29,7 +31,7 @@ pub fn sighting(alloc: Global, moment: Instant, seen: &SightingInput<'_>) -> Res
     object_of(alloc, moment, seen)
 }
 
-/// The same, of which no more is said than what it is.
+/// The sighting, with a shorter contract.
 fn object_of(alloc: Global, moment: Instant, seen: &SightingInput<'_>) -> Result<Json, NoMemory>
     requires { IsSeen seen.now }
     ensures { IfOk result (λ json. IsSightingOf moment seen.now (data_of json)) }
@@ -53,14 +55,14 @@ fn object_of(alloc: Global, moment: Instant, seen: &SightingInput<'_>) -> Result
     Ok(fields.into_object())
 }
 
-/// How often an indicator was seen, or the most that a sighting reports.
+/// How often the indicator was seen, at most the greatest count of a sighting.
 fn count_of(seen: &SightingInput<'_>) -> u32
     ensures { result ≡ min seen.now.count most }
 {
     seen.count.min(MAX_COUNT) as u32
 }
 
-/// Its text as compact JSON.
+/// The sighting as compact JSON.
 pub fn sighting_text(
     alloc: Global,
     moment: Instant,

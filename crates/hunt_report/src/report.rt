@@ -1,3 +1,6 @@
+//! The report of a hunt: an envelope with a sighting for each indicator that has hits, written one
+//! by one.
+
 ghost use Rattle.std.specs.Prelude.{◌≡◌, ◌++◌, ◌≤ℤ◌, [], ℕ, List, Option, Err, All, length, IfOk, OnOk, OnErr};
 ghost use Rattle.flow_edges.specs.Faults.{Counted};
 ghost use Rattle.flow_edges.specs.Flow.{written_with, WritesPrefix};
@@ -19,8 +22,8 @@ use match_run::{CutShort, Pending};
 use std::alloc::Global;
 use stix_times::Instant;
 
-/// Writes the line that reports, at a moment, what was seen of the hunted indicators: an envelope of their sightings. Where there is
-/// no hit, nothing is written. After an `Err` a prefix of the line was.
+/// Writes the report, made at a moment, as one line. Without hits nothing is written. After an
+/// `Err` a prefix of the line was written.
 pub fn write_report<O: Sink>(
     alloc: Global,
     hunter: &Hunter<'_>,
@@ -28,11 +31,16 @@ pub fn write_report<O: Sink>(
     output: &mut O,
 ) -> Result<(), CutShort>
     requires { All IsHuntable hunter.now.hunted }
-    ensures ok { (rows : List Row) (hits : List Hit) → HuntsOver hunter.now rows hits → OnOk result ((text : List ℕ)
-        × IsReport moment rows hits hunter.now.hunted text × (O.written output.new ≡ written_with text (O.written output.old))) }
-    ensures err { (rows : List Row) (hits : List Hit) → HuntsOver hunter.now rows hits → OnErr result ((text : List ℕ)
-        × IsReportText moment rows hits hunter.now.hunted text × WritesPrefix text (O.written output.old) (O.written output.new)) }
-    ensures causes { Counted (result ≡ Err CutShort.WriteFault) (O.faults output.old) (O.faults output.new) }
+    ensures ok { (rows : List Row) (hits : List Hit) → HuntsOver hunter.now rows hits
+        → OnOk result ((text : List ℕ)
+        × IsReport moment rows hits hunter.now.hunted text
+        × (O.written output.new ≡ written_with text (O.written output.old))) }
+    ensures err { (rows : List Row) (hits : List Hit) → HuntsOver hunter.now rows hits
+        → OnErr result ((text : List ℕ)
+        × IsReportText moment rows hits hunter.now.hunted text
+        × WritesPrefix text (O.written output.old) (O.written output.new)) }
+    ensures causes { Counted (result ≡ Err CutShort.WriteFault) (O.faults output.old)
+        (O.faults output.new) }
 {
     parts_are_buffered();
     let mut pending = Pending::new(alloc);
@@ -43,7 +51,7 @@ pub fn write_report<O: Sink>(
     Ok(())
 }
 
-/// Adds the sightings of the indicators up to the last of them, and answers whether there is one.
+/// Appends the sightings of the indicators, and answers whether there is one.
 fn add_sightings<O: Sink>(
     alloc: Global,
     hunter: &Hunter<'_>,
@@ -53,10 +61,13 @@ fn add_sightings<O: Sink>(
 ) -> Result<bool, CutShort>
     requires huntable { All IsHuntable hunter.now.hunted }
     ensures ok { (first : Option (List ℕ)) → IsBuffered [] pending.old first (O.written output.old)
-        → IfOk result (λ begun. ReportsSoFar moment hunter.now.hunted hunter.now.hit_summaries begun pending.new first (O.written output.new)) }
+        → IfOk result (λ begun. ReportsSoFar moment hunter.now.hunted hunter.now.hit_summaries
+        begun pending.new first (O.written output.new)) }
     ensures err { (first : Option (List ℕ)) → IsBuffered [] pending.old first (O.written output.old)
-        → OnErr result (ReportsPart moment hunter.now.hunted hunter.now.hit_summaries first (O.written output.new)) }
-    ensures causes { Counted (result ≡ Err CutShort.WriteFault) (O.faults output.old) (O.faults output.new) }
+        → OnErr result (ReportsPart moment hunter.now.hunted hunter.now.hit_summaries first
+        (O.written output.new)) }
+    ensures causes { Counted (result ≡ Err CutShort.WriteFault) (O.faults output.old)
+        (O.faults output.new) }
 {
     let hunted = hunter.hunted;
     let hit_summaries = hunter.hit_summaries.as_slice();
@@ -75,7 +86,7 @@ fn add_sightings<O: Sink>(
     Ok(begun)
 }
 
-/// Adds the sighting of an indicator, where it has one, and answers whether there is one now.
+/// Appends the sighting of one indicator, if it has hits, and answers whether there is one by now.
 fn add_sighting<O: Sink>(
     alloc: Global,
     indicator: &Hunted,
@@ -87,11 +98,16 @@ fn add_sighting<O: Sink>(
 ) -> Result<bool, CutShort>
     requires huntable { IsHuntable indicator.now }
     requires order { IsHitSummaryInOrder hit_summary }
-    ensures ok { (texts : List (List ℕ)) (first : Option (List ℕ)) → begun ≡ is_begun texts → IsBuffered (begun_by texts) pending.old first (O.written output.old)
-        → IfOk result (λ begun. AddsHitSummary moment indicator.now hit_summary texts begun pending.new first (O.written output.new)) }
-    ensures err { (texts : List (List ℕ)) (first : Option (List ℕ)) → begun ≡ is_begun texts → IsBuffered (begun_by texts) pending.old first (O.written output.old)
-        → OnErr result (BreaksAtHitSummary moment indicator.now hit_summary texts first (O.written output.new)) }
-    ensures causes { Counted (result ≡ Err CutShort.WriteFault) (O.faults output.old) (O.faults output.new) }
+    ensures ok { (texts : List (List ℕ)) (first : Option (List ℕ)) → begun ≡ is_begun texts
+        → IsBuffered (begun_by texts) pending.old first (O.written output.old)
+        → IfOk result (λ begun. AddsHitSummary moment indicator.now hit_summary texts begun
+        pending.new first (O.written output.new)) }
+    ensures err { (texts : List (List ℕ)) (first : Option (List ℕ)) → begun ≡ is_begun texts
+        → IsBuffered (begun_by texts) pending.old first (O.written output.old)
+        → OnErr result (BreaksAtHitSummary moment indicator.now hit_summary texts first
+        (O.written output.new)) }
+    ensures causes { Counted (result ≡ Err CutShort.WriteFault) (O.faults output.old)
+        (O.faults output.new) }
 {
     parts_are_buffered();
     one_text_more();
@@ -103,7 +119,7 @@ fn add_sighting<O: Sink>(
     Ok(true)
 }
 
-/// The text of the sighting of an indicator of which this is kept.
+/// The text of the sighting of an indicator with this summary.
 fn text_of(
     alloc: Global,
     indicator: &Hunted,
@@ -124,18 +140,23 @@ fn text_of(
     sighting_text(alloc, moment, &seen)
 }
 
-/// Adds a text to an envelope, of which it is the first where none is begun.
+/// Appends a text to the envelope, the first where `begun` is false.
 fn add_text<O: Sink>(
     text: &str,
     begun: bool,
     pending: &mut Pending,
     output: &mut O,
 ) -> Result<(), CutShort>
-    ensures ok { (before : List ℕ) (first : Option (List ℕ)) → IsBuffered before pending.old first (O.written output.old)
-        → OnOk result (IsBuffered (before ++ (mark_of begun ++ text.now)) pending.new first (O.written output.new)) }
-    ensures err { (before : List ℕ) (first : Option (List ℕ)) → IsBuffered before pending.old first (O.written output.old)
-        → OnErr result (WritesPrefix (before ++ (mark_of begun ++ text.now)) first (O.written output.new)) }
-    ensures causes { Counted (result ≡ Err CutShort.WriteFault) (O.faults output.old) (O.faults output.new) }
+    ensures ok { (before : List ℕ) (first : Option (List ℕ))
+        → IsBuffered before pending.old first (O.written output.old)
+        → OnOk result (IsBuffered (before ++ (mark_of begun ++ text.now)) pending.new first
+        (O.written output.new)) }
+    ensures err { (before : List ℕ) (first : Option (List ℕ))
+        → IsBuffered before pending.old first (O.written output.old)
+        → OnErr result (WritesPrefix (before ++ (mark_of begun ++ text.now)) first
+        (O.written output.new)) }
+    ensures causes { Counted (result ≡ Err CutShort.WriteFault) (O.faults output.old)
+        (O.faults output.new) }
 {
     let mark = mark_of(begun);
     pending.add(mark.as_bytes(), output)?;
@@ -143,14 +164,14 @@ fn add_text<O: Sink>(
     Ok(())
 }
 
-/// What stands ahead of a text in an envelope.
+/// The text before a sighting in the envelope.
 fn mark_of(begun: bool) -> &'static str
     ensures { result.now ≡ mark_of begun }
 {
     if begun { "," } else { "{\"objects\":[" }
 }
 
-/// What stands behind the texts in an envelope, where one is begun.
+/// The text after the sightings, if there are any.
 fn end_of(begun: bool) -> &'static str
     ensures { result.now ≡ end_of begun }
 {

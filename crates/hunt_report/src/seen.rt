@@ -1,10 +1,10 @@
 use stix_ids::Id;
 use stix_times::Instant;
 
-/// The greatest count that a sighting has.
+/// The greatest count of a sighting (STIX 2.1, section 5.2).
 pub const MAX_COUNT: u64 = 999_999_999;
 
-/// What was seen of an indicator.
+/// The data of which a sighting is made.
 #[derive(Clone, Copy)]
 pub struct SightingInput<'i> {
     /// The indicator's identifier.

@@ -1,11 +1,12 @@
-//! What follows from the definitions: the contracts are the laws, and the functions do nothing.
+//! Theorems about the definitions of this crate. The contracts state them; the functions do nothing
+//! at run time.
 
 ghost use Rattle.std.specs.Prelude.{◌≡◌, ℕ, List, [], ◌∷◌, ◌++◌, map, codes};
 ghost use Rattle.serde_json.specs.Data.{Data};
 ghost use Rattle.serde_json.specs.Written.{compact_text};
 ghost use Rattle.hunt_report.specs.Envelope.{opened, envelope_text, envelope_data};
 
-/// An envelope goes on with the first text as it is, and with each other one behind a comma.
+/// One more text in an envelope: the first one as it is, each other one after a comma.
 pub fn one_text_more()
     ensures first { (text : List ℕ) → opened (text ∷ []) ≡ opened [] ++ text }
     ensures other { (before text : List ℕ) (texts : List (List ℕ))
@@ -14,5 +15,6 @@ pub fn one_text_more()
 
 /// The envelope of the texts of some objects is the text of the object whose `objects` they are.
 pub fn envelope_is_an_object()
-    ensures { (objects : List Data) → envelope_text (map compact_text objects) ≡ compact_text (envelope_data objects) }
+    ensures { (objects : List Data)
+        → envelope_text (map compact_text objects) ≡ compact_text (envelope_data objects) }
 {}

@@ -1,3 +1,5 @@
+//! The lines of skipped indicators.
+
 ghost use Rattle.std.specs.Prelude.{◌≡◌, ◌++◌, ℕ, List, Option, Err, All, IfOk, OnOk, OnErr, string_bytes};
 ghost use Rattle.flow_edges.specs.Faults.{Counted};
 ghost use Rattle.flow_edges.specs.Flow.{written_with, WritesPrefix};
@@ -14,17 +16,20 @@ use match_run::{CutShort, Pending};
 use std::alloc::Global;
 use stix_ids::write_id;
 
-/// Writes a line for each indicator that is skipped: its identifier, and why its pattern isn't read. After an `Err` a prefix of
-/// the lines was written.
+/// Writes a line for each skipped indicator: its identifier, and why its pattern doesn't parse.
+/// After an `Err` a prefix of the lines was written.
 pub fn write_skipped<O: Sink>(
     alloc: Global,
     skipped: &[Skipped],
     output: &mut O,
 ) -> Result<(), CutShort>
     requires { All (λ s. IsKind s.id.kind) skipped.now }
-    ensures ok { OnOk result (O.written output.new ≡ written_with (skipped_text skipped.now) (O.written output.old)) }
-    ensures err { OnErr result (WritesPrefix (skipped_text skipped.now) (O.written output.old) (O.written output.new)) }
-    ensures causes { Counted (result ≡ Err CutShort.WriteFault) (O.faults output.old) (O.faults output.new) }
+    ensures ok { OnOk result (O.written output.new
+        ≡ written_with (skipped_text skipped.now) (O.written output.old)) }
+    ensures err { OnErr result (WritesPrefix (skipped_text skipped.now) (O.written output.old)
+        (O.written output.new)) }
+    ensures causes { Counted (result ≡ Err CutShort.WriteFault) (O.faults output.old)
+        (O.faults output.new) }
 {
     parts_are_buffered();
     let mut pending = Pending::new(alloc);
@@ -35,7 +40,7 @@ pub fn write_skipped<O: Sink>(
     Ok(())
 }
 
-/// Adds the line of an indicator that is skipped.
+/// Appends the line of one skipped indicator.
 fn add_skipped<O: Sink>(
     alloc: Global,
     skipped: &Skipped,
@@ -43,11 +48,16 @@ fn add_skipped<O: Sink>(
     output: &mut O,
 ) -> Result<(), CutShort>
     requires { IsKind skipped.now.id.kind }
-    ensures ok { (before : List ℕ) (first : Option (List ℕ)) → IsBuffered before pending.old first (O.written output.old)
-        → OnOk result (IsBuffered (before ++ skipped_line skipped.now) pending.new first (O.written output.new)) }
-    ensures err { (before : List ℕ) (first : Option (List ℕ)) → IsBuffered before pending.old first (O.written output.old)
-        → OnErr result (WritesPrefix (before ++ skipped_line skipped.now) first (O.written output.new)) }
-    ensures causes { Counted (result ≡ Err CutShort.WriteFault) (O.faults output.old) (O.faults output.new) }
+    ensures ok { (before : List ℕ) (first : Option (List ℕ))
+        → IsBuffered before pending.old first (O.written output.old)
+        → OnOk result (IsBuffered (before ++ skipped_line skipped.now) pending.new first
+        (O.written output.new)) }
+    ensures err { (before : List ℕ) (first : Option (List ℕ))
+        → IsBuffered before pending.old first (O.written output.old)
+        → OnErr result (WritesPrefix (before ++ skipped_line skipped.now) first
+        (O.written output.new)) }
+    ensures causes { Counted (result ≡ Err CutShort.WriteFault) (O.faults output.old)
+        (O.faults output.new) }
 {
     parts_are_buffered();
     let line = skipped_line(alloc, skipped)?;
@@ -55,7 +65,7 @@ fn add_skipped<O: Sink>(
     Ok(())
 }
 
-/// The line of an indicator that is skipped.
+/// The line of a skipped indicator.
 fn skipped_line(alloc: Global, skipped: &Skipped) -> Result<String, NoMemory>
     requires { IsKind skipped.now.id.kind }
     ensures { IfOk result (λ line. string_bytes line ≡ skipped_line skipped.now) }

@@ -1,3 +1,5 @@
+//! The texts of times in a sighting.
+
 ghost use Rattle.std.specs.Prelude.{◌≡◌, IfOk};
 ghost use Rattle.stix_times.specs.Writing.{IsCanonicalTextOf, IsTextOfDigits, IsWhole};
 ghost use Rattle.hunt_report.specs.Sightings.{IsVersionText};
@@ -17,7 +19,8 @@ pub(crate) fn time_text(alloc: Global, instant: Instant) -> Result<Text, NoMemor
     text_in(alloc, &buffer[..length])
 }
 
-/// The text of a version's instant, with three digits of a second where nothing is lost, else six.
+/// The text of a version's instant: three digits of a second where that loses nothing, otherwise
+/// six.
 pub(crate) fn version_text(alloc: Global, instant: Instant) -> Result<Text, NoMemory>
     requires { IsWhole 1000 instant }
     ensures { IfOk result (IsVersionText instant) }
@@ -29,7 +32,7 @@ pub(crate) fn version_text(alloc: Global, instant: Instant) -> Result<Text, NoMe
     }
 }
 
-/// Its text with three digits of a second.
+/// The text with three digits of a second.
 fn millis_text(alloc: Global, instant: Instant) -> Result<Text, NoMemory>
     requires { IsWhole 1_000_000 instant }
     ensures { IfOk result (λ text. IsTextOfDigits 3 text instant) }
@@ -39,7 +42,7 @@ fn millis_text(alloc: Global, instant: Instant) -> Result<Text, NoMemory>
     text_in(alloc, &buffer[..length])
 }
 
-/// Its text with six digits of a second.
+/// The text with six digits of a second.
 fn micros_text(alloc: Global, instant: Instant) -> Result<Text, NoMemory>
     requires { IsWhole 1000 instant }
     ensures { IfOk result (λ text. IsTextOfDigits 6 text instant) }
@@ -49,7 +52,7 @@ fn micros_text(alloc: Global, instant: Instant) -> Result<Text, NoMemory>
     text_in(alloc, &buffer[..length])
 }
 
-/// The text that bytes are, which are those of a time.
+/// The bytes of a time as a text.
 fn text_in(alloc: Global, bytes: &[u8]) -> Result<Text, NoMemory>
     ensures { IfOk result (λ text. text ≡ bytes.now) }
 {

@@ -1,4 +1,4 @@
--- For private clauses: what is true of each engine.
+-- For private clauses: the invariant of an engine.
 use Rattle.std.specs.Prelude.{◌≡◌, false, All, map, length}
 use Rattle.pattern_types.specs.PlainLeaf.{plain_leaf}
 use Rattle.pattern_types.specs.PlainPattern.{plain_pattern}
@@ -8,7 +8,7 @@ use Rattle.hunt_engine.specs.Memo.{brackets_of}
 use Rattle.hunt_engine.specs.inner.Table.{IsTable}
 use Rattle.hunt_engine.specs.inner.Evaluation.{AreClear}
 
--- its tables are those of its patterns, and no bracket is marked between two rows
+-- its tables belong to its patterns, and no bracket is marked between two rows
 pub record IsBuilt (engine : Inside) : Type 0 where
   pub table : IsTable (map plain_pattern (map (λ h. h.pattern) engine.hunted.now)) (map plain_leaf (map (λ leaf. leaf.now) engine.brackets.leaves.items))
       engine.brackets.owners.items engine.brackets.bracket_ranges.items

@@ -1,4 +1,4 @@
--- For private clauses: what a lazy matcher does with the next row of its log.
+-- For private clauses: one pattern at the next row of its log.
 use Rattle.std.specs.Prelude.{◌≡◌, ◌≤ℤ◌, ◌≤◌, ℕ, ⊤, ℤ, Bool, true, Option, Some, None, List, [], ◌∷◌, length}
 use Rattle.pattern_types.specs.declared.pattern.Pattern.{Pattern}
 use Rattle.match_bindings.specs.declared.log_entry.LogEntry.{LogEntry}
@@ -9,16 +9,16 @@ use Rattle.match_stream.specs.Answer.{IsAnswer}
 use Rattle.hunt_engine.specs.declared.next_row.NextRow.{NextRow}
 use Rattle.hunt_engine.specs.LazyMatcherState.{LazyMatcherState, Follows}
 
--- a log has so many rows, and its last row this last time
+-- a log has this many rows, and its last row this end
 pub record EndsAt (log : List LogEntry) (rows : ℕ) (last : Option ℤ) : Type 0 where
   pub rows_are : length log ≡ rows
   pub last_is : last_of log ≡ last
 
--- a lazy matcher of some log of so many rows under a retained limit
+-- it follows some log of this many rows under the limit
 abbrev pub FollowsSome : ℕ → ℕ → Option ℤ → LazyMatcherState → Type 0
 FollowsSome retained_limit rows last lazy_matcher = (p : Pattern) × (log : List LogEntry) × Follows p retained_limit log lazy_matcher × EndsAt log rows last
 
--- its matcher, where there is one, stands for the whole log
+-- its matcher, if it has one, represents the whole log
 abbrev pub IsCaughtUp : List LogEntry → LazyMatcherState → Option MatcherState → Type 0
 IsCaughtUp log lazy_matcher None = ⊤
 IsCaughtUp log lazy_matcher (Some matcher) = Represents matcher log × (lazy_matcher.seen ≡ length log)
@@ -36,17 +36,17 @@ pub record TakesRow (p : Pattern) (retained_limit : ℕ) (log : List LogEntry) (
 abbrev pub log_with : NextRow → List Bool → List LogEntry → List LogEntry
 log_with row truths log = with_row log row.first row.last truths
 
--- the row goes on behind the rows before it
+-- the row continues the rows before it in order
 pub record Continues (row : NextRow) : Type 0 where
   pub span : row.first ≤ℤ row.last
   pub order : ¬ (Falls row.before row.last)
 
--- what ends at the row of a number for a pattern of one bracket
+-- the bindings of a pattern of one bracket that end at a row
 abbrev pub single_bracket_at : ℕ → List Bool → List BindTree
 single_bracket_at number (true ∷ truths) = One number ∷ []
 single_bracket_at number _ = []
 
--- these end there, and no more than the retained limit allows
+-- these end there, and no more than the limit
 pub record IsSingleBracket (retained_limit number : ℕ) (truths : List Bool) (binds : List BindTree) : Type 0 where
   pub told : binds ≡ single_bracket_at number truths
   pub room : length binds ≤ retained_limit

@@ -1,4 +1,4 @@
--- For private clauses: what all lazy matchers do at one row.
+-- For private clauses: all patterns at one row.
 use Rattle.std.specs.Prelude.{◌≡◌, ℕ, ℤ, Option, ◌+◌, ◌<◌, Bool, List, [], Some, map, length, slice_get}
 use Rattle.pattern_types.specs.declared.pattern.Pattern.{Pattern}
 use Rattle.match_bindings.specs.declared.log_entry.LogEntry.{LogEntry}
@@ -14,21 +14,22 @@ use Rattle.hunt_engine.specs.EngineAnswer.{binds_at, NeverFalls}
 use Rattle.hunt_engine.specs.inner.Following.{EndsAt, TakesRow, FollowsSome, log_with}
 use Rattle.hunt_engine.specs.inner.Table.{part_of}
 
--- whatever log a lazy matcher followed to the row before, it follows with the row, and these binds end there
+-- for each log followed up to the row before: the new state follows it with the row, and these
+-- bindings end there
 abbrev pub Takes : NextRow → ℕ → List Bool → LazyMatcherState → LazyMatcherState → List BindTree → Type 0
 Takes row retained_limit truths old new binds = (p : Pattern) (log : List LogEntry) → Follows p retained_limit log old → EndsAt log row.rows row.before
     → TakesRow p retained_limit (log_with row truths log) new binds
 
--- whatever log it followed is over limit with the row
+-- each such log exceeds the limit with the row
 abbrev pub Crowds : NextRow → ℕ → List Bool → LazyMatcherState → Type 0
 Crowds row retained_limit truths old = (p : Pattern) (log : List LogEntry) → Follows p retained_limit log old → EndsAt log row.rows row.before
     → IsOverLimit (numbered_pattern p) (log_with row truths log) retained_limit
 
--- all lazy matchers, each of some log
+-- all states follow some log
 abbrev pub AllFollow : ℕ → NextRow → List LazyMatcherState → Type 0
 AllFollow retained_limit row lazy_matchers = (position : ℕ) (lazy_matcher : LazyMatcherState) → slice_get lazy_matchers position ≡ Some lazy_matcher → FollowsSome retained_limit row.rows row.before lazy_matcher
 
--- the lazy matchers at the first so many of these positions took the row, and the others are what they were
+-- the patterns at the first i of these indices took the row; the others are unchanged
 pub record TookSome (row : NextRow) (retained_limit : ℕ) (bracket_ranges : List BracketRange) (marks : List Bool) (affected : List ℕ) (i : ℕ) (old new : List LazyMatcherState) (found : List Hit) : Type 0 where
   pub count : length new ≡ length old
   pub took : (k position : ℕ) (bracket_range : BracketRange) (before after : LazyMatcherState) → k < i → slice_get affected k ≡ Some position → slice_get bracket_ranges position ≡ Some bracket_range
@@ -38,7 +39,7 @@ pub record TookSome (row : NextRow) (retained_limit : ℕ) (bracket_ranges : Lis
   pub ascend : NeverFalls (map (λ f. f.hunted) found)
   pub early : (k position : ℕ) → slice_get (map (λ f. f.hunted) found) k ≡ Some position → (j : ℕ) × (j < i) × (slice_get affected j ≡ Some position)
 
--- the lazy matcher at one of these positions is over limit, and those at the positions before it aren't
+-- the pattern at one of these indices exceeds the limit, and those before it don't
 pub record CrowdsAt (row : NextRow) (retained_limit : ℕ) (bracket_ranges : List BracketRange) (marks : List Bool) (affected : List ℕ) (old : List LazyMatcherState) (position number named : ℕ) : Type 0 where
   pub at : ℕ
   pub at_is : slice_get affected at ≡ Some position
@@ -50,12 +51,12 @@ pub record CrowdsAt (row : NextRow) (retained_limit : ℕ) (bracket_ranges : Lis
   pub found : List Hit
   pub took : TookSome row retained_limit bracket_ranges marks affected at old now found
 
--- each lazy matcher follows what it followed, its matcher standing for more of it or not
+-- each state still follows its log; its matcher may have caught up
 pub record StillFollow (retained_limit rows : ℕ) (last : Option ℤ) (old new : List LazyMatcherState) : Type 0 where
   pub count : length new ≡ length old
   pub follow : (position : ℕ) (before after : LazyMatcherState) (p : Pattern) (log : List LogEntry) → slice_get old position ≡ Some before → slice_get new position ≡ Some after
       → Follows p retained_limit log before → EndsAt log rows last → Follows p retained_limit log after
 
--- a binding of the pattern at a position
+-- a hit of the pattern at an index
 abbrev pub found_of : ℕ → Bind → Hit
 found_of position bind = record { hunted = position; bind = bind }

@@ -1,4 +1,4 @@
--- For private clauses: where the brackets of each pattern stand among those of all.
+-- For private clauses: the range of each pattern's brackets in the list of all.
 use Rattle.std.specs.Prelude.{◌≡◌, ℕ, zero, suc, ◌+◌, ◌≤◌, ◌<◌, List, [], ◌∷◌, Some, length, take, drop, slice_get}
 use Rattle.pattern_types.specs.PlainLeaf.{PlainLeaf}
 use Rattle.pattern_types.specs.PlainPattern.{PlainPattern}
@@ -6,16 +6,16 @@ use Rattle.hunt_engine.specs.declared.brackets.BracketRange.{BracketRange}
 use Rattle.hunt_engine.specs.EngineAnswer.{NeverFalls}
 use Rattle.hunt_engine.specs.Memo.{leaf_list}
 
--- part of a list
+-- a range of a list
 abbrev pub part_of : {A : Type 0} → BracketRange → List A → List A
 part_of bracket_range xs = take bracket_range.count (drop bracket_range.first xs)
 
--- so many of one number
+-- k times the same number
 abbrev pub repeated : ℕ → ℕ → List ℕ
 repeated n zero = []
 repeated n (suc k) = n ∷ repeated n k
 
--- all brackets, pattern after pattern, and for each the position of its pattern
+-- all brackets, pattern after pattern, and for each the index of its pattern
 pub record IsTable (patterns : List PlainPattern) (leaves : List PlainLeaf) (owners : List ℕ) (bracket_ranges : List BracketRange) : Type 0 where
   pub owned : length owners ≡ length leaves
   pub told : length bracket_ranges ≡ length patterns

@@ -1,4 +1,4 @@
--- For private clauses: what is known once one more object came.
+-- For private clauses: adding one more object.
 use Rattle.std.specs.Prelude.{◌≡◌, ◌⊎◌, ◌↔◌, ℕ, ℤ, ◌<ℤ◌, List, ◌++◌, ◌==◌, ◌||◌, IsTrue, Option, Some, None, option_to_list, if◌then◌else◌, codes}
 use Rattle.serde_json.specs.Data.{Data}
 use Rattle.stix_json.specs.Properties.{text_at}
@@ -13,7 +13,7 @@ use Rattle.hunt_feed.specs.Gathering.{Gathered, IsKeptAs, indicator_id, known_in
 abbrev pub IsIndicator : Data → Type 0
 IsIndicator d = text_at (codes "type") d ≡ Some (codes "indicator")
 
--- what an indicator that breaks no rule tells
+-- the properties of an indicator that breaks no rule
 pub record HasFields (d : Data) : Type 0 where
   pub number : ℕ
   pub has : HasId d (indicator_id number)
@@ -26,24 +26,25 @@ pub record HasFields (d : Data) : Type 0 where
   pub pattern : List ℕ
   pub pattern_is : text_at (codes "pattern") d ≡ Some pattern
 
--- what an indicator tells of itself as a version
+-- the version information of an indicator
 pub record IsVersionOf (d : Data) (version : Version) : Type 0 where
   pub modified : IsTimestampAt Millis (codes "modified") d version.modified
   pub revoked : IsTrue version.revoked ↔ Revokes d
 
--- what is known of the versions, with one more: the later one, and of equally late ones the new one, is the latest
+-- the versions with one more: the later one is the latest, and of equally late ones the new one
 abbrev pub IsNextVersion : Option Version → Version → Version → Type 0
 IsNextVersion None new next = next ≡ new
 IsNextVersion (Some known) new next = (next.revoked ≡ (known.revoked || new.revoked))
     × (((new.modified <ℤ known.modified) × (next.at ≡ known.at) × (next.modified ≡ known.modified))
     ⊎ ((¬ (new.modified <ℤ known.modified)) × (next.at ≡ new.at) × (next.modified ≡ new.modified)))
 
--- one is kept where the new version is the latest, none is revoked, and its pattern is one of STIX
+-- it is kept where the new version is the latest, none is revoked, and its pattern is a STIX
+-- pattern
 abbrev pub IsToKeep : Data → ℕ → ℕ → Version → Option Kept → Type 0
 IsToKeep d at number next None = ¬ ((next.at ≡ at) × (¬ IsTrue next.revoked) × IsStixIndicator d)
 IsToKeep d at number next (Some kept) = IsKeptAs d kept × (kept.at ≡ at)
 
--- these are now the versions of the indicator with that number, and perhaps one more is kept
+-- these are now the versions of the indicator with this UUID, and perhaps one more is kept
 pub record Puts (before after : Gathered) (number : ℕ) (next : Version) (kept : Option Kept) : Type 0 where
   pub count : after.count ≡ before.count
   pub kept_are : after.kept ≡ before.kept ++ option_to_list kept

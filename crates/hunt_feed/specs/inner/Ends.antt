@@ -1,4 +1,4 @@
--- For private clauses: the end for a refusal of the lines, and what the next object says of the lines that come yet.
+-- For private clauses: the ends of a feed, and the remaining lines.
 use Rattle.std.specs.Prelude.{◌≡◌, ⊤, ℕ, ◌<◌, ◌≤◌, List, ◌++◌, Result, Ok, Err, Option, Some, None, option_map, IfSome}
 use Rattle.serde_json.specs.Data.{Data}
 use Rattle.flow_lines.specs.Lines.{LineStream, ended, line_then, LinesState}
@@ -14,21 +14,21 @@ use Rattle.hunt_feed.specs.Line.{IsObjectOf}
 use Rattle.hunt_feed.specs.Feeds.{IsRefusedAt, FeedClose, Reads, AreUnbroken}
 use Rattle.hunt_feed.specs.Gathering.{Gathered, GathersFor}
 
--- the end for a refusal of the lines
+-- the end for a refused line
 abbrev pub end_of_line : LineRefusal → FeedEnd
 end_of_line refusal.Fault = Fault
 end_of_line (refusal.LineTooLong number) = Refused number rule.LineTooLong
 end_of_line (refusal.InputTooLong number) = Refused number rule.InputTooLong
 end_of_line refusal.NoMemory = NoMemory
 
--- the first of the lines that came yet is the object, and the others come yet
+-- the first of the remaining lines is the object, and the others remain
 pub record GivesObject (before after : Option LineStream) (object : Data) : Type 0 where
   pub number : ℕ
   pub bytes : List ℕ
   pub line : before ≡ option_map (λ later. line_then number bytes later) after
   pub is : IsObjectOf bytes object
 
--- what an answer says of the lines that came yet
+-- what an answer says about the remaining lines
 abbrev pub AnswersObject : Option LineStream → Option LineStream → Result (Option Json) FeedEnd → Type 0
 AnswersObject before after (Ok (Some object)) = GivesObject before after (data_of object)
 AnswersObject before after (Ok None) = IfSome before (λ lines. lines ≡ ended)
@@ -36,18 +36,18 @@ AnswersObject before after (Err (Refused line why)) = IfSome before (λ lines. I
 AnswersObject before after (Err Fault) = ⊤
 AnswersObject before after (Err NoMemory) = ⊤
 
--- a line went by, and none was refused
+-- a line was consumed, and none was refused
 pub record MovesOn (before after : LinesState) : Type 0 where
   pub unrefused : after.refusal ≡ None
   pub moved : before.given < after.given
   pub within : after.given ≤ MAX_INPUT
 
--- whatever the lines that come yet are read as, these objects stand before it in what all lines are read as
+-- these objects, followed by the reading of the remaining lines, are the reading of all lines
 abbrev pub ReadsRemaining : Option LineStream → Option LineStream → List Data → Type 0
 ReadsRemaining all ahead objects = (more : List Data) (close : FeedClose) → IfSome ahead (λ lines. Reads lines more close)
     → IfSome all (λ lines. Reads lines (objects ++ more) close)
 
--- these objects were read of all lines, and this is kept of them
+-- these objects were read from the lines, and this was gathered from them
 pub record GathersSoFar (all ahead : Option LineStream) (gathered : Gathered) : Type 0 where
   pub objects : List Data
   pub unbroken : AreUnbroken objects

@@ -1,4 +1,4 @@
--- For private clauses: the hunt among the kept indicators that were looked at.
+-- For private clauses: the hunt among the kept indicators seen so far.
 use Rattle.std.specs.Prelude.{◌≡◌, ◌⊎◌, ℕ, ℤ, ◌<ℤ◌, ◌≤ℤ◌, List, [], ◌∷◌, ◌++◌, All, Contains, IsTrue, Some, IfSome}
 use Rattle.serde_json.specs.Data.{Data}
 use Rattle.stix_ids.specs.declared.id.Id.{Id}
@@ -20,7 +20,7 @@ IsLast versions kept =
 abbrev pub IsValid : ℤ → Kept → Type 0
 IsValid moment kept = (kept.from ≤ℤ moment) × IfSome kept.until (λ until. moment <ℤ until)
 
--- what a kept indicator is hunted as, and how it is skipped
+-- a kept indicator as a hunted one, and as a skipped one
 pub record IsReadOf (kept : Kept) (hunted : Hunted) : Type 0 where
   pub at : hunted.at ≡ kept.at
   pub id : hunted.id ≡ indicator_id kept.number
@@ -32,13 +32,13 @@ pub record IsRefusedOf (kept : Kept) (skipped : Skipped) : Type 0 where
   pub id : skipped.id ≡ indicator_id kept.number
   pub refused : IsRefusedAs kept.pattern skipped.refusal
 
--- it is hunted or skipped now, besides those before
+-- it is added to the hunted or the skipped ones
 abbrev pub IsClassified : Kept → Hunt → Hunt → Type 0
 IsClassified kept before after =
     ((hunted : Hunted) × IsReadOf kept hunted × (after.hunted ≡ before.hunted ++ hunted ∷ []) × (after.skipped ≡ before.skipped))
     ⊎ ((skipped : Skipped) × IsRefusedOf kept skipped × (after.hunted ≡ before.hunted) × (after.skipped ≡ before.skipped ++ skipped ∷ []))
 
--- the hunt of the candidates among the indicators that were seen
+-- the hunt of the candidates among the indicators seen so far
 pub record IsHuntAmong (objects : List Data) (moment : ℤ) (seen : List Kept) (hunt : Hunt) : Type 0 where
   pub hunted : All (IsHunted objects moment) hunt.hunted
   pub skipped : All (IsSkipped objects moment) hunt.skipped

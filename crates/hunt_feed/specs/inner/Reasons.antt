@@ -1,4 +1,4 @@
--- For private clauses: a refusal in its parts, which are lent.
+-- For private clauses: a refusal in parts, borrowed.
 use Rattle.std.specs.Prelude.{ℕ, List, [], ◌∷◌, ◌++◌, codes}
 use Rattle.match_input.specs.Texts.{at_path}
 use Rattle.hunt_feed.specs.declared.refusal_text.Reason.{Reason}

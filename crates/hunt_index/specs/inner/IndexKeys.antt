@@ -1,4 +1,4 @@
--- For private clauses: the index keys of a bracket, one of which is met where it holds.
+-- For private clauses: the index keys of a bracket, one of which is met wherever it holds.
 use Rattle.std.specs.Prelude.{◌≡◌, ⊤, ℕ, List, Contains, Option, MatchOption, None}
 use Rattle.std.specs.declared.cmp.Ordering.TheVariants.{Equal}
 use Rattle.serde_json.specs.Data.{Data}
@@ -11,7 +11,7 @@ use Rattle.hunt_index.specs.declared.index_key.IndexKey.{IndexKey}
 use Rattle.hunt_index.specs.Definite.{ArePlain, IsDefiniteConstant}
 use Rattle.hunt_index.specs.inner.Keys.{Fits}
 
--- the root has the type, and the steps lead to a value that the key stands for
+-- the root has the type, and the steps lead to a value that the key matches
 pub record IsMet (objects : List Data) (root : ℕ) (index_key : IndexKey) : Type 0 where
   pub plain : ArePlain index_key.steps.now
   pub object : Data
@@ -24,7 +24,7 @@ pub record IsMet (objects : List Data) (root : ℕ) (index_key : IndexKey) : Typ
 abbrev pub SomeMet : List Data → ℕ → List IndexKey → Type 0
 SomeMet objects root index_keys = (index_key : IndexKey) × Contains index_keys index_key × IsMet objects root index_key
 
--- where the fact holds of a root, one of the index keys is met
+-- necessary: where the fact holds of a root, one of the index keys is met
 abbrev pub AreIndexKeys : (List Data → ℕ → Type 0) → List IndexKey → Type 0
 AreIndexKeys Fact index_keys = (objects : List Data) (root : ℕ) → Fact objects root → SomeMet objects root index_keys
 
@@ -32,7 +32,7 @@ AreIndexKeys Fact index_keys = (objects : List Data) (root : ℕ) → Fact objec
 abbrev pub IndexKeys : (List Data → ℕ → Type 0) → Option (List IndexKey) → Type 0
 IndexKeys Fact found = MatchOption found ⊤ (AreIndexKeys Fact)
 
--- the same, whether or not one of the steps is `[*]`
+-- as IsMet, but the steps may have a `[*]`
 pub record IsShown (objects : List Data) (root : ℕ) (index_key : IndexKey) : Type 0 where
   pub object : Data
   pub is_root : IsRoot objects root index_key.kind.now object
@@ -40,11 +40,11 @@ pub record IsShown (objects : List Data) (root : ℕ) (index_key : IndexKey) : T
   pub reached : Reaches objects None index_key.steps.now object value
   pub fits : Fits index_key.key value
 
--- the fact holds of each root that shows the index key
+-- sufficient: the fact holds of each root that shows the index key
 abbrev pub IsSufficient : (List Data → ℕ → Type 0) → IndexKey → Type 0
 IsSufficient Fact index_key = (objects : List Data) (root : ℕ) → IsShown objects root index_key → Fact objects root
 
--- and so of each of the index keys
+-- the same for each of the index keys
 abbrev pub AreSufficient : (List Data → ℕ → Type 0) → List IndexKey → Type 0
 AreSufficient Fact index_keys = (index_key : IndexKey) → Contains index_keys index_key → IsSufficient Fact index_key
 
@@ -52,7 +52,7 @@ AreSufficient Fact index_keys = (index_key : IndexKey) → Contains index_keys i
 abbrev pub Sufficient : (List Data → ℕ → Type 0) → Option (List IndexKey) → Type 0
 Sufficient Fact found = MatchOption found ⊥ (AreSufficient Fact)
 
--- one of the index keys has that path, and a key of which the fact holds
+-- one of the index keys has this path, and a key for which Fact holds
 pub record HasIndexKey (kind : List ℕ) (steps : List Step) (Fact : Key → Type 0) (index_keys : List IndexKey) : Type 0 where
   pub index_key : IndexKey
   pub among : Contains index_keys index_key
@@ -60,19 +60,19 @@ pub record HasIndexKey (kind : List ℕ) (steps : List Step) (Fact : Key → Typ
   pub steps_are : index_key.steps.now ≡ steps
   pub key : Fact index_key.key
 
--- the key stands for each value that equals the constant
+-- the key matches each value that equals the constant
 abbrev pub Represents : Constant → Key → Type 0
 Represents constant key = (last : Option (List ℕ)) (value : Data) → Compares last value constant Equal → Fits key value
 
--- where the constant is definite, each value that the key stands for equals it
+-- where the constant is definite, each value that the key matches equals it
 abbrev pub Answers : Constant → Key → Type 0
 Answers constant key = IsDefiniteConstant constant → (last : Option (List ℕ)) (value : Data) → Fits key value → Compares last value constant Equal
 
--- and so of one of some constants
+-- the same for one of some constants
 abbrev pub AnswersSome : List Constant → Key → Type 0
 AnswersSome constants key = (constant : Constant) × Contains constants constant × Answers constant key
 
--- each of the index keys has that path, and a key of which the fact holds
+-- each of the index keys has this path, and a key for which Fact holds
 pub record IsBy (kind : List ℕ) (steps : List Step) (Fact : Key → Type 0) (index_key : IndexKey) : Type 0 where
   pub kind_is : index_key.kind.now ≡ kind
   pub steps_are : index_key.steps.now ≡ steps

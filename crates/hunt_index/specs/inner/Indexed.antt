@@ -1,4 +1,4 @@
--- For private clauses and the invariant of an index: that it finds each bracket that holds.
+-- For private clauses and the invariant of an index: it finds each bracket that holds.
 use Rattle.std.specs.Prelude.{◌≡◌, ◌⊎◌, ℕ, ◌<◌, List, length, All, Contains, Some, None, slice_get}
 use Rattle.std.specs.Borrow.{Bor}
 use Rattle.serde_json.specs.Data.{Data}
@@ -12,7 +12,7 @@ use Rattle.hunt_index.specs.declared.finder.Finder.{Finder}
 use Rattle.hunt_index.specs.inner.Keys.{Fits}
 use Rattle.hunt_index.specs.Definite.{ArePlain, IsDefinite}
 
--- the path of a look-up leads from the object to a value that its key stands for
+-- the path of the look-up leads from the object to a value that its key matches
 pub record IsReachedFrom (paths : List IndexKey) (objects : List Data) (object : Data) (lookup : Lookup) : Type 0 where
   pub path : IndexKey
   pub there : slice_get paths lookup.path ≡ Some path
@@ -28,18 +28,18 @@ pub record Leads (finder : Finder) (objects : List Data) (root : ℕ) (lookup : 
   pub is_root : IsRoot objects root reached.path.kind.now object
   pub kinded : Contains finder.kinds.entries.items (reached.path.kind, lookup.path)
 
--- a look-up that the root leads to gives the place
+-- a look-up that the root leads to has the bracket in its posting list
 pub record IsLedTo (finder : Finder) (bracket : ℕ) (objects : List Data) (root : ℕ) : Type 0 where
   pub lookup : Lookup
   pub leads : Leads finder objects root lookup
   pub entered : Contains finder.brackets_found.entries.items (lookup, bracket)
 
--- a bracket is unindexed looked at, or is led to from each root at which it holds
+-- the bracket is always a candidate, or is found from each root at which it holds
 abbrev pub IsFound : Finder → Leaf → ℕ → Type 0
 IsFound finder leaf bracket = Contains finder.unindexed.items bracket
     ⊎ ((objects : List Data) (root : ℕ) → HoldsAt objects root (plain_leaf leaf) → IsLedTo finder bracket objects root)
 
--- the path of a look-up leads from the object to a value that its key stands for, whether or not it has a `[*]`
+-- as IsReachedFrom, but the path may have a `[*]`
 pub record IsSeenFrom (paths : List IndexKey) (objects : List Data) (object : Data) (lookup : Lookup) : Type 0 where
   pub path : IndexKey
   pub there : slice_get paths lookup.path ≡ Some path
@@ -53,25 +53,25 @@ pub record IsSeen (paths : List IndexKey) (objects : List Data) (root : ℕ) (lo
   pub seen : IsSeenFrom paths objects object lookup
   pub is_root : IsRoot objects root seen.path.kind.now object
 
--- where the bracket is definite, it holds at each root from which the look-up is seen
+-- where the bracket is definite, it holds at each root from which the look-up matches
 abbrev pub IsDefiniteFor : List IndexKey → Leaf → Lookup → Type 0
 IsDefiniteFor paths leaf lookup = IsDefinite (plain_leaf leaf) → (objects : List Data) (root : ℕ) → IsSeen paths objects root lookup → HoldsAt objects root (plain_leaf leaf)
 
--- the entry is that of a bracket, which it tells
+-- the entry belongs to a bracket, and implies it where that is definite
 pub record IsEntryOf (brackets : List Leaf) (paths : List IndexKey) (entry : Lookup × ℕ) : Type 0 where
   pub below : entry.1 < length brackets
   pub implies : (leaf : Leaf) → slice_get brackets entry.1 ≡ Some leaf → IsDefiniteFor paths leaf entry.0
 
--- the place is that of a bracket, which isn't definite
+-- the index of a bracket that isn't definite
 pub record IsOpenOf (brackets : List Leaf) (bracket : ℕ) : Type 0 where
   pub below : bracket < length brackets
   pub indefinite : (leaf : Leaf) → slice_get brackets bracket ≡ Some leaf → ¬ IsDefinite (plain_leaf leaf)
 
--- the number is that of a path for roots of the type
+-- the number of a path for roots of this type
 abbrev pub IsOfKind : List IndexKey → Bor (List ℕ) × ℕ → Type 0
 IsOfKind paths entry = (path : IndexKey) → slice_get paths entry.1 ≡ Some path → path.kind.now ≡ entry.0.now
 
--- the finder finds these brackets, and nothing else
+-- the tables find these brackets, and nothing else
 pub record IsFinderOf (brackets : List Leaf) (finder : Finder) : Type 0 where
   pub found : (bracket : ℕ) (leaf : Leaf) → slice_get brackets bracket ≡ Some leaf → IsFound finder leaf bracket
   pub brackets_found : All (IsEntryOf brackets finder.paths.items) finder.brackets_found.entries.items

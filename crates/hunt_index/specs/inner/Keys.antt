@@ -1,24 +1,24 @@
--- For private clauses: the values that a key stands for, and the keys that find one another.
+-- For private clauses: the values that a key matches, and equal keys.
 use Rattle.std.specs.Prelude.{◌≡◌, ⊤, Option, Some, None}
 use Rattle.serde_json.specs.Data.{Data, number}
 use Rattle.serde_json.specs.Find.{as_str, of_integer}
 use Rattle.hunt_index.specs.declared.key.Key.{Key}
 use Rattle.hunt_index.specs.declared.key.Key.TheVariants.{Any, Integer, Text}
 
--- the value is one that the key stands for
+-- the key matches the value
 abbrev pub Fits : Key → Data → Type 0
 Fits Any value = ⊤
 Fits (Integer whole) value = value ≡ number (of_integer whole)
 Fits (Text text) value = as_str value ≡ Some text.now
 
--- the keys stand for the same values, wherever their texts lie
+-- the keys match the same values, wherever their texts lie in memory
 abbrev pub AreSame : Key → Key → Type 0
 AreSame Any Any = ⊤
 AreSame (Integer whole) (Integer other) = whole ≡ other
 AreSame (Text text) (Text other) = text.now ≡ other.now
 AreSame _ _ = ⊥
 
--- a key is `Any`, or the same as the one that is found
+-- the key is `Any`, or equals the one found
 abbrev pub IsAsked : Option Key → Key → Type 0
 IsAsked found Any = ⊤
 IsAsked None (Integer whole) = ⊥

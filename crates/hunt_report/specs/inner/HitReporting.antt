@@ -1,4 +1,4 @@
--- For private clauses: what a hunter reports of some observations.
+-- For private clauses: what a hunter writes about some observations.
 use Rattle.std.specs.Prelude.{◌≡◌, ◌⊎◌, ⊤, ℕ, ◌<◌, List, [], ◌∷◌, ◌++◌, length, All, Option, Result, Err}
 use Rattle.serde_json.specs.Data.{Data}
 use Rattle.flow_edges.specs.Flow.{WritesPrefix}
@@ -17,14 +17,14 @@ use Rattle.hunt_report.specs.Hunting.{HunterState, HuntsOver, patterns_of, Takes
 
 -- ---- one row
 
--- behind whatever rows, it hunted over one more, at which these hits end, each of an indicator
+-- after any rows it took one more, at which these hits end, each of an indicator
 pub record TakesRow (row : Row) (before after : HunterState) (own : List Hit) : Type 0 where
   pub hunted : after.hunted ≡ before.hunted
   pub retained_limit : after.engine.retained_limit ≡ before.engine.retained_limit
   pub takes : (earlier : List Row) (hits : List Hit) → HuntsOver before earlier hits → HuntsOver after (earlier ++ row ∷ []) (hits ++ own)
   pub inside : All (λ hit. hit.hunted < length before.hunted) own
 
--- behind whatever rows, a pattern is over limit at this one, the first such place
+-- after any rows, a pattern exceeds the limit at this one: the first such pattern
 abbrev pub IsOverLimitAt : Row → HunterState → OverLimit → Type 0
 IsOverLimitAt row before why = (earlier : List Row) (hits : List Hit) → HuntsOver before earlier hits
     → IsFirstOverLimit (patterns_of before.hunted) before.engine.retained_limit (earlier ++ row ∷ []) why.hunted why.number why.retained_limit
@@ -43,21 +43,21 @@ EndsAtRow row before NoMemory = ⊤
 
 -- ---- the observations of a bundle
 
--- of what is told of them so much is written, and the rest is pending
+-- a part of their text is written, and the rest is buffered
 pub record TakesSoFar (objects : List Data) (observations : List Observation) (before after : HunterState) (pending : List ℕ)
     (written written_now : Option (List ℕ)) : Type 0 where
   pub text : List ℕ
   pub takes : TakesRows (rows_over objects observations) before after text
   pub way : IsBuffered text pending written written_now
 
--- of what is told of those ahead of a over limit one so much is written, and the rest is pending
+-- the same for those before the first one that exceeds the limit
 pub record StopsSoFar (objects : List Data) (observations : List Observation) (before : HunterState) (why : OverLimit) (pending : List ℕ)
     (written written_now : Option (List ℕ)) : Type 0 where
   pub text : List ℕ
   pub stops : TakesUpTo objects observations before why text
   pub way : IsBuffered text pending written written_now
 
--- of what is told of the first of them a prefix is written
+-- a prefix of the text about the first of them is written
 pub record TakesPart (objects : List Data) (observations : List Observation) (before : HunterState) (written written_now : Option (List ℕ)) : Type 0 where
   pub text : List ℕ
   pub takes : TakesFirst objects observations before text

@@ -1,4 +1,4 @@
--- For private clauses: what a report reports of each indicator, by what is kept of it.
+-- For private clauses: what a report says about each indicator, by its summary.
 use Rattle.std.specs.Prelude.{◌≡◌, ◌⊎◌, ⊤, ℕ, ℤ, ◌≤ℤ◌, Bool, true, false, List, [], ◌∷◌, ◌++◌, codes, Option, Some, None}
 use Rattle.flow_edges.specs.Flow.{WritesPrefix}
 use Rattle.match_run.specs.Buffered.{IsBuffered}
@@ -8,7 +8,7 @@ use Rattle.hunt_report.specs.Sightings.{IsSightingText}
 use Rattle.hunt_report.specs.declared.hit_summary.HitSummary.{HitSummary}
 use Rattle.hunt_report.specs.HitSummaries.{begun_by}
 
--- the text of the sighting of an indicator of which this is kept
+-- the text of the sighting of an indicator with this summary
 pub record IsTextOf (moment : ℤ) (indicator : Hunted) (hit_summary : HitSummary) (text : List ℕ) : Type 0 where
   pub seen : SightingInput
   pub indicator_is : seen.indicator.now ≡ indicator.id
@@ -18,12 +18,12 @@ pub record IsTextOf (moment : ℤ) (indicator : Hunted) (hit_summary : HitSummar
   pub last_is : seen.last ≡ hit_summary.last
   pub text_is : IsSightingText moment seen text
 
--- it wasn't last seen before it was first seen
+-- its last hit wasn't before its first
 abbrev pub IsHitSummaryInOrder : Option HitSummary → Type 0
 IsHitSummaryInOrder None = ⊤
 IsHitSummaryInOrder (Some hit_summary) = hit_summary.first ≤ℤ hit_summary.last
 
--- one text of an indicator that was seen, and none of another
+-- one text of an indicator with hits, and none of any other
 abbrev pub ReportsHitSummary : ℤ → Hunted → Option HitSummary → List (List ℕ) → Type 0
 ReportsHitSummary moment indicator None texts = texts ≡ []
 ReportsHitSummary moment indicator (Some hit_summary) texts = (text : List ℕ) × IsTextOf moment indicator hit_summary text × (texts ≡ text ∷ [])
@@ -40,17 +40,17 @@ abbrev pub is_begun : List (List ℕ) → Bool
 is_begun [] = false
 is_begun (text ∷ texts) = true
 
--- what stands ahead of the next text
+-- the text before the next sighting
 abbrev pub mark_of : Bool → List ℕ
 mark_of false = codes "{\"objects\":["
 mark_of true = codes ","
 
--- what stands behind the texts
+-- the text after the sightings
 abbrev pub end_of : Bool → List ℕ
 end_of false = []
 end_of true = codes "]}\n"
 
--- what is told of these indicators is on its way
+-- the text about these indicators is written or buffered
 pub record ReportsSoFar (moment : ℤ) (hunted : List Hunted) (hit_summaries : List (Option HitSummary)) (begun : Bool) (pending : List ℕ)
     (first now : Option (List ℕ)) : Type 0 where
   pub texts : List (List ℕ)
@@ -58,7 +58,7 @@ pub record ReportsSoFar (moment : ℤ) (hunted : List Hunted) (hit_summaries : L
   pub begun_is : begun ≡ is_begun texts
   pub way : IsBuffered (begun_by texts) pending first now
 
--- of what is told of the first of them a prefix is written
+-- a prefix of the text about the first of them is written
 pub record ReportsPart (moment : ℤ) (hunted : List Hunted) (hit_summaries : List (Option HitSummary)) (first now : Option (List ℕ)) : Type 0 where
   pub front : List Hunted
   pub later : List Hunted
@@ -70,7 +70,7 @@ pub record ReportsPart (moment : ℤ) (hunted : List Hunted) (hit_summaries : Li
   pub reports : ReportsHitSummaries moment front seen texts
   pub prefix : WritesPrefix (begun_by texts) first now
 
--- a text more is on its way, of an indicator that was seen; none is of another
+-- one more text is written or buffered, if the indicator has hits
 pub record AddsHitSummary (moment : ℤ) (indicator : Hunted) (hit_summary : Option HitSummary) (texts : List (List ℕ)) (begun : Bool) (pending : List ℕ)
     (first now : Option (List ℕ)) : Type 0 where
   pub more : List (List ℕ)
@@ -78,7 +78,7 @@ pub record AddsHitSummary (moment : ℤ) (indicator : Hunted) (hit_summary : Opt
   pub begun_is : begun ≡ is_begun (texts ++ more)
   pub way : IsBuffered (begun_by (texts ++ more)) pending first now
 
--- of the texts a prefix is written, with the one more
+-- a prefix of the texts is written, with the one more
 pub record CutsHitSummary (moment : ℤ) (indicator : Hunted) (hit_summary : Option HitSummary) (texts : List (List ℕ)) (first now : Option (List ℕ)) : Type 0 where
   pub more : List (List ℕ)
   pub reports : ReportsHitSummary moment indicator hit_summary more
