@@ -50,6 +50,7 @@ impl Watch {
         requires some { 1 ≤ n }
         requires most { n ≤ 10_000 }
         requires seconds { 1 ≤ x }
+        // It can't fail: it takes no memory.
         ensures made { IsOk result }
         ensures represents { IfOk result (λ watch. Represents watch []) }
         ensures n { IfOk result (λ watch. watch.n ≡ n) }
@@ -72,6 +73,7 @@ impl Watch {
             → IfOk result (AnswersRow self.old self.new (with_row log first last holds)) }
         ensures out_of_order { (before now : ℤ) → (result ≡ Err (refused.OutOfOrder before now))
             ↔ ((self.old.last ≡ Some before) × (now ≡ last) × (now <ℤ before)) }
+        // After an error the watch is unchanged.
         ensures refused { OnErr result (self.new ≡ self.old) }
         ensures kept { (self.new.n ≡ self.old.n) × (self.new.x ≡ self.old.x) }
     {

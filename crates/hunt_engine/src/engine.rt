@@ -130,10 +130,12 @@ impl<'p> Engine<'p> {
         memo: &mut Memo,
     ) -> Result<Items<Hit>, EngineRefusal>
         requires ready { IsReady self.old }
+        // The memo belongs to this bundle: each of its entries is correct.
         requires right { IsSoundMemo (data_in bundle.now) (brackets_of self.old.patterns) memo.old }
         requires span { observation.now.first ≤ℤ observation.now.last }
         requires number { observation.now.number ≡ self.old.rows + 1 }
         requires room { observation.now.number < 2 ^ 63 }
+        // Rows come in the order of their ends.
         requires order { ¬ (Falls self.old.last observation.now.last) }
         ensures represents { (rows : List Row) → EngineRepresents self.old rows
             → OnOk result (EngineRepresents self.new
@@ -141,6 +143,7 @@ impl<'p> Engine<'p> {
         ensures reports { (rows : List Row) → EngineRepresents self.old rows
             → IfOk result (ReportsRow self.old.patterns
             (rows ++ row_of observation.now (data_in bundle.now) ∷ [])) }
+        // The first pattern over the limit is reported: no earlier one in the list exceeds it.
         ensures over_limit { (rows : List Row) → EngineRepresents self.old rows
             → (position number retained_limit : ℕ)
             → result ≡ Err (refusal.OverLimit position number retained_limit)
@@ -149,9 +152,11 @@ impl<'p> Engine<'p> {
             retained_limit }
         ensures ended { (result ≡ Err refusal.Ended) ↔ (self.old.ended ≡ true) }
         ensures ends { OnErr result (self.new.ended ≡ true) }
+        // An engine that has ended stays as it is.
         ensures unchanged { self.old.ended ≡ true → self.new ≡ self.old }
         ensures kept { (self.new.patterns ≡ self.old.patterns)
             × (self.new.retained_limit ≡ self.old.retained_limit) }
+        // The memo stays correct, so it serves the next observation of the bundle.
         ensures right { OnOk result (IsSoundMemo (data_in bundle.now)
             (brackets_of self.old.patterns) memo.new) }
     {

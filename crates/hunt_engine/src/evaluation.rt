@@ -49,6 +49,7 @@ pub(crate) fn evaluate(
         (λ row_brackets. IsEvaluated (data_in bundle.now) roots.now
         (map plain_leaf (map (λ leaf. leaf.now) brackets.now.leaves.items))
         brackets.now.owners.items marks.new row_brackets.affected.items) }
+    // The list has exactly the marked brackets, so that `clear` can unmark them.
     ensures matching { IfOk result (λ row_brackets. (at : ℕ) → slice_get marks.new at ≡ Some true
         ↔ Contains row_brackets.matching.items at) }
     ensures right { OnOk result (IsSoundMemo (data_in bundle.now)

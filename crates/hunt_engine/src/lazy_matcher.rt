@@ -82,6 +82,7 @@ impl<'p> LazyMatcher<'p> {
     ) -> Result<(), NoMemory>
         requires follows { FollowsSome retained_limit rows last self.old }
         requires room { rows < 2 ^ 63 }
+        // For every log that it followed: its matcher now represents the whole of it.
         ensures { (p : Pattern) (log : List LogEntry) → Follows p retained_limit log self.old
             → EndsAt log rows last
             → OnOk result (CatchesUp p retained_limit log self.new) }
@@ -174,6 +175,7 @@ fn boxed_matcher(
 /// Passes rows at which no bracket of the pattern holds. They are in order, so only lack of memory
 /// refuses them.
 fn pass_rows(matcher: &mut Matcher<'_>, rows: u64, last: Instant) -> Result<(), NoMemory>
+    // At least one row.
     requires some { 1 ≤ rows }
     requires room { matcher.old.ended ≡ None → matcher.old.rows + rows < 2 ^ 64 }
     ensures represents { (log nonmatching : List LogEntry) → Represents matcher.old log

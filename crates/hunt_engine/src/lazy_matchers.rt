@@ -88,6 +88,7 @@ pub(crate) fn sweep(
 ) -> Result<usize, NoMemory>
     requires follow { AllFollow retained_limit row.now lazy_matchers.old }
     requires room { row.now.rows < 2 ^ 63 }
+    // Each pattern still follows its log: the sweep only frees memory.
     ensures { OnOk result (StillFollow retained_limit row.now.rows row.now.before lazy_matchers.old
         lazy_matchers.new) }
 {

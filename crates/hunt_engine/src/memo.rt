@@ -71,6 +71,7 @@ impl Memo {
 
     /// Advances to the next root.
     pub(crate) fn pass(&mut self)
+        // Only the hint changes, which contracts don't observe.
         ensures { self.new ≡ self.old }
     {
         self.passed = self.passed.saturating_add(1);
@@ -96,6 +97,7 @@ impl Memo {
 
     /// Empties the memo, where it holds more than `MAX_POSITIONS` indices.
     pub(crate) fn evict_if_full(&mut self)
+        // Either nothing changes, or the memo is empty.
         ensures { (self.new ≡ self.old) ⊎ (self.new ≡ []) }
     {
         if self.positions > MAX_POSITIONS {

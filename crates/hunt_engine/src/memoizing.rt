@@ -38,6 +38,7 @@ pub(crate) fn memoize(
     requires right { IsSoundMemo (data_in bundle.now)
         (map plain_leaf (map (λ leaf. leaf.now) brackets.now.leaves.items)) memo.old }
     ensures memo { OnOk result (IsMemoized memo.new root) }
+    // Every entry is correct, of this root and of those evaluated with it.
     ensures right { OnOk result (IsSoundMemo (data_in bundle.now)
         (map plain_leaf (map (λ leaf. leaf.now) brackets.now.leaves.items)) memo.new) }
 {

@@ -68,6 +68,7 @@ impl Gathering {
         requires room { self.old.count < 2 ^ 32 }
         ensures ok { (objects : List Data) → GathersFor self.old objects
             → OnOk result (GathersFor self.new (objects ++ data_of object.now ∷ [])) }
+        // Out of memory leaves all unchanged.
         ensures err { OnErr result (self.new ≡ self.old) }
     {
         no_breaks();

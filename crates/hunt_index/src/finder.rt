@@ -117,6 +117,7 @@ impl<'p> Finder<'p> {
         requires { All (IsOfKind self.now.paths.items) self.now.kinds.entries.items }
         ensures keeps { OnOk result (Keeps lookups.old.items lookups.new.items) }
         ensures asks { OnOk result (AsksFor self.now (data_in bundle.now) root lookups.new.items) }
+        // Nothing else is looked up: needed for definite brackets.
         ensures only { OnOk result (AddsOnly
             (IsSeen self.now.paths.items (data_in bundle.now) root) lookups.old.items
             lookups.new.items) }

@@ -24,8 +24,10 @@ pub(crate) fn index_keys_of<'p>(
     alloc: Global,
     leaf: &'p Leaf,
 ) -> Result<Option<Items<IndexKey<'p>>>, NoMemory>
+    // Necessary: where the bracket holds, one of its index keys is met. So it is never missed.
     ensures needed { IfOk result (IndexKeys
         (λ objects root. HoldsAt objects root (plain_leaf leaf.now))) }
+    // Sufficient, if the bracket is definite: where an index key is shown, it holds.
     ensures sufficient { IfOk result (λ found. IsDefinite (plain_leaf leaf.now)
         → Sufficient (λ objects root. HoldsAt objects root (plain_leaf leaf.now)) found) }
 {
@@ -82,6 +84,7 @@ fn more_selective<'p>(
     one: Option<Items<IndexKey<'p>>>,
     other: Option<Items<IndexKey<'p>>>,
 ) -> Option<Items<IndexKey<'p>>>
+    // Either choice is correct.
     ensures { (result ≡ one.entry) ⊎ (result ≡ other.entry) }
 {
     match (&one, &other) {

@@ -87,6 +87,7 @@ impl<'p> PathTable<'p> {
 
 /// Orders index keys by type, then by steps. Equal only for the same path.
 fn path_order(one: &IndexKey<'_>, other: &IndexKey<'_>) -> Ordering
+    // Only equality matters: the order itself may be any.
     ensures { result ≡ Equal → AreOnePath one.now other.now }
 {
     match one.kind.cmp(other.kind) {

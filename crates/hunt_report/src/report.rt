@@ -31,10 +31,12 @@ pub fn write_report<O: Sink>(
     output: &mut O,
 ) -> Result<(), CutShort>
     requires { All IsHuntable hunter.now.hunted }
+    // The whole report of the rows that the hunter took.
     ensures ok { (rows : List Row) (hits : List Hit) → HuntsOver hunter.now rows hits
         → OnOk result ((text : List ℕ)
         × IsReport moment rows hits hunter.now.hunted text
         × (O.written output.new ≡ written_with text (O.written output.old))) }
+    // Some prefix of it.
     ensures err { (rows : List Row) (hits : List Hit) → HuntsOver hunter.now rows hits
         → OnErr result ((text : List ℕ)
         × IsReportText moment rows hits hunter.now.hunted text

@@ -12,6 +12,7 @@ use crate::numbers::greatest_number;
 
 /// Whether the bindings are sorted, as far as the check can tell.
 pub(crate) fn are_ascending(binds: &[Bind]) -> bool
+    // One-sided: false promises nothing.
     ensures { IsTrue result → IsSortedBy comes_before (map tree_of binds.now) }
 {
     for at in 1..binds.len() {

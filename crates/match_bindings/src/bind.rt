@@ -27,6 +27,7 @@ pub enum Bind {
 impl Bind {
     /// Wraps a binding in `count` `First`s. Extends the count of one that is a `First` already.
     pub fn under_firsts(alloc: Global, count: u32, bind: Bind) -> Result<Bind, NoMemory>
+        // A count in one node has the meaning of nested `First`s.
         ensures { IfOk result (λ above. tree_of above ≡ firsts count (tree_of bind)) }
     {
         if count == 0 {

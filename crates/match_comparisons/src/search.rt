@@ -75,10 +75,12 @@ pub(crate) fn finds(
     steps: &[Step],
     value: &Json,
 ) -> Result<bool, NoMemory>
+    // The memo is sound for the remaining steps of this path.
     requires before { IsSearchState search.now steps.now memo.old }
     requires ordered { IsOrdered (data_of value.now) }
     ensures found { IfOk result (λ found. IsTrue found
         ↔ Finds search.now (name_of last.entry) steps.now (data_of value.now)) }
+    // The memo stays sound, so it can serve the next root.
     ensures right { OnOk result (IsSoundMemo search.now memo.new) }
 {
     let Some((step, rest)) = steps.split_first() else {

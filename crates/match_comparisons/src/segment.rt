@@ -41,6 +41,7 @@ pub(crate) fn strip_front<'a>(whole_text: &'a str, whole_segment: &str) -> Optio
 /// The text after the first match of the segment, as after a `%`.
 pub(crate) fn after_first_match<'a>(text: &'a str, segment: &str) -> Option<&'a str>
     requires { Lacks (chars segment.now) any_run }
+    // The first match leaves the most text. None: no match at all.
     ensures { MatchOption result ((left : List ℕ)
         → ¬ Leaves (chars text.now) (any_run ∷ chars segment.now) left)
         (λ left. LeavesMost (chars text.now) (chars segment.now) (chars left.now)) }

@@ -35,6 +35,7 @@ pub fn selected<'a>(
         ↔ StepReaches (data_in bundle.now) (option_map (λ name. name.now) last.entry) step.now
         (data_of value.now) next }
     ensures ordered { All IsOrdered (data_in result.now) }
+    // The termination measure of a walk counts values below 2^64.
     ensures counted { length result.now < 2 ^ 64 }
 {
     one_meaning();

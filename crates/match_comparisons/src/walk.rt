@@ -25,6 +25,7 @@ pub(crate) fn next_value<'a>(bundle: &'a Bundle, frames: &mut Frames<'a>) -> Opt
         → LeftIn (data_in bundle.now) (reverse frames.old.items) values
         ↔ LeftIn (data_in bundle.now) [] values) }
     ensures fits { Fits (reverse frames.new.items) }
+    // The termination measure decreases with each value.
     ensures falls { IfSome result (λ value. weight (reverse frames.new.items)
         < weight (reverse frames.old.items)) }
 {
@@ -48,6 +49,7 @@ fn visit<'a>(bundle: &'a Bundle, frame: Frame<'a>, frames: &mut Frames<'a>) -> O
         → LeftIn (data_in bundle.now) (frame.entry ∷ reverse frames.old.items) values
         ↔ LeftIn (data_in bundle.now) (reverse frames.new.items) values) }
     ensures fits { Fits (reverse frames.new.items) }
+    // The termination measure decreases with each visit.
     ensures falls { weight (reverse frames.new.items)
         < weight (frame.entry ∷ reverse frames.old.items) }
 {

@@ -57,6 +57,7 @@ impl Reader {
     pub fn next<S: Source>(&mut self, source: &mut S) -> Result<Option<Batch>, ReadEnd>
         ensures next { IsOpen self.old.stage
             → AnswersNext self.old self.new (S.left source.old) (S.left source.new) result }
+        // With a whole line in the buffer the source isn't touched.
         ensures unread { HoldsLines self.old.stage → source.new ≡ source.old }
         ensures in_time { IsOpen self.old.stage → ¬ (HoldsLines self.old.stage)
             → IfOk result (λ found. IfSome found (λ batch.
@@ -66,7 +67,9 @@ impl Reader {
             × (source.new ≡ source.old) }
         ensures ended { self.old.stage ≡ Stage.Ended
             → (result ≡ Err ReadEnd.Ended) × (self.new ≡ self.old) × (source.new ≡ source.old) }
+        // Every error is final.
         ensures ends { IfErr result (λ _. self.new.stage ≡ Stage.Ended) }
+        // A read fault is reported exactly where the source counted one.
         ensures causes { Counted (IsOpen self.old.stage × (result ≡ Err ReadEnd.ReadFault))
             (S.faults source.old) (S.faults source.new) }
     {

@@ -1,6 +1,7 @@
--- An input that is followed by a watcher: what it says of the bundles that it sees, and how far it comes.
--- Of a watcher that stands so, and a bundle: `sees` tells how it stands behind the bundle, and the text that it says of it; `stops`
--- the text that it says where it stops there for a reason of its own; `begins` the text that it may be saying where it is cut short.
+-- A run of a watcher over an input: what it writes about the bundles that it sees, and how far it
+-- comes. For a watcher and a bundle, `sees` relates the watcher after the bundle and the text about
+-- it. `stops` gives the reason and the text where it stops in the bundle. `begins` gives the texts
+-- of which a prefix may be written where it is cut short.
 use Rattle.std.specs.Prelude.{◌≡◌, ◌⊎◌, ℕ, List, [], ◌∷◌, ◌++◌, Option}
 use Rattle.flow_edges.specs.Flow.{IsAtEnd, written_with, WritesPrefix}
 use Rattle.flow_edges.specs.Streams.{Streams}

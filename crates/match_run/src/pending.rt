@@ -1,3 +1,5 @@
+//! A write buffer for the texts of a watcher.
+
 ghost use Rattle.std.specs.Prelude.{◌≡◌, ◌++◌, ◌<◌, [], ℕ, List, Option, Err, IsErr, OnOk, OnErr, length};
 ghost use Rattle.flow_edges.specs.Faults.{Counted};
 ghost use Rattle.flow_edges.specs.Flow.{written_with, WritesPrefix};
@@ -10,11 +12,10 @@ use flow_values::{Fault, NoMemory};
 use std::alloc::Global;
 use std::marker::Model;
 
-/// How many bytes are gathered before they are written.
+/// How many bytes are buffered before they are written.
 pub const PIECE: usize = 65_536;
 
-/// Texts on their way to an output, which are gathered and written in pieces. Contracts see the bytes that are still to be
-/// written.
+/// A write buffer. Contracts observe the bytes that are still to be written.
 #[derive(Drop)]
 pub struct Pending {
     bytes: Vec<u8>,
@@ -29,7 +30,7 @@ impl Model for Pending {
 }
 
 impl Pending {
-    /// No text yet.
+    /// An empty buffer.
     pub fn new(alloc: Global) -> Pending
         ensures { result ≡ [] }
     {
@@ -38,8 +39,8 @@ impl Pending {
         }
     }
 
-    /// Puts a text behind what is pending, which is written as it comes to a piece. After an `Err` a prefix was written of
-    /// what was on its way and the text.
+    /// Appends a text, and writes the buffer when it is full. After an `Err` a prefix of the buffer
+    /// and the text was written.
     pub fn add<O: Sink>(&mut self, text: &[u8], output: &mut O) -> Result<(), CutShort>
         ensures ok { (before : List ℕ) (first : Option (List ℕ))
             → IsBuffered before self.old first (O.written output.old)
@@ -59,7 +60,7 @@ impl Pending {
         Ok(())
     }
 
-    /// Writes what is pending. After a `Fault` a prefix of it was written.
+    /// Writes the buffer. After a `Fault` a prefix of it was written.
     pub fn write<O: Sink>(&mut self, output: &mut O) -> Result<(), Fault>
         ensures ok { OnOk result ((self.new ≡ [])
             × (O.written output.new ≡ written_with self.old (O.written output.old))) }
@@ -76,7 +77,7 @@ impl Pending {
         Ok(())
     }
 
-    /// Puts a text behind what is pending.
+    /// Appends a text to the buffer.
     fn push(&mut self, text: &[u8]) -> Result<(), NoMemory>
         ensures { OnOk result (self.new ≡ self.old ++ text.now) }
     {

@@ -22,6 +22,7 @@ pub fn follow<W: Watcher, I: Source, O: Sink>(
 ) -> WatchEnd<W::Stop>
     requires reads { IsReading reader.old (I.left input.old) (I.began input.old) }
     requires ready { W.ready watcher.old }
+    // The watcher and the reader agree on how far the input was read.
     requires seen { W.seen watcher.old ≡ reader.old.observations }
     requires last { W.last watcher.old ≡ reader.old.last }
     ensures end { (first : Option (List ℕ)) (earlier : List BundleOf)

@@ -30,6 +30,7 @@ pub fn match_stream<I: Source, O: Sink>(
     output: &mut O,
     mode: Mode,
 ) -> MatchEnd
+    // The matcher is new: it represents the empty log.
     requires start { Represents matcher.old [] }
     requires sound { IsSoundPattern (plain_pattern matcher.old.pattern) }
     ensures end { AnswersMatch mode matcher.old.pattern matcher.old.retained_limit
@@ -39,6 +40,7 @@ pub fn match_stream<I: Source, O: Sink>(
         × (matcher.new.retained_limit ≡ matcher.old.retained_limit) }
     ensures input { Counted (result ≡ MatchEnd.ReadFault) (I.faults input.old)
         (I.faults input.new) }
+    // A write fault is reported exactly where the output counted one.
     ensures output { Counted (result ≡ MatchEnd.WriteFault) (O.faults output.old)
         (O.faults output.new) }
 {

@@ -88,6 +88,7 @@ impl CompletionBound {
         now: Instant,
         pending_lefts: &[PendingLeft],
     ) -> Result<bool, NoMemory>
+        // One-sided: where a completion is needed, the answer is true. So false is a proof.
         ensures { IfOk result (λ may. (greedy_completion : PartialMatchTree)
             → IsReached (partial_match_tree partial_match.now) self.old greedy_completion
             → is_needed now (pending_lefts_of pending_lefts.now) greedy_completion ≡ true
@@ -169,6 +170,7 @@ impl CompletionBound {
         held: &[PartialMatch],
     ) -> Result<bool, NoMemory>
         ensures earliest { OnOk result (self.new.earliest ≡ self.old.earliest) }
+        // Each left operand that begins at the bound extends the assignment by its own numbers.
         ensures noted { IfOk result (λ may. (left : PartialMatchTree) (x : BindTree)
             → Contains (partial_match_trees held.now) left
             → may_precede left bound (partial_match_tree partial_match.now) ≡ true

@@ -33,6 +33,7 @@ pub(crate) struct EarliestStart {
 impl EarliestStart {
     /// The bound under all enclosing `FOLLOWEDBY`s. The innermost is the last of `pending_lefts`.
     pub fn new(now: Instant, pending_lefts: &[PendingLeft]) -> EarliestStart
+        // Nothing that is needed begins before the bound.
         ensures { (partial_match : PartialMatchTree)
             → is_needed now (pending_lefts_of pending_lefts.now) partial_match ≡ true
             → MayBegin result partial_match }

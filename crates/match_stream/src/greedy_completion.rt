@@ -54,6 +54,7 @@ impl GreedyCompletion {
         now: Instant,
         pending_lefts: &[PendingLeft],
     ) -> Result<bool, NoMemory>
+        // One-sided: true proves that each partial match with this summary is needed.
         ensures { IfOk result (λ on. on ≡ true → (partial_match : PartialMatchTree)
             → IsGreedyCompletion self.old partial_match
             → is_needed now (pending_lefts_of pending_lefts.now) partial_match ≡ true) }

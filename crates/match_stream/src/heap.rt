@@ -20,6 +20,7 @@ pub(crate) fn sift_up(held: &mut [PartialMatch], place: usize)
     requires inside { place < length held.old }
     requires heap { IsHeap held.old place }
     ensures heap { IsHeap held.new (place + 1) }
+    // A permutation: nothing is lost or added.
     ensures same { AreSameMultiset (partial_match_trees held.old) (partial_match_trees held.new) }
     ensures length { length held.new ≡ length held.old }
 {
@@ -38,6 +39,7 @@ pub(crate) fn sift_up(held: &mut [PartialMatch], place: usize)
 pub(crate) fn sift_down(held: &mut [PartialMatch])
     requires { IsHeapBelow held.old (length held.old) }
     ensures heap { IsHeap held.new (length held.new) }
+    // A permutation: nothing is lost or added.
     ensures same { AreSameMultiset (partial_match_trees held.old) (partial_match_trees held.new) }
     ensures length { length held.new ≡ length held.old }
 {

@@ -81,6 +81,7 @@ impl Join {
     /// Whether a partial match that begins at `begin` or earlier can't join one that ends at `end`,
     /// whatever observations they have.
     pub fn is_late(self, end: Instant, begin: Instant) -> bool
+        // One-sided: only true promises something.
         ensures { result ≡ true → (first second : PartialMatchTree) → first.latest ≡ end
             → second.earliest ≤ℤ begin
             → may_join self first second ≡ false }
@@ -101,6 +102,7 @@ impl Join {
         join_filter: &JoinFilter<'_>,
         out: &mut Vec<PartialMatch>,
     ) -> Result<(), Stop>
+        // Appends the filtered join, in the order of a nested loop.
         ensures joined { OnOk result (AreAdded join_filter.now
             (joins self (partial_match_trees firsts.now) (partial_match_trees seconds.now))
             out.old.items out.new.items) }

@@ -116,6 +116,7 @@ impl Leaves {
         pending_lefts: &[PendingLeft],
     ) -> Result<bool, NoMemory>
         requires span { row.now.first ≤ℤ row.now.last }
+        // All or nothing: each partial match is the row alone.
         ensures all { IfOk result (λ is. is ≡ true
             → needed row.now.last (pending_lefts_of pending_lefts.now)
             (step_new row.now truths.now (leaves_of self.now))

@@ -54,6 +54,7 @@ impl Levels {
             (all_levels self.old.count (store_lists self.old.stores.items))) }
         ensures count { OnOk result (self.new.count ≡ self.old.count) }
         ensures window { OnOk result (self.new.window ≡ self.old.window) }
+        // The charge is exactly what the levels hold after the row.
         ensures counted { OnOk result (budget.new.left
             + held_count (levels_after self.old.window now
             (map (held_with Single) (partial_match_trees new.now)) (partial_match_trees new.now)

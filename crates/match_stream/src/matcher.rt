@@ -92,10 +92,14 @@ impl<'p> Matcher<'p> {
         truths: &[bool],
     ) -> Result<Items<Bind>, MatchRefusal>
         requires span { first ≤ℤ last }
+        // The row numbers fit a u64.
         requires budget { self.old.ended ≡ None → self.old.rows + 1 < 2 ^ 64 }
+        // For every log that the matcher represented: it represents the log with this row, and
+        // answers it.
         ensures answers { (log : List LogEntry) → Represents self.old log → IsInOrder log
             → IfOk result (λ binds. AnswersRow self.old self.new
             (with_row log first last truths.now) (map tree_of binds)) }
+        // The limit is reported only where the retained count really exceeds it.
         ensures over_limit { (log : List LogEntry) → Represents self.old log → IsInOrder log
             → (number retained_limit : ℕ)
             → result ≡ Err (refusal.Stopped (ending.OverLimit number retained_limit))
@@ -108,6 +112,7 @@ impl<'p> Matcher<'p> {
             → (self.old.ended ≡ None) × (self.new.ended ≡ Some ending) }
         ensures ended { (ending : Ending) → (result ≡ Err (refusal.Ended ending))
             ↔ (self.old.ended ≡ Some ending) }
+        // A matcher that has ended stays as it is.
         ensures unchanged { (ending : Ending) → self.old.ended ≡ Some ending → self.new ≡ self.old }
         ensures kept { (self.new.pattern ≡ self.old.pattern)
             × (self.new.retained_limit ≡ self.old.retained_limit) }
@@ -139,6 +144,7 @@ impl<'p> Matcher<'p> {
     pub fn pass(&mut self, rows: u64, last: Instant) -> Result<(), MatchRefusal>
         requires some { 1 ≤ rows }
         requires budget { self.old.ended ≡ None → self.old.rows + rows < 2 ^ 64 }
+        // The same state as after `rows` calls of `take` at which no bracket holds.
         ensures represents { (log nonmatching : List LogEntry) → Represents self.old log
             → ContinuesWithoutMatch log nonmatching rows last
             → OnOk result (Represents self.new (log ++ nonmatching)) }

@@ -49,6 +49,7 @@ impl Matching {
     pub fn admit(&mut self, alloc: Global, numbers: Vec<u64>) -> Result<bool, NoMemory>
         ensures added { OnOk result (self.new.list.items ≡ record { numbers = numbers }
             ∷ self.old.list.items) }
+        // One-sided: false proves that no binding has distinct numbers for all vertices.
         ensures short { IfOk result (λ may. may ≡ false → (x : BindTree)
             → ¬ (HasPerfectMatching self.new.list.items x)) }
     {
@@ -71,6 +72,7 @@ impl Matching {
     /// augmenting path from the newest vertex, O(vertices times edges).
     fn has_hall_violator(&mut self, alloc: Global) -> Result<bool, NoMemory>
         ensures same { self.new.list ≡ self.old.list }
+        // One-sided: true proves that no binding has distinct numbers for all vertices.
         ensures short { IfOk result (λ short. short ≡ true → (x : BindTree)
             → ¬ (HasPerfectMatching self.old.list.items x)) }
     {

@@ -225,14 +225,18 @@ fn step(
     budget: &mut Budget,
 ) -> Result<Vec<PartialMatch>, Stop>
     requires span { row.now.first ≤ℤ row.now.last }
+    // The reference implementation, followed by the filter.
     ensures new { IfOk result (λ new. partial_match_trees new.items
         ≡ needed row.now.last (pending_lefts_of pending_lefts.old.items)
         (step_new row.now truths.now (state_of node.old))) }
     ensures kept { OnOk result (state_of node.new
         ≡ step_state row.now truths.now (state_of node.old)) }
+    // What is pushed for an inner `FOLLOWEDBY` is popped again.
     ensures pending_lefts { OnOk result (pending_lefts.new.items ≡ pending_lefts.old.items) }
+    // The charge is exactly what the stores hold after the row.
     ensures counted { OnOk result (budget.new.left
         + held_after row.now truths.now (state_of node.old) ≡ budget.old.left) }
+    // It never stops early: the retained count exceeds the budget.
     ensures over_limit { result ≡ Err stop.OverLimit
         → IsOverAt row.now truths.now (pending_lefts_of pending_lefts.old.items)
         (state_of node.old) budget.old.left }
@@ -530,6 +534,7 @@ fn step_right(
         (step_new row.now truths.now (state_of right.old))) }
     ensures kept { OnOk result (state_of right.new
         ≡ step_state row.now truths.now (state_of right.old)) }
+    // The left store is lent to the pending left, and returned.
     ensures sides { OnOk result (side_stores sides.new ≡ side_stores sides.old) }
     ensures pending_lefts { OnOk result (pending_lefts.new.items ≡ pending_lefts.old.items) }
     ensures counted { OnOk result (budget.new.left

@@ -45,6 +45,7 @@ impl Query {
     /// Whether it joins no right operand that has these numbers and begins at `begin` or earlier,
     /// or none to a needed result. Only true carries a promise.
     pub fn excludes(&self, common: &[u64], begin: Instant) -> bool
+        // One-sided: false promises nothing.
         ensures { result ≡ true → (second : PartialMatchTree) → HasCommon common.now begin second
             → CannotJoin self.now second }
     {

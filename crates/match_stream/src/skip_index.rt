@@ -45,6 +45,7 @@ impl SkipIndex {
         firsts: usize,
         candidates: &[PartialMatch],
     ) -> Result<SkipIndex, NoMemory>
+        // Without keys there is no index, and each pair is tried.
         ensures { IfOk result (λ skip_index. 0 < length skip_index.keys.items
             → IsSkipIndexOf candidates.now skip_index) }
     {
@@ -83,6 +84,7 @@ impl SkipIndex {
     /// The indices of the operands that the query doesn't exclude, in key order.
     fn found(&self, alloc: Global, query: &Query) -> Result<Vec<usize>, NoMemory>
         requires levels { AreLevelsOf self.now.keys.items self.now.levels.items }
+        // A key that isn't found is excluded, so its operand can't join.
         ensures others { IfOk result (λ places. (key : Key) → Contains self.now.keys.items key
             → Contains places.items key.place ⊎ IsExcluded query.now key) }
         ensures from { IfOk result (λ places. (place : ℕ) → Contains places.items place

@@ -41,6 +41,7 @@ impl Store {
     /// Removes what has expired, and leaves the rest in any order. O(log n) for each removed and
     /// each recently added element; what stays costs nothing. Takes no memory.
     pub fn clear(&mut self, window: &Window, now: Instant)
+        // Equal as multisets: the order of what stays is free.
         ensures { AreSameMultiset (kept window.now now (partial_match_trees self.old.held.items))
             (partial_match_trees self.new.held.items) }
     {

@@ -191,7 +191,7 @@ EndsInBundle p retained_limit objects observations log answers state written wri
 abbrev pub bundle_of : Batch → BundleOf
 bundle_of batch = record { line = batch.line; objects = data_in batch.bundle; observations = batch.observations }
 
--- ---- the same from wherever a run is
+-- ---- the same, after any log
 
 -- an observation adds its row
 abbrev pub TakesRow : List Data → Observation → Progress → Progress → List BindTree → Type 0
