@@ -1,4 +1,4 @@
--- Alerts: where n matches of one bracket within x seconds end (STIX 2.1, section 9.4: REPEATS n
+-- Alerts: where n matches of one bracket within x seconds end (STIX 2.1, section 9.5: REPEATS n
 -- TIMES WITHIN x SECONDS).
 use Rattle.std.specs.Prelude.{◌≡◌, ℕ, List}
 use Rattle.match_bindings.specs.declared.log_entry.LogEntry.{LogEntry}

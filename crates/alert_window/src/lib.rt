@@ -2,7 +2,7 @@
 //! x seconds?
 //!
 //! Such an observation is an alert: a binding of the bracket with `REPEATS n TIMES` and `WITHIN x
-//! SECONDS` (STIX 2.1, section 9.4) ends there. A `Watch` takes the observations one by one, and
+//! SECONDS` (STIX 2.1, section 9.5) ends there. A `Watch` takes the observations one by one, and
 //! answers for each whether it is one. It keeps at most n matches, those that began last. That is
 //! enough, since of all matches these reach back the least. So a long repetition costs little
 //! memory.

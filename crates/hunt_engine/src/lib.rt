@@ -5,9 +5,10 @@
 //! end there, by the pattern's index in the hunted list. An inverted index (`hunt_index`) finds the
 //! brackets (observation expressions) that can hold; only their patterns are touched. The matcher
 //! of any other pattern is updated lazily, when one of its brackets next holds. A `Memo` keeps
-//! which brackets hold at each root of a bundle, so no root is evaluated twice. Each bracket is
-//! evaluated at a batch of roots together, so that objects they reference in common are searched
-//! once. The bindings are those of `match_bindings`.
+//! which brackets hold at each root of a bundle, so that a root shared by several observations is
+//! evaluated once, unless the memo was emptied in between. Each bracket is evaluated at a batch of
+//! roots together, so that objects they reference in common are searched once. The bindings are
+//! those of `match_bindings`.
 //!
 //! ```text
 //! let mut engine = Engine::new(alloc, &hunted, 100_000)?;

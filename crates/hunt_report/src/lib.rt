@@ -8,8 +8,8 @@
 //! `sighting_text` make a single sighting, which breaks no rule of its type.
 //!
 //! ```text
-//! write_skipped(alloc, &hunt.skipped, &mut output)?;
-//! let mut hunter = Hunter::new(alloc, &hunt.hunted, 100_000)?;
+//! write_skipped(alloc, hunt.skipped.as_slice(), &mut output)?;
+//! let mut hunter = Hunter::new(alloc, hunt.hunted.as_slice(), 100_000)?;
 //! let end = follow(&mut reader, &mut hunter, &mut input, &mut output); // of `match_run`: a WatchEnd
 //! write_report(alloc, &hunter, moment, &mut output)?;
 //! ```

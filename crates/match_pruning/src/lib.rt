@@ -2,7 +2,7 @@
 //!
 //! A matcher stores what may still become part of a binding. It has a store for each side of an
 //! `AND` and a `FOLLOWEDBY`, and one for each level of a `REPEATS` below its count. `windows`
-//! computes the window of each store from the qualifiers above it (STIX 2.1, section 9.4).
+//! computes the window of each store from the qualifiers above it (STIX 2.1, section 9).
 //! `expired` decides whether a partial match has left its window: then no later observation can
 //! make it part of a binding.
 //!
