@@ -78,7 +78,8 @@ fn plain_test<'a>(alloc: Global, tokens: &'a [Token]) -> Result<(TestTree, &'a [
 /// `test = "(" cor ")" | [NOT] EXISTS path | path [NOT] compare`
 #[cycle(comparison)]
 fn test<'a>(alloc: Global, tokens: &'a [Token]) -> Result<(Operand, &'a [Token]), Stop<'a>>
-    ensures ok { IfOk result (λ x. Found IsTest expects_test done tokens.now (operand x.0) x.1.now) }
+    ensures ok { IfOk result
+        (λ x. Found IsTest expects_test done tokens.now (operand x.0) x.1.now) }
     ensures err { IfErr result (λ e. Refused IsTest expects_test tokens.now e) }
 {
     if let Some((open, inside)) = eat(tokens, TokenClass::Only(TokenKind::RoundOpen)) {
@@ -97,7 +98,8 @@ fn test<'a>(alloc: Global, tokens: &'a [Token]) -> Result<(Operand, &'a [Token])
 /// `cand = test { AND test }`
 #[cycle(comparison)]
 fn cand<'a>(alloc: Global, tokens: &'a [Token]) -> Result<(Conjunction, &'a [Token]), Stop<'a>>
-    ensures ok { IfOk result (λ x. Found IsCand expects_cand done tokens.now (conjunction x.0) x.1.now) }
+    ensures ok { IfOk result
+        (λ x. Found IsCand expects_cand done tokens.now (conjunction x.0) x.1.now) }
     ensures err { IfErr result (λ e. Refused IsCand expects_cand tokens.now e) }
 {
     let (first, mut rest) = test(alloc, tokens)?;
