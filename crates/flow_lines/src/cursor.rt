@@ -41,11 +41,14 @@ impl Cursor {
             (lines_state self.old.line.items self.old.read_buffer self.old.count self.old.given)
             (lines_state self.new.line.items self.new.read_buffer self.new.count self.new.given)
             (S.left source.old) (S.left source.new)) }
+        // A buffered line is returned without a read.
         ensures unread { HoldsLine self.old.read_buffer → source.new ≡ source.old }
         ensures in_time { NoLineFeed self.old.read_buffer
             → IfOk result (λ _. IfSome (S.began source.new)
             (LacksLine (lines_state self.old.line.items self.old.read_buffer self.old.count
             self.old.given) (self.old.count + 1) (S.left source.old))) }
+        // After a blank line, a buffered line is still in the buffer: the loop of `next_line` needs
+        // this.
         ensures held { IfOk result (λ found. found ≡ true
             → HoldsLine self.old.read_buffer → is_blank self.new.line.items ≡ true
             → HoldsLine self.new.read_buffer) }

@@ -90,6 +90,7 @@ impl Source for MemorySource {
         ensures began { IfSome (Some self.new.began) (λ bytes. Some self.old.left ≡ Some bytes) }
         ensures causes { Counted (IsErr result) self.old.faults self.new.faults }
 
+        // Exact, so that a test can predict each call.
         ensures fails { IsErr result ↔ (is_failing self.old.failing self.old.calls ≡ true) }
         ensures count { IfOk result
             (λ n. n ≡ min self.old.piece (min (length buffer.old) (length self.old.left))) }

@@ -1,3 +1,7 @@
+//! String interning over a fixed table, sorted by length. `LENGTH_STARTS` bounds the few names to
+//! compare. A name is interned only if it equals its table entry, so `as_str` always returns the
+//! text it was made from.
+
 ghost use Rattle.std.specs.Prelude.{◌≡◌, IfOk, IfSome, map, unwrap_or, slice_get, []};
 ghost use Rattle.flow_values.specs.inner.StandardNames.{standard_names};
 

@@ -1,3 +1,5 @@
+//! A recursive-descent parser for comparison expressions, one function for each production.
+
 ghost use Rattle.std.specs.Prelude.{IfOk, IfErr};
 ghost use Rattle.pattern_grammar.specs.Grammar.{IsTest, IsCand, IsCor};
 ghost use Rattle.pattern_grammar.specs.Tree.{compared, conjunction, operand, test};

@@ -1,3 +1,7 @@
+//! A recursive-descent parser for the productions of observation expressions, one function for
+//! each. The grammar is LL(1): the next token decides the alternative, so the parser never
+//! backtracks, and its error is at the end of the longest viable prefix.
+
 ghost use Rattle.std.specs.Prelude.{List, IfOk, IfErr};
 ghost use Rattle.pattern_grammar.specs.Grammar.{IsPattern, IsOrs, IsAnds, IsUnit, IsStart, IsQualifier};
 ghost use Rattle.pattern_grammar.specs.Tree.{Tree, shape};

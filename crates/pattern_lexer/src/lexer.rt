@@ -1,3 +1,6 @@
+//! A hand-written lexer by maximal munch (longest match). The first byte selects the
+//! token, so one scan finds the longest one.
+
 ghost use Rattle.std.specs.Prelude.{◌<◌, ◌≤◌, IfOk, length};
 ghost use Rattle.pattern_lexer.specs.Reading.{Reads};
 ghost use Rattle.pattern_lexer.specs.inner.Steps.{ArePassed, ReadsAt};

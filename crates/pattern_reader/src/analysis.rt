@@ -1,3 +1,7 @@
+//! Bottom-up evaluation of attributes over the syntax tree: the leaf, the object types that can
+//! meet it, and the first refusal. Each node is visited once, so the analysis of a chain doesn't
+//! repeat that of its operands.
+
 ghost use Rattle.std.specs.Prelude.{◌≡◌, ◌↔◌, List, ℕ, IfOk};
 ghost use Rattle.pattern_grammar.specs.Tree.{Comparison, test, all, any, compared, conjunction, operand};
 ghost use Rattle.pattern_reader.specs.LeafMeaning.{IsNoAll, IsNoAny};

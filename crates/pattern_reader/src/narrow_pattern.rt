@@ -1,3 +1,6 @@
+//! The width of a pattern, computed bottom-up. A part past a limit becomes `None` at once, so no
+//! number overflows.
+
 ghost use Rattle.std.specs.Prelude.{◌≡◌, IfOk};
 ghost use Rattle.std.specs.Box.{box_value};
 ghost use Rattle.pattern_types.specs.PlainLeaf.{plain_leaf};

@@ -1,3 +1,6 @@
+//! The order of refusals: by byte offset, then by rank. It is total on the refusals of one text, so
+//! the first one is unique.
+
 ghost use Rattle.std.specs.Prelude.{◌≡◌, IsTrue, IsFalse};
 ghost use Rattle.pattern_reader.specs.ValueRefusal.{rank_of, Precedes};
 ghost use Rattle.pattern_reader.specs.inner.Analysis.{IsFirstOfTwo};

@@ -1,3 +1,7 @@
+//! A precedence-based printer: an operand is written in parentheses exactly if its precedence is
+//! below the one that its position requires. So the text has no unneeded parentheses, and it parses
+//! back to the same tree.
+
 ghost use Rattle.std.specs.Prelude.{◌≡◌, ◌+◌, ◌<◌, OnOk, IfOk, codes};
 ghost use Rattle.pattern_types.specs.PlainPattern.{plain_pattern};
 ghost use Rattle.pattern_writer.specs.Parts.{AreSides, IsBetween, IsWithin, Adds};

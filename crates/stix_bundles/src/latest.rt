@@ -1,3 +1,7 @@
+//! The index of latest versions, in one pass: a running maximum of `modified` for each identifier.
+//! A tie goes to the later position, so after the last object the map is what specs/Lookup.antt
+//! defines.
+
 ghost use Rattle.std.specs.Prelude.{◌≡◌, ◌↔◌, ◌+◌, ◌≤◌, ◌<◌, length, take as first, Some, IsTrue, IfOk, OnOk};
 ghost use Rattle.stix_ids.specs.declared.id.Id.{Id};
 ghost use Rattle.stix_ids.specs.PartsOf.{id_of};

@@ -1,3 +1,6 @@
+//! A scanner for kinds with one byte of state, the previous byte. Every prefix that it accepts can
+//! be extended to a kind, so the offset where it stops is the longest viable prefix.
+
 ghost use Rattle.std.specs.Prelude.{◌≡◌, ◌≢◌, ◌↔◌, IsTrue, IsOk, IfErr};
 ghost use Rattle.stix_ids.specs.Kind.{IsKind, IsKindByte, IsLongestKindPrefix};
 

@@ -1,3 +1,7 @@
+//! The first error of a value, merged bottom-up: the error of a list or an object is the first of
+//! its parts in order, but one for depth takes precedence. This is the first in walk order, since a
+//! list precedes its items.
+
 ghost use Rattle.std.specs.Prelude.{◌≡◌, ℕ, List, if◌then◌else◌, Some, IfOk, option_map};
 ghost use Rattle.stix_json.specs.Walk.{index_part};
 ghost use Rattle.stix_json.specs.inner.FirstErrors.{first_error_under, first_of, refusal_of_first_error};

@@ -1,3 +1,7 @@
+//! Strings as slices of a shared source text (reference counting), with an owned copy as the
+//! fallback. A slice is made only after its bytes are compared with the string, so it can't differ
+//! from it.
+
 ghost use Rattle.std.specs.Prelude.{◌≡◌, ◌≤◌, ◌<◌, IfOk, IfSome};
 ghost use Rattle.std.specs.Str.{IsCharBoundary};
 

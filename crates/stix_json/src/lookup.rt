@@ -1,3 +1,6 @@
+//! Lookup of a field by name: a linear search in any object, a binary search in an ordered one.
+//! Both return the same value, since the names of an ordered object are unique.
+
 ghost use Rattle.std.specs.Prelude.{◌≡◌, bytes_eq, None, IfSome, IfNone, map, option_map};
 ghost use Rattle.serde_json.specs.Find.{get_member, get as member_of};
 ghost use Rattle.stix_json.specs.DataOf.{data_of, field_data, members_of};

@@ -67,6 +67,7 @@ impl<'a> Object<'a> {
 
     /// Whether the filter proves that the object lacks the property. A false answer says nothing.
     pub(crate) fn definitely_lacks(&self, name: &str) -> bool
+        // Sound but not complete: a shared slot only costs a search.
         ensures { IsTrue result → member_of name.now (data_of self.now) ≡ None }
     {
         !self.taken[slot_of(name)]

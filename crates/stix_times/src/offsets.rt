@@ -1,3 +1,7 @@
+//! A table-driven recognizer for the form of a timestamp: for each offset, the least and the
+//! greatest byte. The longest prefix of fitting bytes is the longest viable prefix, since each
+//! fitting byte leaves a valid continuation.
+
 ghost use Rattle.std.specs.Prelude.{◌≡◌, ◌+◌, ◌<◌, ◌≤◌, IsTrue, length};
 ghost use Rattle.stix_times.specs.Offsets.{bounds_at, fits_fraction, fits, fitting_end, end_from};
 

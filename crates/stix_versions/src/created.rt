@@ -1,3 +1,7 @@
+//! A running check for changed `created` times. It is enough to keep the first one and whether a
+//! later one differs: a version conflicts with an earlier one exactly if it differs from the first,
+//! or an earlier one does.
+
 ghost use Rattle.std.specs.Prelude.{◌↔◌, ◌+◌, ℕ, List, IsTrue, IfOk, OnOk, Some};
 ghost use Rattle.serde_json.specs.Data.{Data};
 ghost use Rattle.stix_versions.specs.declared.version_break.VersionRule.TheVariants as rule;

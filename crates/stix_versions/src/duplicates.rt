@@ -1,3 +1,7 @@
+//! A running check for differing versions of one `modified` time. It is enough to keep the first
+//! one and whether a later one differs: a version conflicts with an earlier one exactly if it
+//! differs from the first, or an earlier one does.
+
 ghost use Rattle.std.specs.Prelude.{◌≡◌, ◌↔◌, ◌+◌, ◌<◌, ◌≤◌, List, length, IsTrue, IfOk, OnOk, Some, slice_get};
 ghost use Rattle.serde_json.specs.Data.{Data};
 ghost use Rattle.stix_json.specs.DataOf.{data_of};

@@ -1,3 +1,6 @@
+//! The earliest revocation of each object: a running minimum of `modified` over its revoked
+//! versions. A version follows a revocation exactly if it follows the earliest one.
+
 ghost use Rattle.std.specs.Prelude.{◌↔◌, ◌+◌, ◌<◌, ℕ, List, length, IsTrue, IfOk, IfSome, IfNone, OnOk};
 ghost use Rattle.serde_json.specs.Data.{Data};
 ghost use Rattle.stix_bundles.specs.Objects.{data_in};

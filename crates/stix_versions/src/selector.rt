@@ -1,3 +1,6 @@
+//! Selectors of granular markings: parsed by splitting at dots, and resolved part by part from the
+//! object down.
+
 ghost use Rattle.std.specs.Prelude.{◌≡◌, ◌↔◌, List, IsTrue, option_map};
 ghost use Rattle.stix_json.specs.DataOf.{data_of};
 ghost use Rattle.stix_json.specs.Ordered.{IsOrdered};

@@ -1,3 +1,7 @@
+//! A finite state machine for timeouts. Each read and write moves it as `after_read` and
+//! `after_write` of specs/Phase.antt say, and its contracts state the timeout of each state
+//! exactly.
+
 ghost use Rattle.std.specs.Prelude.{◌≡◌, ◌<◌, ◌↔◌, IsOk, IfOk};
 ghost use Rattle.std.specs.Duration.{as_nanos};
 ghost use Rattle.flow_links.specs.Phase.{left_of, request_time, read_time, write_time, after_read, after_write};

@@ -140,6 +140,7 @@ impl<'r, R: Net + Timer> Door for TcpDoor<'r, R> {
         ensures err { OnErr result (Stays {L = StreamState} None None) }
         ensures causes { Counted (IsErr result) self.old.faults self.new.faults }
 
+        // A listening port never runs out of clients.
         ensures some { IfOk result (λ link. IsSome self.old.address → IsSome link) }
         ensures address { self.new.address ≡ self.old.address }
         ensures lost { LosesCallers result self.old.lost self.new.lost }
