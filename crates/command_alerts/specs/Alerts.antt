@@ -14,7 +14,7 @@ pub record IsLineOf (number : ℕ) (last : ℤ) (line : List ℕ) : Type 0 where
 abbrev pub ReportsRow : (ℕ → Type 0) → ℕ → LogEntry → List ℕ → Type 0
 ReportsRow IsAlertAt number row text = (IsAlertAt number × IsLineOf number row.last text) ⊎ ((¬ IsAlertAt number) × (text ≡ []))
 
--- of rows in turn, the first of which has that number
+-- of rows in order, the first of which has that number
 abbrev pub ReportsRows : (ℕ → Type 0) → ℕ → List LogEntry → List ℕ → Type 0
 ReportsRows IsAlertAt number [] text = text ≡ []
 ReportsRows IsAlertAt number (row ∷ rows) text = (own : List ℕ) × (later : List ℕ) × ReportsRow IsAlertAt number row own

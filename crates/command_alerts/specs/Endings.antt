@@ -1,4 +1,5 @@
--- What an ending says of the arguments, the log and what was reported; its status, and its reason as a text.
+-- What an ending says of the arguments, the log and what was reported; its status, and its reason
+-- as a text.
 use Rattle.std.specs.Prelude.{◌≡◌, ◌⊎◌, ℕ, List, [], codes}
 use Rattle.flow_edges.specs.Streams.{Streams, AreUntouched}
 use Rattle.pattern_types.specs.declared.pattern.Pattern.{Pattern}
@@ -32,7 +33,8 @@ EndsTask before after NotLeaf task = IsReadAsMore task.pattern × AreUntouched b
 EndsTask before after (Ended ended) task = FollowsInput before after ended task
 EndsTask before after NoMemory task = AreUntouched before after
 
--- the arguments ask for nothing, and that is the ending; or they ask for something, of which it says that
+-- the arguments ask for nothing, and that is the ending; or they ask for something, of which it
+-- says that
 abbrev pub EndsAlerts : List (List ℕ) → Streams → Streams → AlertEnding → Type 0
 EndsAlerts arguments before after ending = (AskForNothing arguments × (ending ≡ Usage) × AreUntouched before after) ⊎ AskSo arguments (EndsTask before after ending)
 

@@ -1,4 +1,4 @@
--- What stands when the program ended, by its status.
+-- What holds when the program has ended, by its exit status.
 use Rattle.std.specs.Prelude.{◌≡◌, ◌⊎◌, ◌↔◌, ℕ, List}
 use Rattle.flow_edges.specs.Streams.{Streams}
 use Rattle.pattern_types.specs.declared.pattern.Pattern.{Pattern}
@@ -23,7 +23,8 @@ pub record Ends (arguments : List (List ℕ)) (before after : Streams) (status :
 abbrev pub RefusesPattern : List (List ℕ) → Type 0
 RefusesPattern arguments = AskSo arguments (λ task. IsReadAsNoLeaf task.pattern)
 
--- the status 2 reports that the arguments ask for nothing, and 3 that the pattern is refused; only want of memory comes instead of 3
+-- status 2 means that the arguments are no command line, and 3 that the pattern is refused; only
+-- out of memory may replace 3
 pub record ReportsRefusals (arguments : List (List ℕ)) (status : ℕ) : Type 0 where
   pub usage : (status ≡ 2) ↔ AskForNothing arguments
   pub pattern : status ≡ 3 → RefusesPattern arguments
@@ -34,8 +35,8 @@ abbrev pub end_status : InputEnd → ℕ
 end_status Whole = 0
 end_status (Refused line why) = 4
 
--- the bytes of the input are read as bundles, up to their end or to the first line that is refused, and the alerts over the log of
--- these were reported, and nothing else
+-- the bytes of the input are read as bundles, up to their end or to the first line that is refused,
+-- and the alerts over the log of these were reported, and nothing else
 pub record ReportsInput (arguments : List (List ℕ)) (before after : Streams) (status : ℕ) : Type 0 where
   pub task : AlertTask
   pub asked : AskFor arguments task

@@ -1,4 +1,4 @@
--- What arguments ask for: PATTERN N SECONDS.
+-- The arguments PATTERN N SECONDS.
 use Rattle.std.specs.Prelude.{◌≡◌, ℕ, ◌≤◌, List, [], ◌∷◌}
 use Rattle.pattern_types.specs.declared.pattern.Pattern.{Pattern}
 use Rattle.pattern_types.specs.PlainLeaf.{PlainLeaf}
@@ -8,7 +8,7 @@ use Rattle.command_line.specs.CommandLines.{IsNumberIn}
 use Rattle.command_alerts.specs.declared.arguments.AlertRequest.{AlertRequest}
 use Rattle.command_alerts.specs.declared.arguments.TheConstants.{MAX_N, MAX_SECONDS}
 
--- the alerts of a pattern, for so many matches within so many seconds
+-- the alerts of a pattern, for n matches within a window of seconds
 pub record AlertTask : Type 0 where
   pub pattern : List ℕ
   pub n : ℕ

@@ -25,7 +25,8 @@ IsNotBundleFor d (NoBundle (NotBundle path)) = IsBundleRefused d (NotBundle path
 IsNotBundleFor d (NoBundle (Breaks breaks)) = ⊥
 IsNotBundleFor d (NoBundle NoMemory) = ⊥
 
--- objects that meet the rules of their types are so many, or their versions and markings break these rules
+-- for objects that meet the rules of their types: their number, or the violated rules of their
+-- versions and markings
 abbrev pub AreValidated : List Data → Verdict → Type 0
 AreValidated objects (Sound count) = (count ≡ length objects) × AreVersionBreaks objects [] × AreMarkingBreaks objects []
 AreValidated objects (Broken breaks) = ⊥

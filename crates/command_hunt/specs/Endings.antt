@@ -1,4 +1,5 @@
--- What an ending says of the arguments, the file of the indicators, the log and what was reported; its status, and its reason as a text.
+-- What an ending says of the arguments, the file of the indicators, the log and what was reported;
+-- its status, and its reason as a text.
 use Rattle.std.specs.Prelude.{◌≡◌, ◌⊎◌, ℕ, List, [], Option, codes}
 use Rattle.flow_edges.specs.Streams.{Streams, AreUntouched}
 use Rattle.serde_json.specs.Data.{Data}
@@ -25,7 +26,8 @@ EndsTask contents before after Usage task = ⊥
 EndsTask contents before after (Unfed end) task = IsUnfed contents task end × AreUntouched before after
 EndsTask contents before after (Ended ended) task = (file : Option (List Data)) × IsFed contents task file × AnswersHunt task file before after ended
 
--- the arguments ask for nothing, and that is the ending; or they ask for a hunt, of which it says that
+-- the arguments ask for nothing, and that is the ending; or they ask for a hunt, of which it says
+-- that
 abbrev pub EndsHunt : List (List ℕ) → (List ℕ → Option (List ℕ)) → Streams → Streams → HuntEnding → Type 0
 EndsHunt arguments contents before after ending = (AskForNothing arguments × (ending ≡ Usage) × AreUntouched before after)
     ⊎ AskSo arguments (EndsTask contents before after ending)

@@ -1,5 +1,5 @@
--- Where the indicators of a hunt come from: a file, where the arguments name one. `contents` are the bytes of files by their names, where
--- they are reported.
+-- Where the indicators of a hunt come from: a file, where the arguments name one. `contents` are
+-- the bytes of files by their names, where they are reported.
 use Rattle.std.specs.Prelude.{◌≡◌, ◌⊎◌, ⊤, ℕ, List, Option, Some, None}
 use Rattle.serde_json.specs.Data.{Data}
 use Rattle.flow_edges.specs.Faults.{Counted}
@@ -29,6 +29,7 @@ module _ (contents : List ℕ → Option (List ℕ)) (task : HuntTask) where
   IsUnfed Fault = NamesFile task (λ name. ⊤)
   IsUnfed NoMemory = NamesFile task (λ name. ⊤)
 
--- a read of the one object failed, or, where that may be, one of the other, which counted it; and nothing happened to the other count
+-- a read of the one object failed, or, where that may be, one of the other, which counted it; and
+-- nothing happened to the other count
 abbrev pub CountedByOne : (Other Failed : Type 0) → ℕ → ℕ → ℕ → ℕ → Type 0
 CountedByOne Other Failed one one_now other other_now = (Counted Failed one one_now × (other_now ≡ other)) ⊎ (Other × (one_now ≡ one) × Counted Failed other other_now)

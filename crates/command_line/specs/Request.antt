@@ -1,4 +1,4 @@
--- What arguments ask for, from the code's request.
+-- The request of a command line, as a value without references.
 use Rattle.std.specs.Prelude.{map, option_map}
 use Rattle.command_line.specs.declared.request.CollectionRequest.{CollectionRequest}
 use Rattle.command_line.specs.declared.request.Request.{Request}

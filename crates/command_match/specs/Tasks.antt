@@ -9,7 +9,8 @@ abbrev pub mode_of : Bool → Mode
 mode_of true = Whole
 mode_of false = Lines
 
--- what a `match` is to do: how the input is cut, how much may be live, and the pattern
+-- the task of a `match`: how the input is split, the limit on retained partial matches, and the
+-- pattern
 pub record MatchTask : Type 0 where
   pub mode : Mode
   pub retained_limit : ℕ

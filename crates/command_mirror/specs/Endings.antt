@@ -1,4 +1,4 @@
--- What an ending says of what was asked for and of the environment; its status, and its reason.
+-- What an ending implies for the request and the environment; its exit status, and its message.
 use Rattle.std.specs.Prelude.{◌≡◌, ◌⊎◌, ℕ, List, [], codes, Option}
 use Rattle.flow_edges.specs.Flow.{written_with, WritesPart}
 use Rattle.taxii_client.specs.Environment.{LinkView}
@@ -37,7 +37,8 @@ pub record AskSo (arguments : List (List ℕ)) (Holds : Copying → Type 0) : Ty
   pub arguments_ask : AskFor arguments asked
   pub holds : Holds asked
 
--- the arguments ask for nothing, and that is the ending; or they ask for a copy, of which it says that
+-- the arguments ask for nothing, and that is the ending; or they ask for a copy, of which it says
+-- that
 abbrev pub EndsArguments : {L : Type 0} → (L → LinkView) → List (List ℕ) → Environment L → Environment L → Option (List ℕ) → Option (List ℕ) → MirrorEnding → Type 0
 EndsArguments view arguments before now written written_now ending =
     (AskForNothing arguments × (ending ≡ Usage) × (now ≡ before) × (written_now ≡ written))

@@ -1,4 +1,4 @@
--- What an ending says of what was asked for and of the environment; its status, and its reason.
+-- What an ending implies for the request and the environment; its exit status, and its message.
 use Rattle.std.specs.Prelude.{◌≡◌, ◌≢◌, ◌⊎◌, ℕ, zero, suc, List, [], ◌++◌, codes, decimal, length}
 use Rattle.match_run.specs.declared.cut_short.CutShort.TheVariants as Cut
 use Rattle.taxii_client.specs.Environment.{LinkView}
@@ -16,11 +16,11 @@ use Rattle.command_pull.specs.declared.ending.PullEnd.{PullEnd}
 use Rattle.command_pull.specs.Arguments.{AskFor, AskForNothing}
 use Rattle.command_pull.specs.Pulling.{Environment, StopsAsking, StopsBehind, StopsWriting}
 
--- the last page had no more behind it
+-- the last page had no more after it
 abbrev pub AreAll : {L : Type 0} → List (Page L) → Cursor → Type 0
 AreAll pages cursor = cursor ≡ Over
 
--- as many pages came as a walk may have, and the last had more behind it
+-- as many pages came as a walk may have, and the last had more after it
 abbrev pub AreTooFew : {L : Type 0} → List (Page L) → Cursor → Type 0
 AreTooFew pages cursor = (length pages ≡ MAX_PAGES) × (cursor ≢ Over)
 
@@ -42,7 +42,8 @@ pub record AskSo (arguments : List (List ℕ)) (Holds : Target → Type 0) : Typ
   pub asked : AskFor arguments target
   pub holds : Holds target
 
--- the arguments ask for nothing, and that is the ending; or they ask for a collection, of which it says that
+-- the arguments ask for nothing, and that is the ending; or they ask for a collection, of which it
+-- says that
 abbrev pub EndsArguments : {L : Type 0} → (L → LinkView) → List (List ℕ) → Environment L → Environment L → PullEnd → Type 0
 EndsArguments view arguments before now end =
     (AskForNothing arguments × (end ≡ record { skipped = 0; ending = Usage }) × (now ≡ before))

@@ -26,8 +26,8 @@ pub record LosesLink {L : Type 0} (view : L → LinkView) (target : Target) (bef
   pub through : PassThrough target (earlier ++ last ∷ []) before.dial.observable now.dial.observable
   pub rose : LinkFaultsIncreased (view last.given) (view last.finished)
 
--- the dial's count never falls; the status 5 comes only where it rose or the last link that the run dialled counted a fault, and
--- at no other status did it ascend
+-- the dial's count never falls; the status 5 comes only where it rose or the last link that the run
+-- dialled counted a fault, and at no other status did it ascend
 pub record CountsDial {L : Type 0} (view : L → LinkView) (arguments : List (List ℕ)) (before now : Environment L) (status : ℕ) : Type 0 where
   pub later : before.dial.faults ≤ now.dial.faults
   pub failed : status ≡ 5 → HasIncreased before.dial.faults now.dial.faults ⊎ AskSo arguments (λ target. LosesLink view target before now)

@@ -1,4 +1,4 @@
--- What is told of why a command ended.
+-- What is reported of why a command ended.
 use Rattle.std.specs.Prelude.{◌≡◌, ◌⊎◌, ℕ, List, ◌++◌, Option, codes, decimal}
 use Rattle.flow_edges.specs.Faults.{HasIncreased}
 use Rattle.flow_edges.specs.Flow.{written_with, WritesPrefix}
@@ -20,7 +20,7 @@ pub record IsRefusedPattern (text : List ℕ) (refusal : PatternRefusal) : Type 
 abbrev pub pattern_reason : PatternRefusal → List ℕ
 pattern_reason refusal = codes "pattern refused: " ++ (refusal_text refusal ++ codes "\n")
 
--- over limit at observation N: retained limit N
+-- the message for an exceeded limit on retained partial matches
 abbrev pub over_limit_reason : ℕ → ℕ → List ℕ
 over_limit_reason number retained_limit = codes "crowded at observation " ++ (decimal number ++ (codes ": cap " ++ (decimal retained_limit ++ codes "\n")))
 

@@ -25,7 +25,7 @@ IsMakeLine arguments seed count = IsCommandLine arguments (Make seed count)
 abbrev pub IsServeLine : List (List ℕ) → PlainService → Type 0
 IsServeLine arguments service = IsCommandLine arguments (Serve service)
 
--- the arguments ask for clients to be served
+-- the arguments request a server
 abbrev pub AskToServe : List (List ℕ) → Type 0
 AskToServe arguments = (service : PlainService) × IsServeLine arguments service
 

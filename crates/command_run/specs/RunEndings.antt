@@ -36,14 +36,14 @@ use Rattle.command_make.specs.MakeEndings.{IsTextOfLog, EndsMake, make_status, I
 abbrev pub IsNoCommand : List (List ℕ) → Type 0
 IsNoCommand arguments = (request : PlainRequest) → ¬ IsCommandLine arguments request
 
--- what stands environment at one moment of a run: what is left of the input, and was when its last read began, and the places around
--- a server, among them the output
+-- the environment at one moment of a run: what is left of the input, and was when its last read
+-- began, and the environment of the server, with the output
 pub record Environment (L : Type 0) : Type 0 where
   pub left : Option (List ℕ)
   pub began : Option (List ℕ)
   pub places : Places L
 
--- the same, from what each object tells
+-- the environment, from its observable parts
 abbrev pub environment : {L : Type 0} → Option (List ℕ) → Option (List ℕ) → Option (List ℕ) → Option (DoorState L) → Kept → (ℕ → Option ℕ) → ℕ → Environment L
 environment left began written door kept moments faults = record {
   left = left;
@@ -88,7 +88,7 @@ pub record RunsServe {L : Type 0} (view : L → LinkView) (arguments : List (Lis
   pub serve_ends : EndsServe view service before.places after.places ending
   pub unread : after.left ≡ before.left
 
--- what an ending says of the arguments and of what is environment
+-- what an ending implies for the arguments and the environment
 abbrev pub EndsRun : {L : Type 0} → (L → LinkView) → List (List ℕ) → Environment L → Environment L → Ending → Type 0
 EndsRun view arguments before after (Match ending) = RunsMatch arguments (streams_of before) (streams_of after) ending
 EndsRun view arguments before after (Check ending) = RunsCheck arguments (streams_of before) (streams_of after) ending
@@ -133,7 +133,8 @@ pub record RefusesShow (arguments : List (List ℕ)) : Type 0 where
 abbrev pub RefusesPattern : List (List ℕ) → Type 0
 RefusesPattern arguments = RefusesMatch arguments ⊎ RefusesShow arguments
 
--- the statuses 2 and 3 tell that the arguments are no command line, and that their pattern is refused; only want of memory comes instead
+-- status 2 means that the arguments are no command line, and 3 that the pattern is refused; only
+-- out of memory may replace them
 pub record TellsRefusals (arguments : List (List ℕ)) (status : ℕ) : Type 0 where
   pub usage : status ≡ 2 → IsNoCommand arguments
   pub no_line : IsNoCommand arguments → (status ≡ 2) ⊎ (status ≡ 1)
@@ -150,8 +151,8 @@ pub record Ends {L : Type 0} (view : L → LinkView) (arguments : List (List ℕ
   pub reason : Writes text
   pub refusals : TellsRefusals arguments status
 
--- the text is read as a pattern, the whole input as bundles, and these make a log for it: all bindings of the pattern over
--- that log are written, and nothing else
+-- the text is read as a pattern, the whole input as bundles, and these make a log for it: all
+-- bindings of the pattern over that log are written, and nothing else
 pub record ListsBindings (request : MatchTask) (before after : Streams) : Type 0 where
   pub pattern : Pattern
   pub read : IsReadAs request.pattern pattern
@@ -172,6 +173,6 @@ pub record IsDone (arguments : List (List ℕ)) (before after : Streams) : Type 
   pub listing : (task : MatchTask) → IsMatchLine arguments task → ListsBindings task before after
   pub numbers : (seed count : ℕ) → IsMakeLine arguments seed count → TellsNumbers seed count before after
 
--- a run with that status served no client
+-- a run with this status served no client
 abbrev pub ServesNone : ℕ → Type 0
 ServesNone status = (status ≢ 0) × (status ≢ 6) × (status ≢ 8)

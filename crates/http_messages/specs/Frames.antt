@@ -1,5 +1,6 @@
--- The bytes of a connection as requests (RFC 9112): its first frame is that more is needed, a request, or a refusal. It is a
--- statement on all bytes that came; how they were cut has no part in it.
+-- The bytes of a connection as requests (RFC 9112). The first frame is a request, a refusal, or
+-- that more bytes are needed. It is defined on all bytes received, so how they were split is
+-- irrelevant.
 use Rattle.std.specs.Prelude.{◌≡◌, ℕ, ◌+◌, ◌<◌, ◌≤◌, ◌⊎◌, ◌||◌, if◌then◌else◌, nat_lt, List, [], length, drop, slice_range, codes, Option, Some, None}
 use Rattle.httparse.specs.Grammar.{RequestHead, ReadsRequest}
 use Rattle.http_messages.specs.declared.frame.TheConstants.{MAX_HEAD}
@@ -76,7 +77,7 @@ pub record GivesRequest (greatest : ℕ) (bytes : List ℕ) (request : Request) 
   pub request_is : request ≡ request_of parts (slice_range bytes end (end + body_length parts))
   pub rest_is : rest ≡ drop (end + body_length parts) bytes
 
--- so many bytes came as a head may have, and among them none has ended
+-- as many bytes have arrived as a head may have, without the end of a head
 pub record HasLongHead (bytes : List ℕ) : Type 0 where
   pub full : MAX_HEAD ≤ length bytes
   pub none : HasNoHeadIn MAX_HEAD bytes
@@ -109,7 +110,8 @@ IsFirstFrame greatest bytes More rest = (NeedsHead bytes ⊎ NeedsBody greatest 
 IsFirstFrame greatest bytes (Given request) rest = GivesRequest greatest bytes request rest
 IsFirstFrame greatest bytes (Refused refusal) rest = IsRefused greatest bytes refusal × (rest ≡ bytes)
 
--- what contracts see of a session: the greatest body that it takes, and the bytes that were fed and not yet given
+-- the model of a session: the largest body that it takes, and the bytes that were fed and not yet
+-- given
 pub record SessionState : Type 0 where
   pub max_body : ℕ
   pub fed : List ℕ

@@ -1,5 +1,5 @@
--- The head of a response (RFC 9112, sections 2.1 and 4), and what it says. Where it ends is a matter of its bytes alone: nothing is
--- skipped before it.
+-- The head of a response (RFC 9112, sections 2.1 and 4), and what it says. Where it ends is a
+-- matter of its bytes alone: nothing is skipped before it.
 use Rattle.std.specs.Prelude.{◌≡◌, ℕ, Bool, not, ◌==◌, ◌||◌, if◌then◌else◌, nat_lt, List, [], length, map, codes, Option, Some, None}
 use Rattle.std.specs.List.{list_all}
 use Rattle.httparse.specs.Grammar.{ResponseHead, ReadsResponse, status_code}
@@ -20,7 +20,8 @@ pub record IsHead (head : List ℕ) : Type 0 where
 abbrev pub HoldNoHead : List ℕ → Type 0
 HoldNoHead bytes = HasNoEnd bytes 0 (length bytes)
 
--- a head as its parts: the status and the fields, each a name and a value without the spaces and tabs around it
+-- a head as its parts: the status and the fields, each a name and a value without the spaces and
+-- tabs around it
 pub record HeadParts : Type 0 where
   pub status : ℕ
   pub fields : List (List ℕ × List ℕ)

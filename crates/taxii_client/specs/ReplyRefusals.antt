@@ -1,4 +1,4 @@
--- Why a page doesn't come, layer by layer, and how a refusal is told.
+-- Why a page doesn't come, layer by layer, and how a refusal is reported.
 use Rattle.std.specs.Prelude.{ℕ, List, ◌++◌, codes, decimal}
 use Rattle.stix_json.specs.declared.refusal.JsonRefusal.{JsonRefusal}
 use Rattle.stix_json.specs.declared.refusal.JsonRefusal.TheVariants as Json
@@ -45,7 +45,7 @@ for_fetch Fetch.Cut = Page.Cut
 for_fetch (Fetch.Refused refusal) = Page.Refused refusal
 for_fetch Fetch.NoMemory = Page.NoMemory
 
--- the name of a refusal, and behind that of a status its code
+-- the name of a refusal, and after that of a status its code
 abbrev pub refusal_text : ReplyRefusal → List ℕ
 refusal_text BadHead = codes "BadHead"
 refusal_text (Status code) = codes "Status " ++ decimal code

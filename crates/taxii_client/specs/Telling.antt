@@ -1,4 +1,4 @@
--- What is told of the entries of pages: the good ones are written, and the bad ones counted.
+-- What is reported of the entries of pages: the good ones are written, and the bad ones counted.
 use Rattle.std.specs.Prelude.{⊤, ℕ, Bool, true, false, List, [], ◌++◌, codes, flat_map, count_by, sum_by}
 use Rattle.serde_json.specs.Written.{compact_text}
 use Rattle.stix_json.specs.DataOf.{data_of}

@@ -1,5 +1,6 @@
--- What is asked of every request, in this order: the methods that the resource allows (RFC 9110, section 9.1), what the client accepts
--- (TAXII 2.1, section 1.6.8), what it may do with the collection (section 5.1), the media type of what it sends, and its query (section 3.4).
+-- What is asked of every request, in this order: the methods that the resource allows (RFC 9110,
+-- section 9.1), what the client accepts (TAXII 2.1, section 1.6.8), what it may do with the
+-- collection (section 5.1), the media type of what it sends, and its query (section 3.4).
 use Rattle.std.specs.Prelude.{◌≡◌, ⊤, ℕ, List, Bool, true, false, ◌&&◌, IfSome, IsSomeAnd}
 use Rattle.http_messages.specs.declared.method.Method.{Method}
 use Rattle.http_messages.specs.declared.method.Method.TheVariants.{Get, Head, Post, Delete, Other}

@@ -1,4 +1,4 @@
--- The index of some rows: under which keys it has them, and what its look-ups lead to.
+-- The index of some rows: under which keys it has them, and what its lookups lead to.
 use Rattle.std.specs.Prelude.{◌≡◌, ◌⊎◌, ◌↔◌, ℕ, ◌<◌, pos, negsuc, ◌<ℤ◌, Bool, true, false, List, [], map, All, Any, Option, Some, None, cond, option_map, unwrap_or}
 use Rattle.std.specs.List.{Contains}
 use Rattle.stix_ids.specs.declared.id.Id.{Id}

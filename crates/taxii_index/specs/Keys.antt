@@ -1,4 +1,4 @@
--- A set of keys, told by a list of them.
+-- A set of keys, given by a list of them.
 use Rattle.std.specs.Prelude.{◌≡◌, false, ℕ, ◌<◌, ◌^◌, ℤ, FitsSigned, IsTrue, ◌↔◌, List}
 use Rattle.std.specs.Int.{w64}
 use Rattle.std.specs.List.{Contains}
@@ -7,7 +7,7 @@ use Rattle.std.specs.Ordering.{ordering_then, nat_cmp, int_cmp}
 use Rattle.std.specs.BTreeSet.{BTreeSet, contains}
 use Rattle.taxii_rows.specs.Keeper.{is_date_in}
 
--- a name, a number, and a date
+-- a name (keyed hash), a version or 0, and a date
 abbrev pub Key : Type 0
 Key = ℕ × ℤ × ℕ
 

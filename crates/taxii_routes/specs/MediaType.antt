@@ -39,7 +39,7 @@ is_equals_sign byte = byte == 61
 abbrev pub range_of : List ℕ → List ℕ
 range_of text = before_first is_semicolon text
 
--- parameters = *( OWS ";" OWS [ parameter ] ): the parts behind the first semicolon
+-- parameters = *( OWS ";" OWS [ parameter ] ): the parts after the first semicolon
 abbrev pub parameters_of : List ℕ → List (List ℕ)
 parameters_of text = drop 1 (slice_split is_semicolon text)
 
@@ -67,6 +67,7 @@ pub record IsTaxii (text : List ℕ) : Type 0 where
 abbrev pub IsWildcard : List ℕ → Type 0
 IsWildcard text = IsNamed (codes "*/*") (range_of text) ⊎ IsNamed (codes "application/*") (range_of text)
 
--- Accept = #( media-range [ weight ] ): some member of the list is TAXII's type, or a range that takes it in
+-- Accept = #( media-range [ weight ] ): some member of the list is TAXII's type, or a range that
+-- takes it in
 abbrev pub Accepts : List ℕ → Type 0
 Accepts text = Any (λ member. IsTaxii member ⊎ IsWildcard member) (slice_split is_comma text)

@@ -1,5 +1,5 @@
--- Which versions of an object are picked (`match[version]` of TAXII 2.1, section 3.4), among the rows of one collection and
--- identifier that a store has.
+-- Which versions of an object are picked (`match[version]` of TAXII 2.1, section 3.4), among the
+-- rows of one collection and identifier that a store has.
 use Rattle.std.specs.Prelude.{◌≡◌, ◌⊎◌, ◌<ℤ◌, ◌≤◌, true, ⊤, List, Any}
 use Rattle.std.specs.List.{Contains}
 use Rattle.stix_ids.specs.declared.pick.Pick.{Pick}

@@ -1,4 +1,5 @@
--- What a GET of a resource answers (TAXII 2.1, sections 4 and 5), behind what is asked of every request.
+-- What a GET of a resource answers (TAXII 2.1, sections 4 and 5), after what is asked of every
+-- request.
 use Rattle.std.specs.Prelude.{◌≡◌, ℕ, List, [], ◌∷◌, Bool, Option, Some, None}
 use Rattle.serde_json.specs.Written.{compact_text}
 use Rattle.stix_ids.specs.declared.id.Id.{Id}

@@ -1,4 +1,5 @@
--- One step of a server (TAXII 2.1, sections 3 to 5): a request at a moment, its answer, and what the server has after it.
+-- One step of a server (TAXII 2.1, sections 3 to 5): a request at a moment, its answer, and what
+-- the server has after it.
 use Rattle.std.specs.Prelude.{◌≡◌, ◌≢◌, ◌⊎◌, ℕ, List, [], Option, Some, None, unwrap_or}
 use Rattle.stix_ids.specs.declared.id.Id.{Id}
 use Rattle.stix_ids.specs.Identifier.{IsTextOf}
@@ -106,7 +107,7 @@ pub record IsDone (config : Config) (before : State) (moment : ℕ) (request : R
   pub query_is : IsQueryOf (pairs_of text) query
   pub does : Does config before moment request route query request.method answer after
 
--- the answer to a refusal; want of memory has one of its own
+-- the response to a refusal; out of memory has a separate one
 abbrev pub IsAnswerTo : Method → Refusal → Answer → Type 0
 IsAnswerTo method (NotAllowed its) answer = answer ≡ bare_answer MethodNotAllowed (Some its)
 IsAnswerTo method (Problem problem) answer = answer ≡ answer_to_problem method problem

@@ -21,12 +21,12 @@ pub record AlerterState : Type 0 where
   pub pattern : Pattern
   pub watch : WatchState
 
--- a watch stands for a log, whose rows are in order
+-- a watch represents a log, whose rows are in order
 pub record IsBehind (watch : WatchState) (log : List LogEntry) : Type 0 where
   pub represents : Represents watch log
   pub order : IsInOrder log
 
--- the pattern is one pair of brackets, and the watch stands for some log
+-- the pattern is one pair of brackets, and the watch represents some log
 pub record IsReady (alerter : AlerterState) : Type 0 where
   pub sound : IsSoundPattern (plain_pattern alerter.pattern)
   pub one : IsOneLeaf alerter.pattern
@@ -36,12 +36,12 @@ pub record IsReady (alerter : AlerterState) : Type 0 where
 abbrev pub row_of : Observation → Bool → LogEntry
 row_of o holds = record { first = o.first; last = o.last; truths = holds ∷ [] }
 
--- behind a log some rows came, of which this text is reported
+-- after a log some rows came, of which this text is reported
 pub record ReportsBehind (n x : ℕ) (log rows : List LogEntry) (watch : WatchState) (text : List ℕ) : Type 0 where
   pub behind : IsBehind watch (log ++ rows)
   pub reports : ReportsRows (IsAlert n x (log ++ rows)) (length log + 1) rows text
 
--- behind whatever log
+-- after any log
 pub record TakesRows (rows : List LogEntry) (before after : AlerterState) (text : List ℕ) : Type 0 where
   pub pattern_is : after.pattern ≡ before.pattern
   pub n_is : after.watch.n ≡ before.watch.n

@@ -52,7 +52,7 @@ HasRule arg rule = (rule_of arg ≡ rule) × (arg.global ≡ false)
 abbrev pub IsCommandOf : Command → App → Type 0
 IsCommandOf command app = (app_of command ≡ app) × ((fields_of command).has_globals ≡ false)
 
--- no help, no version, no name of the program among the arguments, and no arguments without a command
+-- no help, no version, no program name among the arguments, and a command is required
 abbrev pub without_extras : Shape → Shape
 without_extras shape = record shape {
   no_binary_name = true;

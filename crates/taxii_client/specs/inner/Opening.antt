@@ -9,7 +9,7 @@ use Rattle.taxii_client.specs.Absorbing.{MirrorState}
 use Rattle.taxii_client.specs.declared.stop.FetchStop.{FetchStop}
 use Rattle.taxii_client.specs.declared.stop.FetchStop.TheVariants as Stop
 
--- why no page is asked for behind one that didn't come so; nothing where it was lost
+-- why no page is asked for after one that didn't come so; nothing where it was lost
 abbrev pub stop_of : PageEnd → Option FetchStop
 stop_of Page.Fault = None
 stop_of Page.Cut = None
