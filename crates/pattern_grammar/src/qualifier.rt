@@ -1,6 +1,6 @@
 use pattern_lexer::Token;
 
-/// A qualifier of a pattern (STIX 2.1, section 9.4).
+/// A qualifier of a pattern (STIX 2.1, section 9.5.1).
 #[derive(Clone, Copy, Debug, PartialEq, Eq)]
 pub enum Qualifier {
     /// `WITHIN x SECONDS`: the token of `x`.

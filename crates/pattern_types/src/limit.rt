@@ -6,7 +6,7 @@ pub const MAX_WIDTH: u32 = 64;
 /// The greatest number of pairs of brackets of a pattern.
 pub const MAX_BRACKETS: u32 = 1_024;
 
-/// A qualifier of a pattern (STIX 2.1, section 9.4).
+/// A qualifier of a pattern (STIX 2.1, section 9.5.1).
 #[derive(Clone, Copy, Debug)]
 pub enum Limit {
     /// `WITHIN x SECONDS`.
