@@ -17,7 +17,7 @@ use Rattle.match_stream.specs.declared.query.Query.{Query}
 use Rattle.match_stream.specs.PartialMatchTree.{PartialMatchTree}
 use Rattle.match_stream.specs.inner.PartialMatches.{partial_match_tree, partial_match_trees}
 use Rattle.match_stream.specs.inner.CompletionBounds.{covers}
-use Rattle.match_stream.specs.inner.Sieves.{HasCommon, IsCommonTo, IsQueryOf, CannotJoin, AreTried, BeginsEarly}
+use Rattle.match_stream.specs.inner.SkipIndexes.{HasCommon, IsCommonTo, IsQueryOf, CannotJoin, AreTried, BeginsEarly}
 use Rattle.match_stream.specs.inner.Steps.{joined, may_join, join_row}
 use Rattle.match_stream.specs.inner.Needed.{PendingLeftTrees, is_needed, needed}
 use Rattle.match_stream.proofs.RetainsLemmas.{le_trans}

@@ -5,7 +5,7 @@ pub mod Steps
 pub mod Needed
 pub mod Totals
 pub mod PendingLefts
-pub mod Demands
+pub mod JoinFilters
 pub mod Shape
 pub mod Heaps
 pub mod UpToOrder
@@ -14,5 +14,5 @@ pub mod Numbers
 pub mod CompletionBounds
 pub mod TreeCode
 pub mod ObservableState
-pub mod Sieves
+pub mod SkipIndexes
 pub mod Picks

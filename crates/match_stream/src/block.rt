@@ -8,7 +8,7 @@
 ghost use Rattle.std.specs.Prelude.{◌≡◌, ◌≤◌, ◌<◌, length, IfOk, IfSome};
 ghost use Rattle.std.specs.List.{Contains};
 ghost use Rattle.match_stream.specs.declared.key.Key.{Key};
-ghost use Rattle.match_stream.specs.inner.Sieves.{IsCommonTo, IsBlockOf, AreBlocksOf};
+ghost use Rattle.match_stream.specs.inner.SkipIndexes.{IsCommonTo, IsBlockOf, AreBlocksOf};
 
 use crate::key::Key;
 use flow_values::NoMemory;

@@ -7,7 +7,7 @@ ghost use Rattle.std.specs.Prelude.{◌≡◌, ◌≤ℤ◌, true, false, IfOk, 
 ghost use Rattle.std.specs.Int.{int_min, int_max};
 ghost use Rattle.match_bindings.specs.BindTree.{tree_of, disjoint};
 ghost use Rattle.match_stream.specs.PartialMatchTree.{PartialMatchTree};
-ghost use Rattle.match_stream.specs.inner.Demands.{AreAdded, AreTooMany};
+ghost use Rattle.match_stream.specs.inner.JoinFilters.{AreAdded, AreTooMany};
 ghost use Rattle.match_stream.specs.inner.PartialMatches.{partial_match_tree, partial_match_trees};
 ghost use Rattle.match_stream.specs.inner.Steps.{joined_tree, joined, may_join, joins};
 ghost use Rattle.match_stream.specs.declared.stop.Stop.TheVariants as stop;

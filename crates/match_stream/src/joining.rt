@@ -6,11 +6,11 @@
 
 ghost use Rattle.std.proofs.Props.{props};
 ghost use Rattle.std.specs.Prelude.{◌≡◌, ◌∷◌, ◌<◌, ◌≤◌, [], true, length, IfOk, OnOk, Err};
-ghost use Rattle.match_stream.specs.inner.Demands.{AreAdded, AreTooMany};
+ghost use Rattle.match_stream.specs.inner.JoinFilters.{AreAdded, AreTooMany};
 ghost use Rattle.match_stream.specs.inner.PendingLefts.{pending_lefts_of};
 ghost use Rattle.match_stream.specs.inner.PartialMatches.{partial_match_tree, partial_match_trees};
 ghost use Rattle.match_stream.specs.inner.CompletionBounds.{IsEarliestStart};
-ghost use Rattle.match_stream.specs.inner.Sieves.{AreTried, IsSkipIndexOf};
+ghost use Rattle.match_stream.specs.inner.SkipIndexes.{AreTried, IsSkipIndexOf};
 ghost use Rattle.match_stream.specs.inner.Steps.{join_row, joins};
 ghost use Rattle.match_stream.specs.inner.Needed.{is_needed};
 ghost use Rattle.match_stream.specs.declared.stop.Stop.TheVariants as stop;

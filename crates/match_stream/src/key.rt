@@ -1,6 +1,6 @@
 ghost use Rattle.std.specs.Prelude.{◌≡◌, IfOk};
 ghost use Rattle.match_stream.specs.inner.PartialMatches.{partial_match_tree};
-ghost use Rattle.match_stream.specs.inner.Sieves.{HasCommon};
+ghost use Rattle.match_stream.specs.inner.SkipIndexes.{HasCommon};
 
 use crate::numbers::numbers_of;
 use crate::partial_match::PartialMatch;

@@ -1,7 +1,7 @@
 ghost use Rattle.std.specs.Prelude.{◌≡◌, true, IfOk};
 ghost use Rattle.match_stream.specs.PartialMatchTree.{PartialMatchTree};
 ghost use Rattle.match_stream.specs.inner.PartialMatches.{partial_match_tree};
-ghost use Rattle.match_stream.specs.inner.Sieves.{HasCommon, IsQueryOf, CannotJoin};
+ghost use Rattle.match_stream.specs.inner.SkipIndexes.{HasCommon, IsQueryOf, CannotJoin};
 
 use crate::earliest_start::EarliestStart;
 use crate::join::Join;

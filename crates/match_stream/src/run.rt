@@ -57,7 +57,7 @@ impl Run {
         truths: &[bool],
     ) -> Result<Items<Bind>, Ending>
         requires span { first ≤ℤ last }
-        requires budget { self.old.rows + 1 < 2 ^ 64 }
+        requires counts { self.old.rows + 1 < 2 ^ 64 }
         ensures in_order { (before now : ℤ) → ¬ (result ≡ Err (ending.OutOfOrder before now)) }
         ensures over_limit { (number retained_limit : ℕ)
             → result ≡ Err (ending.OverLimit number retained_limit)

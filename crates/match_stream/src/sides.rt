@@ -2,7 +2,7 @@ ghost use Rattle.std.specs.Prelude.{◌≡◌, ◌+◌, ◌<◌, false, length, 
 ghost use Rattle.match_pruning.specs.Stores.{window_of};
 ghost use Rattle.match_stream.specs.inner.PartialMatches.{partial_match_trees};
 ghost use Rattle.match_stream.specs.inner.Steps.{joins_both, sides_kept, sides_stored, sides_count, empty_sides};
-ghost use Rattle.match_stream.specs.inner.Demands.{join_filtered};
+ghost use Rattle.match_stream.specs.inner.JoinFilters.{join_filtered};
 ghost use Rattle.match_stream.specs.declared.stop.Stop.TheVariants as stop;
 ghost use Rattle.match_stream.specs.inner.Nodes.{side_stores};
 ghost use Rattle.match_stream.specs.inner.UpToOrder.{AreSameSides};

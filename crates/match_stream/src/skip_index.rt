@@ -12,7 +12,7 @@ ghost use Rattle.std.specs.List.{AllWithin, Contains};
 ghost use Rattle.match_stream.specs.declared.key.Key.{Key};
 ghost use Rattle.match_stream.specs.declared.partial_match.PartialMatch.{PartialMatch};
 ghost use Rattle.match_stream.specs.inner.PartialMatches.{partial_match_tree};
-ghost use Rattle.match_stream.specs.inner.Sieves.{AreKeysOf, AreLevelsOf, AreTried, IsExcluded, IsSkipIndexOf};
+ghost use Rattle.match_stream.specs.inner.SkipIndexes.{AreKeysOf, AreLevelsOf, AreTried, IsExcluded, IsSkipIndexOf};
 
 use crate::block::Blocks;
 use crate::earliest_start::EarliestStart;

@@ -45,7 +45,7 @@ impl Store {
         ensures { AreSameMultiset (kept window.now now (partial_match_trees self.old.held.items))
             (partial_match_trees self.new.held.items) }
     {
-        self.augment();
+        self.heapify();
         while let Some(first) = self.held.first() {
             if is_retained(window, first.earliest, now) {
                 return;
@@ -55,7 +55,7 @@ impl Store {
     }
 
     /// Sifts the elements added since the last expiry into the heap.
-    fn augment(&mut self)
+    fn heapify(&mut self)
         ensures same { AreSameMultiset (partial_match_trees self.old.held.items)
             (partial_match_trees self.new.held.items) }
         ensures heaped { self.new.heaped ≡ length self.new.held.items }

@@ -3,7 +3,7 @@ use Rattle.std.proofs.Common.{List, subst, inl, inr, rules}
 use Rattle.std.specs.List.{Contains}
 use Rattle.std.proofs.lemmas.List.Elements.{Contains-push_cases}
 use Rattle.match_stream.specs.declared.block.Blocks.{Blocks}
-use Rattle.match_stream.specs.inner.Sieves.{AreBlocksOf}
+use Rattle.match_stream.specs.inner.SkipIndexes.{AreBlocksOf}
 use Rattle.match_stream.proofs.skip_index.levels.Goals as goal
 
 pub sizes-preserved : goal.sizes-preserved

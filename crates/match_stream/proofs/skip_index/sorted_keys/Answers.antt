@@ -8,7 +8,7 @@ use Rattle.std.proofs.lemmas.List.Sorted.{Contains-permutation, IsPermutation-sy
 use Rattle.match_stream.specs.declared.key.Key.{Key}
 use Rattle.match_stream.specs.declared.partial_match.PartialMatch.{PartialMatch}
 use Rattle.match_stream.specs.inner.PartialMatches.{partial_match_tree}
-use Rattle.match_stream.specs.inner.Sieves.{HasCommon}
+use Rattle.match_stream.specs.inner.SkipIndexes.{HasCommon}
 use Rattle.match_stream.proofs.skip_index.sorted_keys.Goals as goal
 
 pub places-preserved : goal.places-preserved

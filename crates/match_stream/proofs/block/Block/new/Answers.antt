@@ -2,7 +2,7 @@
 use Rattle.std.proofs.Common.{◌<◌, length, ◌∙◌, rules}
 use Rattle.std.specs.Prelude.{slice_index_or}
 use Rattle.std.proofs.lemmas.List.Elements.{at_read, AllWithin-more}
-use Rattle.match_stream.specs.inner.Sieves.{IsCommonTo}
+use Rattle.match_stream.specs.inner.SkipIndexes.{IsCommonTo}
 use Rattle.match_stream.proofs.block.Block.new.Goals as goal
 
 pub places-preserved : goal.places-preserved

@@ -1,6 +1,6 @@
 use Rattle.std.proofs.Common.{◌≡◌}
 use Rattle.std.specs.List.{AllWithin}
-use Rattle.match_stream.specs.inner.Sieves.{IsCommonTo}
+use Rattle.match_stream.specs.inner.SkipIndexes.{IsCommonTo}
 use Rattle.match_stream.proofs.block.Block.new.Given as goal
 
 abbrev pub invariant-places : goal.invariant-places

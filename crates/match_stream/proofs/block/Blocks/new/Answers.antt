@@ -3,7 +3,7 @@ use Rattle.std.proofs.Common.{List, subst, inl, inr}
 use Rattle.std.specs.List.{Contains}
 use Rattle.std.proofs.lemmas.List.Elements.{Contains-push_cases}
 use Rattle.match_stream.specs.declared.block.Block.{Block}
-use Rattle.match_stream.specs.inner.Sieves.{IsBlockOf}
+use Rattle.match_stream.specs.inner.SkipIndexes.{IsBlockOf}
 use Rattle.match_stream.proofs.block.Blocks.new.Goals as goal
 
 pub blocks-preserved : goal.blocks-preserved

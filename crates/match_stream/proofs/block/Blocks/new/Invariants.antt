@@ -1,7 +1,7 @@
 use Rattle.std.proofs.Common.{◌-◌, length}
 use Rattle.std.specs.List.{Contains}
 use Rattle.match_stream.specs.declared.block.Block.{Block}
-use Rattle.match_stream.specs.inner.Sieves.{IsBlockOf}
+use Rattle.match_stream.specs.inner.SkipIndexes.{IsBlockOf}
 use Rattle.match_stream.proofs.block.Blocks.new.Given as goal
 
 abbrev pub invariant-blocks : goal.invariant-blocks

@@ -5,7 +5,7 @@ use Rattle.std.specs.List.{Contains}
 use Rattle.std.proofs.lemmas.Bool.{cases_order}
 use Rattle.std.proofs.lemmas.List.Elements.{at_read, AllWithin-more, Contains-append_left, Contains-push, Contains-push_cases}
 use Rattle.match_stream.specs.declared.key.Key.{Key}
-use Rattle.match_stream.specs.inner.Sieves.{HasCommon, IsExcluded}
+use Rattle.match_stream.specs.inner.SkipIndexes.{HasCommon, IsExcluded}
 use Rattle.match_stream.proofs.skip_index.SkipIndex.found.Goals as goal
 use Rattle.match_stream.proofs.skip_index.SkipIndex.found.Goals.{then-not-excludes+in_ok-push, else-not-excludes}
 

@@ -1,7 +1,7 @@
 use Rattle.std.proofs.Common.{◌≡◌, ◌-◌, ◌⊎◌, ℕ, length}
 use Rattle.std.specs.List.{Contains, AllWithin}
 use Rattle.match_stream.specs.declared.key.Key.{Key}
-use Rattle.match_stream.specs.inner.Sieves.{IsExcluded}
+use Rattle.match_stream.specs.inner.SkipIndexes.{IsExcluded}
 use Rattle.match_stream.proofs.skip_index.SkipIndex.found.Given as goal
 
 abbrev pub invariant-keys : goal.invariant-keys

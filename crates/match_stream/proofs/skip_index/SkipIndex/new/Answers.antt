@@ -1,6 +1,6 @@
 use Rattle.std.proofs.Common.{List, subst}
 use Rattle.match_stream.specs.declared.key.Key.{Key}
-use Rattle.match_stream.specs.inner.Sieves.{AreLevelsOf}
+use Rattle.match_stream.specs.inner.SkipIndexes.{AreLevelsOf}
 use Rattle.match_stream.proofs.skip_index.SkipIndex.new.Goals as goal
 
 pub returns : goal.returns

@@ -4,7 +4,7 @@ use Rattle.std.specs.Prelude.{slice_index_or}
 use Rattle.std.specs.List.{Contains}
 use Rattle.std.proofs.lemmas.List.Elements.{Contains-append_left, Contains-push}
 use Rattle.match_stream.specs.declared.block.Blocks.{Blocks}
-use Rattle.match_stream.specs.inner.Sieves.{HasCommon}
+use Rattle.match_stream.specs.inner.SkipIndexes.{HasCommon}
 use Rattle.match_stream.proofs.SkipIndexLemmas.{common_over}
 use Rattle.match_stream.proofs.skip_index.SkipIndex.passed.Goals as goal
 

@@ -1,5 +1,5 @@
 use Rattle.std.proofs.Common.{length}
-use Rattle.match_stream.specs.inner.Sieves.{AreLevelsOf}
+use Rattle.match_stream.specs.inner.SkipIndexes.{AreLevelsOf}
 use Rattle.match_stream.proofs.skip_index.SkipIndex.passed.Given as goal
 
 abbrev pub invariant-levels : goal.invariant-levels

@@ -4,7 +4,7 @@ use Rattle.std.specs.Prelude.{slice_index_or}
 use Rattle.std.specs.List.{Contains}
 use Rattle.std.proofs.lemmas.List.Sorted.{Contains-permutation, IsPermutation-sym, IsNonDecreasingBy-from_sort}
 use Rattle.match_stream.specs.inner.PartialMatches.{partial_match_tree}
-use Rattle.match_stream.specs.inner.Sieves.{HasCommon}
+use Rattle.match_stream.specs.inner.SkipIndexes.{HasCommon}
 use Rattle.match_stream.proofs.SkipIndexLemmas.{vain_told}
 use Rattle.match_stream.proofs.skip_index.SkipIndex.places.Goals as goal
 

@@ -1,7 +1,7 @@
 use Rattle.std.proofs.Common.{◌-◌, length}
 use Rattle.match_stream.specs.inner.PartialMatches.{partial_match_trees}
 use Rattle.match_stream.specs.inner.UpToOrder.{AreSameMultiset}
-use Rattle.match_stream.proofs.store.Store.augment.Given as goal
+use Rattle.match_stream.proofs.store.Store.heapify.Given as goal
 
 abbrev pub invariant-loop-self : goal.invariant-loop-self
 invariant-loop-self l = AreSameMultiset (partial_match_trees l.fn.self.held.items) (partial_match_trees l.self.held.items)
