@@ -12,7 +12,7 @@ use Rattle.match_bindings.specs.Flat.{comes_before, Ascends}
 use Rattle.match_bindings.specs.Listing.{IsListing}
 use Rattle.match_bindings.proofs.OnceLemmas.{same_self, count_append, count_filter}
 use Rattle.match_bindings.proofs.FlatLemmas.{tail_ascends}
-use Rattle.match_stream.proofs.NumberLemmas.{has_greatest, greatest_binding, old_binding}
+use Rattle.match_pruning.proofs.NumberLemmas.{has_greatest, greatest_binding, old_binding}
 use Rattle.match_stream.proofs.StoreLemmas.{bit_positive}
 use Rattle.match_stream.proofs.LastingLemmas.{lasting}
 use Rattle.match_stream.proofs.LogLemmas.{holds_inside, length_more, continues}

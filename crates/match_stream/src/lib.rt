@@ -23,37 +23,18 @@
 //! ```
 #![tactic(auto)]
 
-mod block;
 mod budget;
-mod completion_bound;
-mod earliest_start;
 mod ending;
 mod expired;
-mod greedy_completion;
-mod heap;
-mod join;
-mod join_filter;
-mod joining;
-mod key;
 pub mod laws;
 mod leaves;
 mod level_step;
 mod levels;
 mod matcher;
-mod matching;
-mod needed;
 mod node;
-mod numbers;
-mod partial_match;
-mod pending_left;
-mod query;
-mod row;
 mod row_numbers;
 mod run;
 mod sides;
-mod skip_index;
-mod stop;
-mod store;
 
 pub use ending::{Ending, MatchRefusal};
 pub use matcher::Matcher;

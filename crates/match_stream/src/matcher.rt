@@ -10,7 +10,7 @@ ghost use Rattle.match_stream.specs.MatcherState.{Represents, with_row};
 ghost use Rattle.match_stream.specs.Answer.{AnswersRow, IsOverLimitAtRow, AnswersAfter};
 ghost use Rattle.match_stream.specs.Passing.{ContinuesWithoutMatch, no_answers};
 ghost use Rattle.match_bindings.specs.NumberedPattern.{numbered_pattern};
-ghost use Rattle.match_stream.specs.RowNumbers.{AreKept};
+ghost use Rattle.match_pruning.specs.RowNumbers.{AreKept};
 
 use crate::node::empty_node;
 use crate::row_numbers::kept_numbers;
