@@ -9,10 +9,8 @@
 //! of a binding, and answers every binding, each once. Memory stays within `retained_limit` partial
 //! matches.
 //!
-//! Three proved shortcuts keep dense logs affordable. `skip_index` is a skip index over sorted
-//! keys. `needed` tries a greedy completion and an admissible bound before its exhaustive search.
-//! `heap` is a 4-ary heap by expiry. `laws` states that the answers to the rows of a log,
-//! concatenated, are the listing of `match_bindings`.
+//! `match_pruning` has the stores and joins, and what keeps dense logs affordable. `laws` states that
+//! the answers to the rows of a log, concatenated, are the listing of `match_bindings`.
 //!
 //! ```text
 //! let mut matcher = Matcher::new(alloc, &pattern, 100_000)?;
