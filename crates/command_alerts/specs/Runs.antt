@@ -10,7 +10,7 @@ use Rattle.command_alerts.specs.Tasks.{AlertTask, AskFor, AskForNothing, IsReadA
 use Rattle.command_alerts.specs.Telling.{ReportsBundles}
 use Rattle.command_alerts.specs.Endings.{AskSo, EndsAlerts, alert_status, IsAlertReason}
 
--- the program ended in one of its ways, with that status and that reason
+-- the program ended with one of the endings, with its exit status and its message
 pub record Ends (arguments : List (List ℕ)) (before after : Streams) (status : ℕ) (Writes : List ℕ → Type 0) : Type 0 where
   pub ending : AlertEnding
   pub status_is : status ≡ alert_status ending
@@ -19,7 +19,7 @@ pub record Ends (arguments : List (List ℕ)) (before after : Streams) (status :
   pub reason_is : IsAlertReason ending text
   pub reason : Writes text
 
--- the arguments ask for the alerts of what is no pair of brackets
+-- the arguments ask for the alerts of what is not one observation expression
 abbrev pub RefusesPattern : List (List ℕ) → Type 0
 RefusesPattern arguments = AskSo arguments (λ task. IsReadAsNoLeaf task.pattern)
 

@@ -73,7 +73,7 @@ pub record StopsBetween (p : Pattern) (n x : ℕ) (before after : Streams) : Typ
   pub begins : HasPrefix Lines before.left bundles
   pub reports : ReportsBundles p n x bundles before.written after.written
 
--- what an end says; nothing but memory, the input and the output stops the run
+-- what an end implies; nothing but memory, the input and the output stops the run
 abbrev pub AnswersAlerts : Pattern → ℕ → ℕ → Streams → Streams → WatchEnd Infallible → Type 0
 AnswersAlerts p n x before after Done = ReportsWhole p n x before after
 AnswersAlerts p n x before after (Input line why) = ReportsBefore p n x before after line why

@@ -154,7 +154,10 @@ pub fn run_alerts<I: Source, O: Sink, E: Sink>(
         (streams (I.left input.new) (I.began input.new) (O.written output.new)) result
         (λ reason. WritesReason reason (E.written faults.old) (E.written faults.new)
         (E.faults faults.old) (E.faults faults.new)) }
+    // what the statuses 2 and 3 mean
     ensures refusals { ReportsRefusals (texts arguments.now) result }
+    // with status 0 or 4 exactly the alerts of the bundles before the end, or the refused line,
+    // were written
     ensures reported { (result ≡ 0) ⊎ (result ≡ 4)
         → ReportsInput (texts arguments.now)
         (streams (I.left input.old) (I.began input.old) (O.written output.old))

@@ -14,7 +14,7 @@ use Rattle.command_hunt.specs.Feeding.{NamesFile, IsFed, IsRefusedFeed}
 use Rattle.command_hunt.specs.Telling.{ReportsTo, StopsOverLimit}
 use Rattle.command_hunt.specs.Endings.{AskSo, EndsHunt, hunt_status, IsHuntReason}
 
--- the program ended in one of its ways, with that status and that reason
+-- the program ended with one of the endings, with its exit status and its message
 pub record Ends (arguments : List (List ℕ)) (contents : List ℕ → Option (List ℕ)) (before after : Streams) (status : ℕ) (Writes : List ℕ → Type 0) : Type 0 where
   pub ending : HuntEnding
   pub status_is : status ≡ hunt_status ending

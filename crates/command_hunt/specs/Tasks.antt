@@ -12,11 +12,11 @@ pub record HuntTask : Type 0 where
   pub moment : ℤ
   pub retained_limit : ℕ
 
--- what is asked for
+-- what is requested
 abbrev pub task_of : HuntRequest → HuntTask
 task_of request = record { file = option_map (λ name. name.now) request.file; moment = request.moment; retained_limit = request.retained_limit }
 
--- the arguments are TIME, or TIME Retained limit
+-- the arguments are TIME, or TIME CAP
 pub record ArePositions (arguments : List (List ℕ)) (moment : ℤ) (retained_limit : ℕ) : Type 0 where
   pub time : List ℕ
   pub caps : List (List ℕ)
@@ -31,7 +31,7 @@ pub record AreWithOption (option name : List ℕ) (others : List (List ℕ)) (ta
   pub file_is : task.file ≡ Some name
   pub positions : ArePositions others task.moment task.retained_limit
 
--- the option stands ahead of the positions, or after them
+-- the option is before the positional arguments, or after them
 pub record OptionBefore (arguments : List (List ℕ)) (task : HuntTask) : Type 0 where
   pub option : List ℕ
   pub name : List ℕ
@@ -46,10 +46,10 @@ pub record OptionAfter (arguments : List (List ℕ)) (task : HuntTask) : Type 0 
   pub arguments_are : arguments ≡ others ++ option ∷ name ∷ []
   pub are : AreWithOption option name others task
 
--- the arguments ask for this: positions alone, or with the option
+-- the arguments request this: positional arguments alone, or with the option
 abbrev pub AskFor : List (List ℕ) → HuntTask → Type 0
 AskFor arguments task = ((task.file ≡ None) × ArePositions arguments task.moment task.retained_limit) ⊎ OptionBefore arguments task ⊎ OptionAfter arguments task
 
--- they ask for nothing
+-- the arguments are no command line
 abbrev pub AskForNothing : List (List ℕ) → Type 0
 AskForNothing arguments = (task : HuntTask) → ¬ AskFor arguments task

@@ -168,7 +168,7 @@ module _ (task : HuntTask) (file : Option (List Data)) (before after : Streams) 
   abbrev pub StopsUnreported : Type 0
   StopsUnreported = after.written ≡ before.written
 
-  -- what an end says
+  -- what an end implies
   abbrev pub AnswersHunt : WatchEnd OverLimit → Type 0
   AnswersHunt Done = HuntsWhole
   AnswersHunt (Input line why) = HuntsBefore line why

@@ -73,6 +73,7 @@ fn report<O: Sink>(
     ensures end { (rows : List Row) (hits : List Hit) → HuntsOver hunter.now rows hits
         → Reports request.now.moment rows hits hunter.now.hunted (O.written output.old)
         (O.written output.new) result }
+    // the report reads no input
     ensures unread { result ≢ WatchEnd.ReadFault }
     ensures causes { Counted (result ≡ WatchEnd.WriteFault) (O.faults output.old)
         (O.faults output.new) }
@@ -319,6 +320,7 @@ fn execute<F: Files, I: Source, O: Sink>(
         (streams (I.left input.new) (I.began input.new) (O.written output.new)) result }
     ensures untouched { hunt_status result ≡ 2
         → (files.new ≡ files.old) × (input.new ≡ input.old) × (output.new ≡ output.old) }
+    // without `--indicators` no file is opened
     ensures unopened { ¬ AskForFile (texts arguments.now) → files.new ≡ files.old }
     ensures reads { CountedByOne (AskForFile (texts arguments.now)) (hunt_status result ≡ 5)
         (I.faults input.old) (I.faults input.new)
@@ -370,6 +372,7 @@ pub fn run_hunt<F: Files, I: Source, O: Sink, E: Sink>(
         (λ reason. WritesReason reason (E.written faults.old) (E.written faults.new)
         (E.faults faults.old) (E.faults faults.new)) }
     ensures refusals { (result ≡ 2) ↔ AskForNothing (texts arguments.now) }
+    // with status 0 or 4 exactly the hits were written, or the indicator file was refused
     ensures reported { (result ≡ 0) ⊎ (result ≡ 4)
         → AskSo (texts arguments.now) (HuntsOrRefuses (F.contents files.old)
         (streams (I.left input.old) (I.began input.old) (O.written output.old))
@@ -381,6 +384,7 @@ pub fn run_hunt<F: Files, I: Source, O: Sink, E: Sink>(
     ensures untouched { result ≡ 2
         → (files.new ≡ files.old) × (input.new ≡ input.old) × (output.new ≡ output.old) }
     ensures unopened { ¬ AskForFile (texts arguments.now) → files.new ≡ files.old }
+    // status 5 exactly if the input or, with `--indicators`, the files counted a fault
     ensures reads { CountedByOne (AskForFile (texts arguments.now)) (result ≡ 5)
         (I.faults input.old) (I.faults input.new) (F.faults files.old) (F.faults files.new) }
     ensures output { Counted (result ≡ 6) (O.faults output.old) (O.faults output.new) }

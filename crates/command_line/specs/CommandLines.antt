@@ -28,7 +28,7 @@ values_of name (Flag other ∷ parts) = values_of name parts
 values_of name (Valued other value ∷ parts) = if bytes_eq other name then value ∷ values_of name parts else values_of name parts
 values_of name (Position argument ∷ parts) = values_of name parts
 
--- a flag stands there once, or not at all
+-- a flag occurs once, or not at all
 abbrev pub IsFlag : List (List ℕ) → Bool → Type 0
 IsFlag [] given = given ≡ false
 IsFlag (flag ∷ []) given = given ≡ true
@@ -42,7 +42,7 @@ pub record IsNumberIn (least most : ℕ) (text : List ℕ) (number : ℕ) : Type
   pub at_least : least ≤ number
   pub at_most : number ≤ most
 
--- the number that an option names, or the usual one where it isn't there
+-- the number that an option gives, or the default if it is absent
 abbrev pub IsNumberOr : ℕ → ℕ → ℕ → List (List ℕ) → ℕ → Type 0
 IsNumberOr usual least most [] number = number ≡ usual
 IsNumberOr usual least most (text ∷ []) number = IsNumberIn least most text number
@@ -60,7 +60,7 @@ match_options = record { flags = codes "whole" ∷ []; valued = codes "cap" ∷ 
 abbrev pub no_options : Options
 no_options = record { flags = []; valued = [] }
 
--- match [--whole] [--retained limit N] PATTERN
+-- match [--whole] [--cap N] PATTERN
 pub record IsMatchLine (arguments : List (List ℕ)) (whole : Bool) (retained_limit : ℕ) (pattern : List ℕ) : Type 0 where
   pub parts : List Part
   pub called : IsCalledWith (codes "match") match_options arguments parts
@@ -106,7 +106,7 @@ IsValueOrNone IsForm (value ∷ other ∷ values) given = ⊥
 abbrev pub IsFile : List ℕ → Type 0
 IsFile name = name ≢ []
 
--- a URL of the web, as `http://localhost:8080`, which doesn't end in `/`
+-- an absolute URL, as `http://localhost:8080`, without a trailing `/`
 pub record IsBase (url : List ℕ) : Type 0 where
   pub scheme : (rest : List ℕ) × ((url ≡ codes "http://" ++ rest) ⊎ (url ≡ codes "https://" ++ rest))
   pub short : length url ≤ MAX_BASE
@@ -143,8 +143,7 @@ AreCollectionsOf [] (collection ∷ collections) = ⊥
 AreCollectionsOf (argument ∷ arguments) [] = ⊥
 AreCollectionsOf (argument ∷ arguments) (collection ∷ collections) = IsCollectionOf argument collection × AreCollectionsOf arguments collections
 
--- what is to be served: at which port, how many connections, from which file and under which URL,
--- and which collections
+-- the service: port, number of connections, file, base URL, and collections
 pub record PlainService : Type 0 where
   pub port : ℕ
   pub connections : ℕ

@@ -1,10 +1,9 @@
--- The parts that the arguments of a command line are cut into: options with and without a value,
--- and positions.
+-- The parts of a command's arguments: options with and without a value, and positional arguments.
 use Rattle.std.specs.Prelude.{◌≡◌, ◌≢◌, ◌⊎◌, ℕ, List, [], ◌∷◌, ◌++◌, Contains, map, Some, slice_get, codes}
 
--- what the arguments after a command are, one by one
+-- the parts of a command's arguments, one by one
 pub data Part : Type 0 where
-  -- an option that stands alone, by its name
+  -- a flag, by its name
   Flag : (name : List ℕ) → Part
   -- an option with its value
   Valued : (name value : List ℕ) → Part
@@ -37,7 +36,7 @@ pub data AreParts (options : Options) : List (List ℕ) → List Part → Type 0
   -- after the first `--`, which is no part itself, each argument is positional
   rest : {arguments : List (List ℕ)} → AreParts options (codes "--" ∷ arguments) (map Position arguments)
 
--- the positions among the parts, in order
+-- the positional arguments among the parts, in order
 abbrev pub positions : List Part → List (List ℕ)
 positions [] = []
 positions (Position argument ∷ parts) = argument ∷ positions parts

@@ -38,7 +38,7 @@ pub record AskFor (arguments : List (List ℕ)) (asked : Copying) : Type 0 where
   pub limit_is : asked.target.limit ≡ LIMIT
   pub more_are : AreStoreArguments more asked.file asked.tries asked.target.since
 
--- they aren't that
+-- the arguments are nothing of the kind
 abbrev pub AskForNothing : List (List ℕ) → Type 0
 AskForNothing arguments = (asked : Copying) → ¬ AskFor arguments asked
 

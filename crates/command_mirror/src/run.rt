@@ -138,6 +138,7 @@ pub fn run_mirror<D: Dial, K: Keeper, C: Clock, O: Sink, E: Sink>(
         (K.last_cause keeper.new)
         (λ reason. WritesReason reason (E.written faults.old) (E.written faults.new)
         (E.faults faults.old) (E.faults faults.new)) }
+    // status 2 if and only if the arguments are no command line
     ensures refusals { (result ≡ 2) ↔ AskForNothing (texts arguments.now) }
     ensures untouched { result ≡ 2
         → (dial.new ≡ dial.old) × (keeper.new ≡ keeper.old) × (clock.new ≡ clock.old)
@@ -149,6 +150,7 @@ pub fn run_mirror<D: Dial, K: Keeper, C: Clock, O: Sink, E: Sink>(
         (C.moments clock.old))
         (environment (D.observable dial.new) (D.faults dial.new) (K.kept keeper.new)
         (C.moments clock.new)) (O.written output.old) (O.written output.new)) }
+    // with status 5 the allowed number of fetches were lost, and the page was to be requested again
     ensures lost { result ≡ 5
         → AskSo (texts arguments.now)
         (LosesAll (link_view D.Link.left D.Link.written D.Link.Source.faults D.Link.Sink.faults)

@@ -26,7 +26,7 @@ pub record AskFor (arguments : List (List ℕ)) (target : Target) : Type 0 where
   pub limit_is : IsLimitOf more target.limit
   pub all : target.since ≡ None
 
--- they aren't that
+-- the arguments are nothing of the kind
 abbrev pub AskForNothing : List (List ℕ) → Type 0
 AskForNothing arguments = (target : Target) → ¬ AskFor arguments target
 

@@ -33,7 +33,7 @@ pub record Pulls {L : Type 0} (view : L → LinkView) (target : Target) (before 
   pub through : PassThrough target (links_of pages ++ more) before.dial.observable now.dial.observable
   pub skipped_is : skipped ≡ bad_in_pages pages
 
--- the good entries of the pages were written
+-- the valid entries of the pages were written
 abbrev pub WritesPages : {L : Type 0} → List (Page L) → Environment L → Environment L → Type 0
 WritesPages pages before now = now.written ≡ written_with (told_of_pages pages) before.written
 
@@ -49,7 +49,7 @@ LosesPage view target before now cursor end (link ∷ []) = DialIsQuiet before n
     × (next : Option (List ℕ)) × Asks cursor next × Fetched target next (view link.given) (view link.finished) (Err end)
 LosesPage view target before now cursor end (link ∷ other ∷ links) = ⊥
 
--- pages came and were written, up to one that didn't come
+-- pages arrived and were written, up to one that did not arrive
 pub record StopsAsking {L : Type 0} (view : L → LinkView) (target : Target) (before now : Environment L) (end : FetchEnd) (skipped : ℕ) : Type 0 where
   pub pages : List (Page L)
   pub cursor : Cursor
@@ -58,7 +58,7 @@ pub record StopsAsking {L : Type 0} (view : L → LinkView) (target : Target) (b
   pub loses : LosesPage view target before now cursor end lost
   pub writes : WritesPages pages before now
 
--- pages came and were written, and then no page was asked for
+-- pages arrived and were written, and then no page was requested
 pub record StopsBehind {L : Type 0} (view : L → LinkView) (target : Target) (before now : Environment L) (AreLast : List (Page L) → Cursor → Type 0) (skipped : ℕ) : Type 0 where
   pub pages : List (Page L)
   pub cursor : Cursor
@@ -67,7 +67,7 @@ pub record StopsBehind {L : Type 0} (view : L → LinkView) (target : Target) (b
   pub quiet : DialIsQuiet before now
   pub writes : WritesPages pages before now
 
--- pages came, and of what is to be written of them a prefix was
+-- pages arrived, and of what is to be written of them a prefix was
 pub record StopsWriting {L : Type 0} (view : L → LinkView) (target : Target) (before now : Environment L) (skipped : ℕ) : Type 0 where
   pub pages : List (Page L)
   pub cursor : Cursor

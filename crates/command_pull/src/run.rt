@@ -93,13 +93,16 @@ pub fn run_pull<D: Dial, O: Sink, E: Sink>(
         (environment (D.observable dial.new) (D.faults dial.new) (O.written output.new)) result
         (λ reason. WritesReason reason (E.written faults.old) (E.written faults.new)
         (E.faults faults.old) (E.faults faults.new)) }
+    // status 2 if and only if the arguments are no command line
     ensures refusals { (result ≡ 2) ↔ AskForNothing (texts arguments.now) }
     ensures untouched { result ≡ 2 → (dial.new ≡ dial.old) × (output.new ≡ output.old) }
+    // with status 0 all pages were received and written
     ensures all { result ≡ 0
         → PullsAll (link_view D.Link.left D.Link.written D.Link.Source.faults D.Link.Sink.faults)
         (texts arguments.now)
         (environment (D.observable dial.old) (D.faults dial.old) (O.written output.old))
         (environment (D.observable dial.new) (D.faults dial.new) (O.written output.new)) }
+    // which statuses a fault of the dial or a link may have, and which imply one
     ensures dial { CountsDial
         (link_view D.Link.left D.Link.written D.Link.Source.faults D.Link.Sink.faults)
         (texts arguments.now)

@@ -1,4 +1,4 @@
--- What is reported of why a command ended.
+-- The messages that state why a command ended.
 use Rattle.std.specs.Prelude.{◌≡◌, ◌⊎◌, ℕ, List, ◌++◌, Option, codes, decimal}
 use Rattle.flow_edges.specs.Faults.{HasIncreased}
 use Rattle.flow_edges.specs.Flow.{written_with, WritesPrefix}
@@ -11,7 +11,7 @@ use Rattle.pattern_reader.specs.Read.{IsReadAs, IsRefusedAs}
 abbrev pub IsUnread : List ℕ → Type 0
 IsUnread text = (pattern : Pattern) → ¬ IsReadAs text pattern
 
--- it is refused as a pattern, and that is why
+-- it is refused as a pattern for this reason
 pub record IsRefusedPattern (text : List ℕ) (refusal : PatternRefusal) : Type 0 where
   pub unread : IsUnread text
   pub why : IsRefusedAs text refusal

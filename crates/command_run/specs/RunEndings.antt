@@ -1,4 +1,4 @@
--- What stands when the program ended, by the command that it ran and how that ended.
+-- What holds when the program has ended, by the command that it ran and how that ended.
 use Rattle.std.specs.Prelude.{◌≡◌, ◌≢◌, ◌⊎◌, ℕ, List, Option, codes}
 use Rattle.flow_edges.specs.Flow.{written_with}
 use Rattle.pattern_types.specs.declared.pattern.Pattern.{Pattern}
@@ -141,7 +141,7 @@ pub record TellsRefusals (arguments : List (List ℕ)) (status : ℕ) : Type 0 w
   pub pattern : status ≡ 3 → RefusesPattern arguments
   pub refused : RefusesPattern arguments → (status ≡ 3) ⊎ (status ≡ 1)
 
--- the program ended in one of its ways, with that status and that reason
+-- the program ended with one of the endings, with its exit status and its message
 pub record Ends {L : Type 0} (view : L → LinkView) (arguments : List (List ℕ)) (before after : Environment L) (status : ℕ) (Writes : List ℕ → Type 0) : Type 0 where
   pub ending : Ending
   pub status_is : status ≡ status_of ending
@@ -168,7 +168,7 @@ pub record ListsBindings (request : MatchTask) (before after : Streams) : Type 0
 abbrev pub TellsNumbers : ℕ → ℕ → Streams → Streams → Type 0
 TellsNumbers seed count before after = (text : List ℕ) × IsTextOfLog seed count text × (after.written ≡ written_with text before.written)
 
--- what was asked for was done: a `match` wrote the listing, a `make` the numbers
+-- what was requested was done: a `match` wrote the listing, a `make` the numbers
 pub record IsDone (arguments : List (List ℕ)) (before after : Streams) : Type 0 where
   pub listing : (task : MatchTask) → IsMatchLine arguments task → ListsBindings task before after
   pub numbers : (seed count : ℕ) → IsMakeLine arguments seed count → TellsNumbers seed count before after

@@ -77,7 +77,7 @@ serve_reason DoorFault = codes "door fault\n"
 serve_reason (StoreFault cause) = store_fault_reason (text_of cause)
 serve_reason (BadRow date) = bad_row_reason date
 
--- what a refusal to load the rows is to a service, where the keeper failed for that cause if it did
+-- the ending for rows that cannot be loaded; `cause` is that of the keeper's last fault
 abbrev pub load_ending : FaultCause → LoadRefusal → ServeEnding
 load_ending cause refused.KeeperFault = StoreFault cause
 load_ending cause (refused.BadRow after) = BadRow after

@@ -43,6 +43,7 @@ fn execute<I: Source, O: Sink, D: Door, K: Keeper, C: Clock>(
     ensures unasked { (AskForNoInput (texts arguments.now) → input.new ≡ input.old)
         × (¬ AskToServe (texts arguments.now)
         → (door.new ≡ door.old) × (clock.new ≡ clock.old) × (keeper.new ≡ keeper.old)) }
+    // with these statuses no client was served, so door, clock and stored rows are untouched
     ensures unserved { ServesNone (status_of result)
         → (door.new ≡ door.old) × (clock.new ≡ clock.old)
         × ((K.kept keeper.new).observable ≡ (K.kept keeper.old).observable) }
@@ -110,10 +111,12 @@ pub fn run<I: Source, O: Sink, E: Sink, D: Door, K: Keeper, C: Clock>(
         (streams (I.left input.new) (I.began input.new) (O.written output.new)) }
     ensures untouched { (result ≡ 2) ⊎ (result ≡ 3)
         → (input.new ≡ input.old) × (output.new ≡ output.old) }
+    // commands without input leave it untouched
     ensures unread { AskForNoInput (texts arguments.now) → input.new ≡ input.old }
     ensures unserved { ServesNone result
         → (door.new ≡ door.old) × (clock.new ≡ clock.old)
         × ((K.kept keeper.new).observable ≡ (K.kept keeper.old).observable) }
+    // only `serve` uses the door, the clock and the keeper
     ensures others { ¬ AskToServe (texts arguments.now)
         → (door.new ≡ door.old) × (clock.new ≡ clock.old) × (keeper.new ≡ keeper.old) }
     ensures input { Counted (result ≡ 5) (I.faults input.old) (I.faults input.new) }

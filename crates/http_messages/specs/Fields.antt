@@ -53,11 +53,11 @@ is_post Other = false
 abbrev pub has_bad_host : HeadParts → Bool
 has_bad_host h = (h.minor == 1 && length (values (codes "host") h) == 0) || nat_lt 1 (length (values (codes "host") h))
 
--- a value of that name isn't UTF-8
+-- a value of that name is not UTF-8
 abbrev pub has_bad_text_in : List ℕ → HeadParts → Bool
 has_bad_text_in name h = not (list_all is_utf8 (values name h))
 
--- a value of Accept, Content-Type or Connection isn't UTF-8
+-- a value of Accept, Content-Type or Connection is not UTF-8
 abbrev pub has_bad_text : HeadParts → Bool
 has_bad_text h = has_bad_text_in (codes "accept") h || has_bad_text_in (codes "content-type") h || has_bad_text_in (codes "connection") h
 
@@ -86,7 +86,7 @@ body_length h = first_length (values (codes "content-length") h)
 abbrev pub states : ℕ → List ℕ → Bool
 states number value = is_length value && (length_of value == number)
 
--- a Content-Length that isn't one, or two that state different numbers (RFC 9112, section 6.3)
+-- a Content-Length that is not one, or two that state different numbers (RFC 9112, section 6.3)
 abbrev pub has_bad_length : HeadParts → Bool
 has_bad_length h = not (list_all (states (body_length h)) (values (codes "content-length") h))
 

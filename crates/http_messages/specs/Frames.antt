@@ -33,22 +33,22 @@ request_of h body = record {
   close = closes h;
 }
 
--- the head that stands there, with what was dropped before it no longer than a head may be
+-- the head at that position, with what was dropped before it no longer than a head may be
 pub record HoldsHead (bytes : List ℕ) (start end : ℕ) : Type 0 where
   pub at : IsHeadAt bytes start end
   pub fits : end ≤ MAX_HEAD
 
--- the bytes of a head are one by the grammar, with these parts
+-- the bytes match the grammar of a head, with these parts
 pub record IsReadAs (head : List ℕ) (parts : HeadParts) : Type 0 where
   pub tree : RequestHead
   pub reads : ReadsRequest head tree []
   pub parts_are : parts ≡ parts_of tree
 
--- the bytes of a head are none by the grammar
+-- the bytes do not match the grammar of a head
 abbrev pub IsUnreadable : List ℕ → Type 0
 IsUnreadable head = (tree : RequestHead) → ¬ (ReadsRequest head tree [])
 
--- the bytes begin with a head that isn't refused
+-- the bytes begin with a head that is not refused
 pub record Accepts (greatest : ℕ) (bytes : List ℕ) (start end : ℕ) (parts : HeadParts) : Type 0 where
   pub head : HoldsHead bytes start end
   pub read : IsReadAs (slice_range bytes start end) parts
@@ -59,7 +59,7 @@ pub record NeedsHead (bytes : List ℕ) : Type 0 where
   pub room : length bytes < MAX_HEAD
   pub none : HasNoHeadIn (length bytes) bytes
 
--- the head is fine, and its body isn't whole
+-- the head is fine, and its body is not whole
 pub record NeedsBody (greatest : ℕ) (bytes : List ℕ) : Type 0 where
   pub start : ℕ
   pub end : ℕ
@@ -82,14 +82,14 @@ pub record HasLongHead (bytes : List ℕ) : Type 0 where
   pub full : MAX_HEAD ≤ length bytes
   pub none : HasNoHeadIn MAX_HEAD bytes
 
--- the head is none by the grammar
+-- the head does not match the grammar
 pub record HasBadHead (bytes : List ℕ) : Type 0 where
   pub start : ℕ
   pub end : ℕ
   pub head : HoldsHead bytes start end
   pub bad : IsUnreadable (slice_range bytes start end)
 
--- the head is one by the grammar, and is refused for what it says
+-- the head matches the grammar, and is refused for its contents
 pub record HasRefusedHead (greatest : ℕ) (bytes : List ℕ) (refusal : Refusal) : Type 0 where
   pub start : ℕ
   pub end : ℕ

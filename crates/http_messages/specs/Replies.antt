@@ -9,7 +9,7 @@ use Rattle.http_messages.specs.declared.reply_end.ReplyEnd.{ReplyEnd}
 use Rattle.http_messages.specs.declared.reply_end.ReplyEnd.TheVariants.{Fault, Cut, Refused, NoMemory}
 use Rattle.http_messages.specs.ReplyHeads.{IsHead, HoldNoHead, HeadParts, IsReadAs, IsUnreadable, body_length, refusal_of}
 
--- a head that says how many bytes follow it, and isn't refused
+-- a head that says how many bytes follow it, and is not refused
 pub record Announces (head : List ℕ) (count : ℕ) : Type 0 where
   pub is_head : IsHead head
   pub fits : length head ≤ MAX_HEAD
@@ -77,7 +77,7 @@ IsTakenFor taken now (Err Cut) = IsCut taken × IsAtEnd now
 IsTakenFor taken now (Err (Refused refusal)) = IsRefused taken refusal
 IsTakenFor taken now (Err NoMemory) = IsNeeded taken
 
--- the answer to a read of what was left, of which this is left now
+-- the result of a read from what was left on the link; this is left now
 pub record ReadsReply (left now : Option (List ℕ)) (answer : Result (List ℕ) ReplyEnd) : Type 0 where
   pub taken : List ℕ
   pub takes : Takes taken left now

@@ -30,13 +30,13 @@ pub record HeadParts : Type 0 where
 abbrev pub parts_of : ResponseHead → HeadParts
 parts_of h = record { status = status_code h; fields = map name_and_value h.fields }
 
--- the bytes of a head are one by the grammar, with these parts
+-- the bytes match the grammar of a head, with these parts
 pub record IsReadAs (head : List ℕ) (parts : HeadParts) : Type 0 where
   pub tree : ResponseHead
   pub reads : ReadsResponse head tree []
   pub parts_are : parts ≡ parts_of tree
 
--- the bytes of a head are none by the grammar
+-- the bytes do not match the grammar of a head
 abbrev pub IsUnreadable : List ℕ → Type 0
 IsUnreadable head = (tree : ResponseHead) → ¬ (ReadsResponse head tree [])
 

@@ -16,7 +16,9 @@ use std::alloc::Global;
 /// received, whatever length the head announces.
 pub fn read_reply<S: Source>(alloc: Global, link: &mut S) -> Result<Items<u8>, ReplyEnd>
     ensures reads { ReadsReply (S.left link.old) (S.left link.new) result }
+    // the link counts a fault exactly if the result is `Fault`
     ensures causes { Counted (result ≡ Err ReplyEnd.Fault) (S.faults link.old) (S.faults link.new) }
+    // nothing is written to the link
     ensures unwritten { S.other link.new ≡ S.other link.old }
 {
     let mut buffer = room(alloc)?;

@@ -9,7 +9,7 @@ pub enum HeadRefusal {
     /// It does not match the grammar, or does not end within `MAX_HEAD` bytes.
     #[error("bad head")]
     BadHead,
-    /// Its status isn't 200.
+    /// Its status is not 200.
     #[error("status {code}")]
     Status { code: u16 },
     /// The body has a transfer coding.

@@ -13,7 +13,7 @@ pub enum Refusal {
     LengthRequired,
     /// The body is larger than the session allows.
     BodyTooLarge,
-    /// The head doesn't end within `MAX_HEAD` bytes.
+    /// The head does not end within `MAX_HEAD` bytes.
     HeadTooLarge,
     /// The body has a transfer coding.
     TransferCoding,

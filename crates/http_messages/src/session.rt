@@ -67,6 +67,7 @@ impl Session {
     /// The first frame of the buffered bytes. A request is removed from them. `More` and `Refused`
     /// leave them, so a refusal is repeated. When out of memory, the session is unchanged.
     pub fn next_request(&mut self) -> Result<Frame, NoMemory>
+        // `self.new.fed` are the bytes after a request; otherwise all bytes stay
         ensures first { IfOk result
             (λ frame. IsFirstFrame self.old.max_body self.old.fed frame self.new.fed) }
         ensures greatest { self.new.max_body ≡ self.old.max_body }

@@ -15,7 +15,7 @@ use Rattle.taxii_rows.specs.Version.{IsVersionTime}
 use Rattle.taxii_bodies.specs.declared.details.Detail.{Detail}
 use Rattle.taxii_bodies.specs.Times.{IsDateText, IsStatedText, IsVersionText}
 
--- a name, and the path of what it is stated of, where that isn't the whole
+-- a name, and the path of what it is stated of, where that is not the whole
 abbrev pub at_path : List ℕ → List ℕ → List ℕ
 at_path name [] = name
 at_path name (byte ∷ path) = name ++ (codes " at " ++ byte ∷ path)

@@ -1,5 +1,5 @@
--- What absorbing a page of a peer's collection makes of a store: its good objects are added, and
--- the other entries are skipped.
+-- The effect of absorbing a page of a peer's collection: its valid objects are added to the store,
+-- and the other entries are skipped.
 use Rattle.std.specs.Prelude.{◌≡◌, ◌⊎◌, ⊤, ℕ, Bool, true, false, not, List, [], ◌∷◌, length, None, count_by}
 use Rattle.stix_json.specs.declared.entry.Entry.{Entry}
 use Rattle.stix_json.specs.declared.entry.Entry.TheVariants.{Good, Bad}
@@ -27,7 +27,7 @@ abbrev pub IsReadable : Entry → Type 0
 IsReadable (Good value) = (refusal_of (data_of value) ≡ None) × IsOrdered (data_of value)
 IsReadable (Bad refusal) = ⊤
 
--- the entry is an object without breaks, and this is kept of it
+-- the entry is an valid object, and this is kept of it
 abbrev pub IsKept : Entry → Described → Type 0
 IsKept (Good value) object = AreBreaksOf (data_of value) [] × IsDescribed (data_of value) object
 IsKept (Bad refusal) object = ⊥
@@ -62,8 +62,8 @@ pub record Absorbed : Type 0 where
   pub moment : ℕ
   pub tally : Tally
 
--- a page is absorbed by a store: each entry that is an object without breaks is added, in order,
--- the others are skipped, and the tally says so
+-- a page is absorbed by a store: each entry that is an valid object is added, in order, the others
+-- are skipped, and the tally says so
 pub record Absorbs (collection : ℕ) (page : Absorbed) (before after : StoreState) : Type 0 where
   pub objects : List Described
   pub skipped : List Entry

@@ -1,5 +1,5 @@
--- Attempts at the pages of a peer's collection: each page is asked for over a new link until it
--- comes.
+-- Attempts at the pages of a peer's collection: each page is requested over a new link until it
+-- arrives.
 use Rattle.std.specs.Prelude.{◌≡◌, ◌⊎◌, ℕ, ◌+◌, ◌-◌, ◌^◌, ◌≤◌, min, Bool, true, false, List, [], ◌∷◌, map, filter, filter_map, count_by, is_none, Option, Some, None, MatchOption, Result, Ok, Err}
 use Rattle.flow_edges.specs.Flow.{IsAtEnd}
 use Rattle.http_messages.specs.Replies.{IsCut, Takes}
@@ -63,11 +63,11 @@ undialled attempts = count_by (λ attempt. is_none attempt.link) attempts
 abbrev pub links_of : {L : Type 0} → List (Attempt L) → List (Lent L)
 links_of attempts = filter_map (λ attempt. attempt.link) attempts
 
--- those over which nothing came
+-- those over which nothing arrived
 abbrev pub lost_links : {L : Type 0} → List (Attempt L) → List (Lent L)
 lost_links attempts = links_of (filter is_lost attempts)
 
--- the page that came
+-- the page that arrived
 abbrev pub page_over : {L : Type 0} → Option (Lent L) → Result Envelope FetchEnd → Option (Page L)
 page_over (Some link) (Ok envelope) = Some (record { link = link; envelope = envelope })
 page_over (Some link) (Err end) = None
@@ -80,7 +80,7 @@ pages_of attempts = filter_map (λ attempt. page_over attempt.link attempt.answe
 abbrev pub entries_of : {L : Type 0} → List (Page L) → List (List Entry)
 entries_of pages = map (λ page. page.envelope.entries) pages
 
--- a page came, or the attempt was lost: another one may follow
+-- a page arrived, or the attempt was lost: another one may follow
 abbrev pub Continues : {L : Type 0} → Attempt L → Type 0
 Continues attempt = ((envelope : Envelope) × (attempt.answer ≡ Ok envelope)) ⊎ (is_lost attempt ≡ true)
 
@@ -96,8 +96,8 @@ pub record EndsInside (before now : LinkView) : Type 0 where
 abbrev pub LinkFailed : {L : Type 0} → (L → LinkView) → Lent L → Type 0
 LinkFailed view link = LinkFaultsIncreased (view link.given) (view link.finished) ⊎ EndsInside (view link.given) (view link.finished)
 
--- the dial counted each attempt that got no link, and nothing else; a count that stands at its end
--- counts as risen
+-- the dial counted each attempt that got no link, and nothing else; a saturated count counts as
+-- increased
 pub record CountsDials (undialled before now : ℕ) : Type 0 where
   pub rose : min (before + undialled) (2 ^ 64 - 1) ≤ now
   pub quiet : undialled ≡ 0 → now ≡ before

@@ -40,7 +40,7 @@ pub record Stops {L : Type 0} (view : L → LinkView) (asked : Copying) (before 
   pub absorbed : List Absorbed
   pub fills : Fills asked before now (entries_of (pages_of attempts)) left absorbed
 
--- all pages came and were absorbed, and fewer attempts were lost than may be
+-- all pages arrived and were absorbed, and fewer attempts were lost than may be
 pub record StopsBehind {L : Type 0} (view : L → LinkView) (asked : Copying) (before now : Environment L) : Type 0 where
   pub stops : Stops view asked before now [] []
   pub over : stops.cursor ≡ Over
@@ -52,7 +52,7 @@ pub record StopsLost {L : Type 0} (view : L → LinkView) (asked : Copying) (bef
   pub wants : stops.cursor ≢ Over
   pub all : losses stops.attempts ≡ asked.tries
 
--- as many pages came as a walk may have, and the last had more after it
+-- as many pages arrived as a walk may have, and the last had more after it
 pub record StopsFull {L : Type 0} (view : L → LinkView) (asked : Copying) (before now : Environment L) : Type 0 where
   pub stops : Stops view asked before now [] []
   pub full : length (pages_of stops.attempts) ≡ MAX_PAGES
@@ -66,14 +66,14 @@ pub record StopsAt {L : Type 0} (view : L → LinkView) (asked : Copying) (befor
   pub stops : Stops view asked before now (last ∷ []) []
   pub few : losses stops.attempts < asked.tries
 
--- a page came that wasn't absorbed
+-- a page arrived that was not absorbed
 pub record StopsShort {L : Type 0} (view : L → LinkView) (asked : Copying) (before now : Environment L) (Why : List Entry → StoreState → Type 0) : Type 0 where
   pub entries : List Entry
   pub stops : Stops view asked before now [] (entries ∷ [])
   pub why : Why entries stops.fills.last
   pub few : losses stops.attempts < asked.tries
 
--- no page was asked for
+-- no page was requested
 pub record StopsBefore {L : Type 0} (before now : Environment L) : Type 0 where
   pub dial : now.dial ≡ before.dial
   pub rows : now.kept.observable ≡ before.kept.observable
@@ -92,11 +92,11 @@ EndsLoading before now Load.KeeperFault = StopsBefore before now
 EndsLoading before now (Load.BadRow after) = StopsBefore before now × IfSome before.kept.observable (λ state. IsBadAfter state after)
 EndsLoading before now Load.NoMemory = StopsBefore before now
 
--- why a page wasn't absorbed: too few dates are left; the others say nothing of the page
+-- why a page was not absorbed: too few dates are left; the others say nothing of the page
 abbrev pub ExplainsStop : Copying → StoreRefusal → List Entry → StoreState → Type 0
 ExplainsStop asked refusal entries store = refusal ≡ Store.DatesUsedUp → LacksDates asked.target.collection entries store
 
--- what is said of a copy that stopped before all pages were absorbed
+-- what holds for a copy that stopped before all pages were absorbed
 abbrev pub EndsCopy : {L : Type 0} → (L → LinkView) → Copying → Environment L → Environment L → CopyStop → Type 0
 EndsCopy view asked before now (NotLoaded refusal) = EndsLoading before now refusal
 EndsCopy view asked before now (NotFetched stop) = EndsFetching view asked before now stop

@@ -23,8 +23,8 @@ link_view left written read_faults write_faults link = record {
 abbrev pub LinkFaultsIncreased : LinkView → LinkView → Type 0
 LinkFaultsIncreased before now = HasIncreased before.read_faults now.read_faults ⊎ HasIncreased before.write_faults now.write_faults
 
--- what a call says of the two counts of a link: neither falls; one has risen where the call failed
--- so, and both stay where it didn't
+-- the effect of a call on the two counts of a link: neither decreases; one has increased if the
+-- call failed this way, and both stay if it did not
 pub record CountsLink (Failed : Type 0) (before now : LinkView) : Type 0 where
   pub reads_later : before.read_faults ≤ now.read_faults
   pub writes_later : before.write_faults ≤ now.write_faults

@@ -41,7 +41,7 @@ IsTakenFor taken now (Err Cut) = IsCut taken × IsAtEnd now
 IsTakenFor taken now (Err (Refused refusal)) = IsRefusedAs taken refusal
 IsTakenFor taken now (Err NoMemory) = IsNeeded taken
 
--- the answer to a read of what was left, of which this is left now
+-- the result of a read from what was left on the link; this is left now
 pub record ReadsPage (left now : Option (List ℕ)) (answer : Result Envelope FetchEnd) : Type 0 where
   pub taken : List ℕ
   pub takes : Takes taken left now

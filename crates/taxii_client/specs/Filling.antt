@@ -1,4 +1,5 @@
--- How pages that came fill a store: what the keeper has, and at which moments they were absorbed.
+-- How pages that arrived fill a store: what the keeper has, and at which moments they were
+-- absorbed.
 use Rattle.std.specs.Prelude.{◌≡◌, ℕ, List, [], ◌∷◌, ◌++◌, length, map, Option, Some, IfSome}
 use Rattle.flow_links.specs.Dials.{DialState}
 use Rattle.flow_links.specs.Moments.{IsNext, Continues}
@@ -27,8 +28,9 @@ abbrev pub GivesMoments : (ℕ → Option ℕ) → List ℕ → (ℕ → Option 
 GivesMoments before [] now = (n : ℕ) → now n ≡ before n
 GivesMoments before (moment ∷ moments) now = (next : ℕ → Option ℕ) × IsNext before moment × Continues before next × GivesMoments next moments now
 
--- the pages that came were absorbed in order, each at the next moment of the clock, by the store
--- that the keeper had in the file; those that are left weren't. The keeper has what they make of it
+-- the pages that arrived were absorbed in order, each at the next moment of the clock, by the store
+-- that the keeper had in the file; those that are left were not. The keeper has what they make of
+-- it
 pub record Fills {L : Type 0} (asked : Copying) (before now : Environment L) (pages left : List (List Entry)) (absorbed : List Absorbed) : Type 0 where
   pub first : StoreState
   pub loaded : IfSome before.kept.observable (λ state. first ≡ state)

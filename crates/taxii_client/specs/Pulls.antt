@@ -53,7 +53,7 @@ PassThrough target links before now = Changes (λ state after.
 
 -- ---- one page
 
--- a page that came: the link that it came over, and its envelope
+-- a page that arrived: the link that it came over, and its envelope
 pub record Page (L : Type 0) : Type 0 where
   pub link : Lent L
   pub envelope : Envelope
@@ -81,7 +81,7 @@ pub record PullState : Type 0 where
   pub cursor : Cursor
   pub pages : ℕ
 
--- a link was dialled, fetched over and handed back
+-- a link was dialled, fetched over and returned
 pub record FetchesOver {L : Type 0} (view : L → LinkView) (target : Target) (next : Option (List ℕ)) (dial now : DialView L) (answer : Result Envelope FetchEnd) : Type 0 where
   pub link : Lent L
   pub fetched : Fetched target next (view link.given) (view link.finished) answer
@@ -106,18 +106,18 @@ pub record AsksFor {L : Type 0} (view : L → LinkView) (before : PullState) (di
   pub asks : Asks before.cursor next
   pub dials : Dials view before.target next dial now answer
 
--- a page came, and the walk continues after it
+-- a page arrived, and the walk continues after it
 pub record GivesPage {L : Type 0} (view : L → LinkView) (before after : PullState) (dial now : DialView L) (entries : List Entry) : Type 0 where
   pub envelope : Envelope
   pub asks : AsksFor view before dial now (Ok envelope)
   pub entries_are : entries ≡ envelope.entries
   pub after_is : after ≡ record { target = before.target; cursor = cursor_after envelope; pages = before.pages + 1 }
 
--- a page didn't come, and the walk stands where it stood
+-- a page did not arrive, and the cursor is unchanged
 abbrev pub LosesPage : {L : Type 0} → (L → LinkView) → PullState → PullState → DialView L → DialView L → FetchEnd → Type 0
 LosesPage view before after dial now end = AsksFor view before dial now (Err end) × (after ≡ before)
 
--- nothing was asked for, and nothing changed
+-- nothing was requested, and nothing changed
 abbrev pub Rests : {L : Type 0} → PullState → PullState → DialView L → DialView L → Type 0
 Rests before after dial now = (after ≡ before) × (now ≡ dial)
 

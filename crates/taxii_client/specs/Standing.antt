@@ -1,4 +1,4 @@
--- What stands in a store: an object that is there, and rows none of which stands twice.
+-- Presence in a store: an object that is present, and rows without duplicates.
 use Rattle.std.specs.Prelude.{◌≡◌, ◌≢◌, ⊤, ℕ, true, false, List, [], ◌∷◌, ◌++◌, All}
 use Rattle.std.specs.List.{Contains}
 use Rattle.taxii_rows.specs.declared.stored_row.StoredRow.{StoredRow}
@@ -22,7 +22,7 @@ abbrev pub AreStoredOnce : List StoredRow → List StoredRow → Type 0
 AreStoredOnce rows [] = ⊤
 AreStoredOnce rows (row ∷ new) = All (AreApart row) rows × AreStoredOnce (rows ++ row ∷ []) new
 
--- after the rows of a store stand others, each of them once
+-- the rows of a store are followed by others, each of them once
 pub record GrowsOnce (before after : List StoredRow) : Type 0 where
   pub new : List StoredRow
   pub rows_are : after ≡ before ++ new

@@ -31,6 +31,8 @@ pub fn copy<D: Dial, K: Keeper, C: Clock>(
 ) -> Result<Totals, CopyStop>
     requires short { length target.now.host ≤ MAX_HOST }
     requires tries { 1 ≤ tries }
+    // each link is dialled and returned, each page absorbed once, and an error says which step
+    // failed
     ensures copies { Copies
         (link_view D.Link.left D.Link.written D.Link.Source.faults D.Link.Sink.faults)
         (record { target = target.now; file = file.now; tries = tries })
@@ -38,6 +40,7 @@ pub fn copy<D: Dial, K: Keeper, C: Clock>(
         (C.moments clock.old))
         (environment (D.observable dial.new) (D.faults dial.new) (K.kept keeper.new)
         (C.moments clock.new)) result }
+    // the keeper counts a fault exactly if the copy ends because the keeper failed
     ensures causes { Counted (IsErrAnd result (λ stop. is_store_fault stop ≡ true))
         (K.faults keeper.old) (K.faults keeper.new) }
 {

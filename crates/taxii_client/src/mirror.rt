@@ -52,6 +52,7 @@ impl Mirror {
         entries: Items<Entry>,
     ) -> Result<Tally, StoreRefusal>
         requires agrees { Agrees (K.kept keeper.old) self.old.store }
+        // the JSON reader's output has this form
         requires readable { All IsReadable entries }
         ensures agrees { Agrees (K.kept keeper.new) self.new.store }
         ensures name { (K.kept keeper.new).name ≡ (K.kept keeper.old).name }
@@ -64,6 +65,7 @@ impl Mirror {
         ensures dates { IfErr result (λ refusal. refusal ≡ Refused.DatesUsedUp
             → LacksDates self.old.collection entries self.old.store) }
         ensures err { OnErr result (self.new ≡ self.old) }
+        // the keeper counts a fault exactly if the result is `Fault`
         ensures causes { Counted (result ≡ Err Refused.Fault) (K.faults keeper.old)
             (K.faults keeper.new) }
     {

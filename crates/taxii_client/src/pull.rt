@@ -59,6 +59,7 @@ impl<'t> Pull<'t> {
     /// The objects of the next page, or `None` after the last one. After an error the same page is
     /// the next one again. Each link is returned to the dial.
     pub fn next_page<D: Dial>(&mut self, dial: &mut D) -> Result<Option<Items<Entry>>, PageEnd>
+        // the page at the cursor was fetched over a new link, or the cursor is unchanged
         ensures { Answers (link_view D.Link.left D.Link.written D.Link.Source.faults
             D.Link.Sink.faults) self.old self.new
             (record { observable = D.observable dial.old; faults = D.faults dial.old })

@@ -9,7 +9,7 @@ use std::fmt;
 pub enum ReplyRefusal {
     /// The head does not match the grammar, or is too long.
     BadHead,
-    /// The status isn't 200.
+    /// The status is not 200.
     Status { code: u16 },
     /// The body has a transfer coding.
     Coding,

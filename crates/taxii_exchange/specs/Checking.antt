@@ -50,14 +50,14 @@ IsTypedFor Other request = ⊤
 abbrev pub IsTyped : Request → Type 0
 IsTyped request = IsTypedFor request.method request
 
--- nothing but its query can stand against the request
+-- the request passes all checks but that of its query
 pub record IsFit (its : Allow) (rights : Rights) (request : Request) : Type 0 where
   pub allowed : allows its request.method ≡ true
   pub accepted : IsAccepted request
   pub permitted : permits rights request.method ≡ true
   pub typed : IsTyped request
 
--- the first of these that stands against the request
+-- the first reason against the request
 abbrev pub IsRefusedFor : Allow → Rights → Request → List ℕ → Refusal → Type 0
 IsRefusedFor its rights request text (NotAllowed others) = (others ≡ its) × (allows its request.method ≡ false)
 IsRefusedFor its rights request text (Problem NotAcceptable) = (allows its request.method ≡ true) × (¬ IsAccepted request)

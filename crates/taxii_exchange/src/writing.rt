@@ -20,6 +20,7 @@ pub fn write_answer<S: Sink>(answer: &Answer, close: bool, sink: &mut S) -> Resu
     requires dates { HasDates answer.now }
     ensures text { WritesAnswer answer.now close (S.written sink.old) (S.written sink.new) result }
     ensures causes { Counted (IsErr result) (S.faults sink.old) (S.faults sink.new) }
+    // nothing is read from the link
     ensures unread { S.other sink.new ≡ S.other sink.old }
 {
     let head = HeadText::of(answer, close);

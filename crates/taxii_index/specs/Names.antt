@@ -1,6 +1,6 @@
--- The names under which an index has rows: 64 bits of SipHash-1-3, fed first with a secret that
--- nobody a client that sends objects knows. What is found under a name is held against the row
--- itself, so nothing rests on two names being different.
+-- Names of objects and of their texts: 64 bits of SipHash-1-3, which first reads a secret that
+-- clients who send objects do not know. Each row found under a name is compared with the object
+-- itself, so nothing depends on distinct names.
 use Rattle.std.specs.Prelude.{ℕ, List, [], ◌∷◌}
 use Rattle.std.specs.Int.{w128, to_le_bytes}
 use Rattle.std.specs.Hash.DefaultHasher as sip

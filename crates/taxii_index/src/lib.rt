@@ -2,7 +2,7 @@
 //! index by object. The index decides whether an object is already present (section 5.5), and which
 //! of its versions a `match[version]` filter selects.
 //!
-//! To contracts, a collection of rows is just a list. A lookup takes O(log n + k) for the k rows of
+//! To contracts, a collection of rows is just a list. A lookup takes O(k log n) for the k rows of
 //! an object. Hashes are keyed with a secret, so clients cannot choose objects with equal hashes.
 //! Every row found by hash is compared with the object itself, so a collision cannot change a
 //! result. The index holds no copy of a row.

@@ -15,7 +15,7 @@ pub record MemoryState : Type 0 where
   pub calls : ℕ
   pub faults : ℕ
 
--- what a call does to the counts: it is counted, and it fails exactly where its number is one of
+-- what a call does to the counts: it is counted, and it fails if and only if its number is one of
 -- those that fail
 pub record IsMemoryCall {T : Type 0} (before now : MemoryState) (answer : Result T KeeperRefusal) : Type 0 where
   pub fails : (answer ≡ Err KeeperFault) ↔ (is_failing before.failing before.calls ≡ true)

@@ -2,10 +2,10 @@
 //! observable to contracts, and chosen calls fail (fault injection).
 //!
 //! ```text
-//! // the second call fails
-//! let mut keeper = MemoryKeeper::new(alloc, Items::new(alloc), 0, listed(alloc, &[2])?);
-//! keeper.attach("store")?;
-//! assert!(keeper.watermark().is_err());
+//! // `failing` holds the numbers of the calls that fail; here it is [2]
+//! let mut keeper = MemoryKeeper::new(alloc, rows, watermark, failing);
+//! keeper.attach("store")?;               // call 1
+//! assert!(keeper.watermark().is_err());  // call 2
 //! ```
 #![tactic(auto)]
 

@@ -12,7 +12,7 @@ use Rattle.stix_ids.specs.Identifier as identifier
 use Rattle.taxii_routes.specs.declared.param.Param.{Param}
 use Rattle.taxii_routes.specs.declared.param.Param.TheVariants.{AddedAfter, Limit, Next, MatchId, MatchType, MatchVersion, MatchSpec}
 
--- one to eighteen decimal digits, of a number that isn't zero
+-- one to eighteen decimal digits, of a number that is not zero
 pub record IsLimit (value : List ℕ) (limit : ℕ) : Type 0 where
   pub digits : IsNumeral 10 value
   pub few : length value ≤ 18

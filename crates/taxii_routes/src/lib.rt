@@ -1,6 +1,5 @@
-//! Parses what a TAXII 2.1 request asks for. It reads the endpoint of the path (sections 4 and 5),
-//! the filters and the page of the query (sections 3.4 and 3.5), and the media types of the header
-//! fields (section 1.6.8).
+//! Parses TAXII 2.1 requests: the endpoint of the path (sections 4 and 5), the filters and the page
+//! of the query (sections 3.4 and 3.5), and the media types of the header fields (section 1.6.8).
 //!
 //! Parsing is exact: a path has at most one route, and a query has one meaning or one refusal, that
 //! of its first invalid parameter. Unknown parameters are ignored.

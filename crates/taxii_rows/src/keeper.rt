@@ -62,6 +62,7 @@ pub trait Keeper {
     /// Appends rows, and sets the watermark.
     fn append(&mut self, rows: &[StoredRow], watermark: u64) -> Result<(), KeeperRefusal>
         requires attached { (kept self.old).attached ≡ true }
+        // the new rows' dates follow all others, and none is after the new watermark
         requires later { IfSome (kept self.old).observable (CanAppend rows.now watermark) }
         ensures ok { OnOk result
             (kept self.new ≡ updated (with_rows rows.now watermark) (kept self.old)) }
@@ -73,6 +74,7 @@ pub trait Keeper {
     /// twice.
     fn remove(&mut self, dates: &[u64]) -> Result<(), KeeperRefusal>
         requires attached { (kept self.old).attached ≡ true }
+        // the dates are distinct, and sorted for binary search
         requires ascend { AscendFrom 0 dates.now }
         ensures ok { OnOk result (kept self.new ≡ updated (without dates.now) (kept self.old)) }
         ensures err { OnErr result (kept self.new ≡ kept self.old) }

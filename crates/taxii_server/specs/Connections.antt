@@ -115,7 +115,7 @@ RepliesInTime before now replies =
 abbrev pub IsQuiet : LinkView → LinkView → Type 0
 IsQuiet before now = (now.read_faults ≡ before.read_faults) × (now.write_faults ≡ before.write_faults)
 
--- so a connection ends: by a reply that says so, or at the end of what the peer sends
+-- a connection closes by a response that says so, or at the end of the client's bytes
 abbrev pub IsClosed : LinkView → LinkView → List ℕ → List Reply → Type 0
 IsClosed before now rest replies = IsQuiet before now × WritesReplies replies before.written now.written
     × (End replies ⊎ (Continue replies × IsFirstFrame MAX_BODY rest More rest × IsAtEnd now.left))
@@ -149,8 +149,8 @@ pub record Connection (config : Config) (before : State) (link_before link_now :
   pub closing_answer_is : IsClosingAnswer rest closing_answer
   pub ends : Ends end link_before link_now rest exchanges closing_answer
 
--- what requests ask of the clock and of the keeper: each takes the next moment; each fault of the
--- keeper was counted, and where there was none the count stays
+-- the use of the clock and the keeper: each request takes the next moment; each fault of the keeper
+-- was counted, and without one the count stays
 pub record Pass (exchanges : List Exchange) (before now : Environment) : Type 0 where
   pub moments : GivesMoments (map (λ e. e.moment) exchanges) before.moments now.moments
   pub faults : HasIncreasedBy (keeper_faults exchanges) before.faults now.faults

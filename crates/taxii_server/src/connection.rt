@@ -29,10 +29,13 @@ pub fn serve_link<K: Keeper, L: Link, C: Clock>(
     clock: &mut C,
     link: &mut L,
 ) -> LinkEnd
+    // the keeper's observable rows must be the library's, and stay so
     requires agrees { Agrees (K.kept keeper.old) server.old.state.library }
     ensures agrees { Agrees (K.kept keeper.new) server.new.state.library }
     ensures keeper { without_rows (K.kept keeper.new) ≡ without_rows (K.kept keeper.old) }
     ensures config { server.new.config ≡ server.old.config }
+    // there is a list of exchanges: the bytes read are its requests, the bytes written its
+    // responses, and clock and keeper were used as it says
     ensures serves { (exchanges : List Exchange) × Connection server.old.config server.old.state
         (link_view L.left L.began L.written L.Source.faults L.Sink.faults link.old)
         (link_view L.left L.began L.written L.Source.faults L.Sink.faults link.new)

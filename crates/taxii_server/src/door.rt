@@ -24,6 +24,7 @@ pub fn serve_door<K: Keeper, D: Door, C: Clock>(
     port: u16,
     connections: u64,
 ) -> Result<Served, Fault>
+    // the keeper's observable rows must be the library's, and stay so
     requires agrees { Agrees (K.kept keeper.old) server.old.state.library }
     requires few { connections < 2 ^ 32 }
     ensures agrees { Agrees (K.kept keeper.new) server.new.state.library }
@@ -41,6 +42,7 @@ pub fn serve_door<K: Keeper, D: Door, C: Clock>(
         × (PassThrough port clients (D.observable door.old) (D.observable door.new)
         ⊎ (IsErr result × (clients ≡ []) × Stays (D.observable door.old) (D.observable door.new)))
         × IfOk result (IsWholeOf connections clients (D.observable door.new)) }
+    // the door counts a fault exactly if the call fails; faults of links are not its own
     ensures causes { Counted (IsErr result) (D.faults door.old) (D.faults door.new) }
 {
     door.listen(port)?;

@@ -47,6 +47,7 @@ impl Receiver {
     pub(crate) fn receive<L: Link>(&mut self, link: &mut L) -> Result<Request, ReceiveEnd>
         ensures receives { Receives self.old self.new (L.left link.old) (L.left link.new)
             (L.Source.faults link.old) (L.Source.faults link.new) result }
+        // the last read began while more bytes were needed, so no response waits for it
         ensures in_time { (link.new ≡ link.old)
             ⊎ IfSome (L.began link.new) (WantedMore self.old (L.left link.old)) }
         ensures unwritten { L.Source.other link.new ≡ L.Source.other link.old }

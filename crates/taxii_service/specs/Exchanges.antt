@@ -1,4 +1,4 @@
--- What a server did: requests at moments, in order, each with its answer and what the server had
+-- The exchanges of a server: requests at moments, in order, each with its response and the states
 -- before and after it.
 use Rattle.std.specs.Prelude.{◌≡◌, ℕ, List, [], ◌∷◌, All, Option, unwrap_or}
 use Rattle.http_messages.specs.declared.request.Request.{Request}
@@ -36,8 +36,8 @@ Runs OutOfMemory config e = (e.answer ≡ no_memory_answer) × (e.after ≡ e.be
 abbrev pub IsExchange : Config → Exchange → Type 0
 IsExchange config e = Runs e.course config e
 
--- an exchange did what its request asks for: its target has a path and maybe a query, the path a
--- route, and nothing stood against it
+-- an exchange performed its request: its target has a path and perhaps a query, the path has a
+-- route, and no check failed
 pub record WasDone (config : Config) (e : Exchange) : Type 0 where
   pub path : List ℕ
   pub text : Option (List ℕ)

@@ -1,5 +1,4 @@
--- What a request to add objects holds (TAXII 2.1, section 5.5): an object of each entry that keeps
--- the rules, and the failures.
+-- The entries of a POST (TAXII 2.1, section 5.5): valid objects, and failures.
 use Rattle.std.specs.Prelude.{◌≡◌, ◌⊎◌, ⊤, ℕ, List, [], ◌∷◌, length, take, codes}
 use Rattle.std.specs.List.{AllZip}
 use Rattle.serde_json.specs.Data.{Data}
@@ -24,12 +23,12 @@ pub record BreaksFirst (value : Data) (first : Break) : Type 0 where
   pub others : List Break
   pub breaks : AreBreaksOf value (first ∷ others)
 
--- the entry is an object without breaks, and this is kept of it
+-- the entry is an valid object, and this is kept of it
 abbrev pub IsKept : Entry → Described → Type 0
 IsKept (Good value) object = AreBreaksOf (data_of value) [] × IsDescribed (data_of value) object
 IsKept (Bad refusal) object = ⊥
 
--- the entry is no JSON value, or no object without breaks
+-- the entry is no JSON value, or no valid object
 abbrev pub Fails : Entry → Type 0
 Fails (Good value) = ¬ AreBreaksOf (data_of value) []
 Fails (Bad refusal) = ⊤

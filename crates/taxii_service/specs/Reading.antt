@@ -89,6 +89,6 @@ IsReading config state (Versions collection object) query answer =
     (info : CollectionInfo) × Names collection config.collections info × IsPageOfObject state.library.rows info.id object (versions_query query) AreVersions answer
 IsReading config state NoRoute query answer = ⊥
 
--- no client may do anything with the resource of the route: it isn't there
+-- no client may do anything with the resource of the route: it is not there
 abbrev pub IsNoResource : Config → State → Route → Type 0
 IsNoResource config state route = (rights : Rights) → ¬ IsFound config.collections state route rights

@@ -28,19 +28,24 @@ pub fn add_objects<K: Keeper>(
     moment: u64,
     body: &[u8],
 ) -> Result<Answer, Refusal>
+    // `kept` is the keeper's observable state: it must be the library's, and stays so
     requires agrees { Agrees (K.kept keeper.old) state.old.library }
     ensures agrees { Agrees (K.kept keeper.new) state.new.library }
+    // the keeper's name and attachment stay
     ensures keeper { without_rows (K.kept keeper.new) ≡ without_rows (K.kept keeper.old) }
+    // `new` are the new rows, `text` is the status: both the response's body and the kept status
     ensures ok { IfOk result (λ answer. (new : List Row) × (text : List ℕ)
         × IsAdding state.old collection moment body.now new text
         × (answer ≡ answer_with Accepted text)
         × (state.new ≡ with_added new text state.old)) }
+    // the reason holds: the request cannot be performed, or the keeper failed although it could
     ensures err { IfErr result (λ refusal. (refusal ≡ Refused.NoMemory)
         ⊎ (CannotAdd state.old collection moment body.now refusal
         ⊎ ((refusal ≡ Refused.Problem Trouble.StoreFault)
         × ((new : List Row) × (text : List ℕ) × (new ≢ [])
         × IsAdding state.old collection moment body.now new text)))) }
     ensures unchanged { OnErr result (state.new ≡ state.old) }
+    // the keeper counts a fault exactly if the result is `StoreFault`
     ensures causes { Counted (result ≡ Err (Refused.Problem Trouble.StoreFault))
         (K.faults keeper.old) (K.faults keeper.new) }
 {

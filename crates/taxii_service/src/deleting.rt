@@ -31,17 +31,20 @@ pub fn delete_object<K: Keeper>(
     state: &mut State,
     keeper: &mut K,
 ) -> Result<Answer, Refusal>
+    // `kept` is the keeper's observable state: it must be the library's, and stays so
     requires agrees { Agrees (K.kept keeper.old) state.old.library }
     ensures agrees { Agrees (K.kept keeper.new) state.new.library }
     ensures keeper { without_rows (K.kept keeper.new) ≡ without_rows (K.kept keeper.old) }
     ensures ok { IfOk result (λ answer. (dates : List ℕ)
         × AreDeleted state.old.library collection id.now query dates
         × (answer ≡ bare Okay None) × (state.new ≡ without_dates dates state.old)) }
+    // with no rows to delete, the keeper is not called and cannot fail
     ensures err { IfErr result (λ refusal. (refusal ≡ Refused.NoMemory)
         ⊎ ((refusal ≡ Refused.Problem Trouble.StoreFault)
         × ((dates : List ℕ) × (dates ≢ [])
         × AreDeleted state.old.library collection id.now query dates))) }
     ensures unchanged { OnErr result (state.new ≡ state.old) }
+    // the keeper counts a fault exactly if the result is `StoreFault`
     ensures causes { Counted (result ≡ Err (Refused.Problem Trouble.StoreFault))
         (K.faults keeper.old) (K.faults keeper.new) }
 {

@@ -30,11 +30,13 @@ pub(crate) fn outcome<K: Keeper>(
     ensures ok { IfOk result
         (λ answer. IsDone config.now state.old moment request.now route.now query.now
         answer state.new) }
+    // the reason holds: a check refused the request, or the keeper failed on a change
     ensures err { IfErr result (λ refusal. (refusal ≡ Refused.NoMemory)
         ⊎ (IsRefused config.now state.old moment request.now route.now query.now refusal
         ⊎ ((refusal ≡ Refused.Problem Trouble.StoreFault)
         × RouteChanges config.now state.old moment request.now route.now query.now))) }
     ensures unchanged { OnErr result (state.new ≡ state.old) }
+    // the keeper counts a fault exactly if the result is `StoreFault`
     ensures causes { Counted (result ≡ Err (Refused.Problem Trouble.StoreFault))
         (K.faults keeper.old) (K.faults keeper.new) }
 {

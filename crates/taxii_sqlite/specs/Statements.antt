@@ -23,7 +23,7 @@ abbrev pub AnswersWatermark : State → State → ℕ → Type 0
 AnswersWatermark before after watermark =
     (columns : List Value) × (column columns 0 ≡ date_value watermark) × QueriesRow READ_WATERMARK.now [] before after (Ok columns)
 
--- how many rows are early: no `NEXT_ROW` gives them, since their dates aren't past 0, and
+-- how many rows are early: no `NEXT_ROW` gives them, since their dates are not past 0, and
 -- `COUNT_EARLY_ROWS` answers their count
 abbrev pub AnswersCount : State → State → ℤ → Type 0
 AnswersCount before after count =

@@ -18,7 +18,7 @@ IsUntouched before after = IsTrue after.is_open → (after.now ≡ before.now) �
 abbrev pub Continues : State → State → Type 0
 Continues before after = HasCleanDisk after → HasCleanDisk before × KeepsCommit before after
 
--- and doesn't end it
+-- and does not end it
 abbrev pub StaysUnended : State → State → Type 0
 StaysUnended before after = HasCleanDisk after → after.in_transaction ≡ before.in_transaction
 

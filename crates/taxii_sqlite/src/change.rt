@@ -35,11 +35,13 @@ pub(crate) enum Change<'a> {
 impl Change<'_> {
     /// Performs the change and commits, or changes nothing.
     pub(crate) fn commit<S: Alter>(self, connection: &mut Connection<S>) -> Result<(), Failure>
+        // `HasCleanDisk`: the disk has returned what was written; without that, nothing is promised
         ensures ok { HasCleanDisk (state S.Store connection.new)
             → OnOk result (IsSettled (state S.Store connection.new)) }
         ensures err { HasCleanDisk (state S.Store connection.new)
             → OnErr result (IsUntouched (state S.Store connection.old)
             (state S.Store connection.new)) }
+        // exactly this change, alone in a committed transaction
         ensures does { HasCleanDisk (state S.Store connection.new)
             → OnOk result (Transacts (state S.Store)
             (Does (state S.Store) self.entry) connection.old connection.new) }

@@ -115,6 +115,7 @@ impl<S: Start> Keeper for SqliteKeeper<FileFrom<S>, S> {
 
     fn next_after(&mut self, date: u64) -> Result<Option<StoredRow>, KeeperRefusal>
         ensures finds { IfOk result (FindsNext date self.old.database self.new.database) }
+        // without a file nothing can fail
         ensures fails { OnErr result (CanFail self.old.database) }
         ensures attached { is_open self.new.database ≡ is_open self.old.database }
         ensures causes { Counted

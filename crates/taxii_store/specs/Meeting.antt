@@ -23,7 +23,7 @@ pub record IsAskedFor (collection : ℕ) (only : Option Id) (query : Query) (row
   pub kinds : IfSome query.kinds (λ kinds. Contains kinds row.id.kind)
   pub specs : IfSome query.specs (λ specs. Contains specs (codes "2.1"))
 
--- the row is asked for, and it is picked among the rows of its object
+-- the row is requested, and it is picked among the rows of its object
 pub record Meets (rows : List StoredRow) (collection : ℕ) (only : Option Id) (query : Query) (row : StoredRow) : Type 0 where
   pub asked : IsAskedFor collection only query row
   pub picked : IsPicked (picks_of query) rows row

@@ -11,7 +11,7 @@ use Rattle.taxii_store.specs.Meeting.{IsAskedFor, picks_of}
 use Rattle.taxii_store.specs.Page.{IsPage}
 use Rattle.taxii_store.specs.History.{IsDated, IsHistory}
 
--- where a walk stops: the store as it is there, the query, and the page with whether there is more
+-- a stop of a walk: the state of the store, the query, and its page with whether more follows
 pub record Stop : Type 0 where
   pub state : StoreState
   pub query : Query
@@ -48,8 +48,8 @@ last_date [] = None
 last_date (row ∷ []) = Some row.date
 last_date (row ∷ other ∷ rows) = last_date (other ∷ rows)
 
--- the stops of a walk in order, after that date: there is more at each but the last, and the one
--- after it continues behind its page
+-- the stops of a walk in order, from that date on: more follows at each but the last, and the next
+-- one continues after its page
 abbrev pub GoesFrom : Wanted → Option ℕ → Stop → List Stop → Type 0
 GoesFrom wanted next stop [] = IsStop wanted next stop × (stop.more ≡ false)
 GoesFrom wanted next stop (other ∷ stops) =

@@ -24,6 +24,7 @@ impl Library {
         name: &str,
     ) -> Result<Library, LoadRefusal>
         ensures ok { IfOk result (IsLoaded name.now (K.kept keeper.new)) }
+        // `BadRow` is returned only for a row that is bad
         ensures bad { IfErr result (λ refusal. (after : ℕ) → refusal ≡ Refused.BadRow after
             → IfSome (K.kept keeper.old).observable (λ state. IsBadAfter state after)) }
         ensures observable { (K.kept keeper.new).observable ≡ (K.kept keeper.old).observable }

@@ -21,11 +21,13 @@ impl Library {
         moment: u64,
         objects: Vec<Described>,
     ) -> Result<Planned, PlanRefusal>
+        // `describe` returns such objects
         requires sound { All IsSound objects.items }
         ensures watermark { IfOk result (λ planned. planned.watermark ≡ self.now.watermark) }
         ensures ok { IfOk result
             (λ planned. IsAddition self.now collection moment objects.items planned.outcomes
             planned.rows) }
+        // `UsedUp` only if that is so; out of memory needs no reason
         ensures err { IfErr result (λ refusal. refusal ≡ UsedUp
             → UsesUpDates self.now collection objects.items) }
     {

@@ -1,4 +1,4 @@
--- Runs of a server over one store: a server ends, and another is started on what it left, maybe
+-- Runs of a server over one store: a server ends, and another starts from what it left, perhaps
 -- with another configuration.
 use Rattle.std.specs.Prelude.{◌≡◌, List, [], ◌∷◌, ◌++◌, map}
 use Rattle.taxii_rows.specs.StoreState.{StoreState}

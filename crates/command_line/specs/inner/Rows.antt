@@ -16,7 +16,7 @@ rows_in matches = rows_of (found_of matches)
 abbrev pub IsFlagText : Option (List ℕ) → Bool → Type 0
 IsFlagText text given = (text ≡ Some (codes "true") → given ≡ true) × (text ≡ Some (codes "false") → given ≡ false)
 
--- the retained limit that is named, or the usual one
+-- the limit that `--cap` gives, or the default
 abbrev pub IsRetainedLimitText : Option (List ℕ) → ℕ → Type 0
 IsRetainedLimitText None retained_limit = retained_limit ≡ DEFAULT_RETAINED_LIMIT
 IsRetainedLimitText (Some text) retained_limit = IsNumberIn 1 MAX_RETAINED_LIMIT text retained_limit
@@ -45,7 +45,7 @@ abbrev pub with_argument : Option (List ℕ) → List (List ℕ) → List (List 
 with_argument None arguments = arguments
 with_argument (Some argument) arguments = argument ∷ arguments
 
--- the arguments at the positions of those names, in order
+-- the values of these positional arguments, in order
 abbrev pub arguments_at : List (List ℕ) → List Row → List (List ℕ)
 arguments_at [] rows = []
 arguments_at (name ∷ names) rows = with_argument (first_of name rows) (arguments_at names rows)

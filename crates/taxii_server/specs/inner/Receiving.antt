@@ -18,7 +18,7 @@ StopsReceivingAt bytes left faults now (Refused refusal) = IsFirstFrame MAX_BODY
 StopsReceivingAt bytes left faults now NoMemory = ⊤
 StopsReceivingAt bytes left faults now Failed = IsFirstFrame MAX_BODY bytes More bytes × HasIncreased faults now
 
--- why no more bytes were taken, or why those that were aren't kept
+-- why no more bytes were taken, or why those that were are not kept
 abbrev pub Lacks : List ℕ → Option (List ℕ) → ℕ → ℕ → ReceiveEnd → Type 0
 Lacks taken left faults now AtEnd = (taken ≡ []) × IsAtEnd left
 Lacks taken left faults now (Refused refusal) = ⊥

@@ -1,4 +1,4 @@
--- What a query asks of a row, prepared: of each parameter a set of what it names.
+-- The filters of a query, compiled: for each parameter the set of its values.
 use Rattle.std.specs.Prelude.{◌≡◌, ⊤, ℕ, List, Option, Some, None, IfSome, option_map}
 use Rattle.std.specs.List.{Contains}
 use Rattle.stix_ids.specs.declared.id.Id.{Id}
