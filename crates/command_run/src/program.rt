@@ -76,7 +76,7 @@ fn execute<I: Source, O: Sink, D: Door, K: Keeper, C: Clock>(
 /// | 0 | the input, if any, was read to its end, and all output was written |
 /// | 1 | memory ran out |
 /// | 2 | the arguments are no command line; out of memory may come first |
-/// | 3 | if and only if the pattern is refused |
+/// | 3 | the pattern is refused; out of memory may come first |
 /// | 4 | the first refused line; or the checked bundle violates rules |
 /// | 5, 6 | if and only if the input, or the output, counted a fault |
 /// | 7 | at the first observation where the limit on retained partial matches is exceeded |

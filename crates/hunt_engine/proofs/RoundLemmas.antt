@@ -51,7 +51,7 @@ pub find : (xs : List ℕ) (n : ℕ) → Stands xs n
 find [] n = inr (λ k h. cc)
 find (x ∷ xs) n = find_more xs x n (same_or_other x n) (find xs n)
 
--- what stands before another number in a ascending list is less
+-- what stands before another number in an ascending list is less
 pub stands_before : (xs : List ℕ) (i k m n : ℕ) → IsAscending xs → slice_get xs i ≡ Some n → slice_get xs k ≡ Some m → m < n → k < i
 stands_before xs i k m n ascend at_i at_k less = elim (cases_order i k) [ inl same ↦ one same | inr other ↦ elim other [ inl h ↦ after h | inr h ↦ h ] ] where
   one : i ≡ k → k < i

@@ -22,7 +22,7 @@ use Rattle.match_run.specs.inner.Rows.{bundle_of}
 use Rattle.match_run.specs.inner.MatchRuns.{IsStageOf, HasRead}
 use Rattle.match_run.proofs.StageLemmas.{ahead_none, ahead_some, start_accounts, moves_on}
 
--- where the first line that comes is a bundle, all that comes is read as that bundle and what is behind it
+-- where the first line that comes is a bundle, all that comes is read as that bundle and what is after it
 abbrev pub Continues : Type 0
 Continues = (last : Option ℤ) (next number : ℕ) (bytes : List ℕ) (later : LineStream) (objects : List Data) (observations : List Observation)
     (all : List BundleOf) (end : InputEnd) → IsBundleLine last next bytes objects observations → Reads last next (line_then number bytes later) all end

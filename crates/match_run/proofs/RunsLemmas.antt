@@ -50,7 +50,7 @@ AnswersList = (p : NumberedPattern) (log : List LogEntry) (answers : List (List 
 
 -- ---- what is written
 
--- the lines of more answers, behind those of the answers so far
+-- the lines of more answers, after those of the answers so far
 lines-more : (answers own : List (List BindTree)) → listing_text (joined_answers answers) ++ listing_text (joined_answers own) ≡ listing_text (joined_answers (answers ++ own))
 lines-more answers own = sym (ap listing_text (joined_answers-append answers own) ∙ listing_text-append (joined_answers answers) (joined_answers own))
 

@@ -18,7 +18,7 @@ use Rattle.match_stream.proofs.LastingLemmas.{lasting}
 use Rattle.match_stream.proofs.LogLemmas.{holds_inside, length_more, continues}
 use Rattle.match_stream.proofs.ListingLemmas.{ByTest, lesser_first, ascends_append}
 
--- in a ascending list each tree comes before all after left it
+-- in an ascending list each tree comes before all after it
 abbrev pub Ordered : Type 0
 Ordered = (x : BindTree) (xs : List BindTree) → Ascends (x ∷ xs) → (y : BindTree) → 0 < count y xs → comes_before x y ≡ true
 
