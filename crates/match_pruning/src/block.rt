@@ -78,7 +78,7 @@ impl Blocks {
     {
         let mut blocks = Vec::new(alloc);
         let mut start = 0;
-        'blocks: while start < keys.len() {
+        'cuts: while start < keys.len() {
             let end = start.saturating_add(size).min(keys.len());
             let block = Block::new(alloc, keys, start, end)?;
             blocks.push(block)?;

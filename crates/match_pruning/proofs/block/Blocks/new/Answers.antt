@@ -6,9 +6,9 @@ use Rattle.match_pruning.specs.declared.block.Block.{Block}
 use Rattle.match_pruning.specs.inner.SkipIndexes.{IsBlockOf}
 use Rattle.match_pruning.proofs.block.Blocks.new.Goals as goal
 
-pub blocks-preserved : goal.blocks-preserved
-blocks-preserved c = λ block there.
-    elim (Contains-push_cases c.blocks.blocks.items c.in_ok-block.block block (subst (λ (z : List Block). Contains z block) c.in_ok-push.ensures.items there)) [
-      | inl old ↦ c.blocks.invariant block old
+pub cuts-preserved : goal.cuts-preserved
+cuts-preserved c = λ block there.
+    elim (Contains-push_cases c.cuts.blocks.items c.in_ok-block.block block (subst (λ (z : List Block). Contains z block) c.in_ok-push.ensures.items there)) [
+      | inl old ↦ c.cuts.invariant block old
       | inr is ↦ subst (IsBlockOf c.args.keys.now) is c.in_ok-block.ensures.keys
     ]
