@@ -24,7 +24,8 @@ use Rattle.hunt_engine.specs.EngineState.{EngineState, FollowsRows, EngineRepres
 use Rattle.hunt_engine.specs.EngineAnswer.{binds_at, ReportsRow, IsFirstOverLimit}
 use Rattle.hunt_engine.specs.inner.Following.{EndsAt, TakesRow, log_with, Continues}
 use Rattle.hunt_engine.specs.inner.Table.{part_of, IsTable}
-use Rattle.hunt_engine.specs.inner.Evaluation.{IsAscending, IsEvaluated}
+use Rattle.hunt_engine.specs.inner.Evaluation.{IsEvaluated}
+use Rattle.hunt_feed.specs.Indicators.{IsAscending}
 use Rattle.hunt_engine.specs.inner.Round.{AllFollow, TookSome, CrowdsAt, StillFollow}
 use Rattle.hunt_engine.proofs.PositionLemmas.{same_or_other, got, there}
 use Rattle.hunt_engine.proofs.NonmatchingLemmas.{nonmatching_answer}

@@ -17,7 +17,8 @@ use Rattle.match_stream.specs.MatcherState.{MatcherState, Represents}
 use Rattle.match_stream.specs.Answer.{IsAnswer, IsWithinLimit, joined_answers}
 use Rattle.match_input.specs.Reading.{BundleOf}
 use Rattle.match_run.specs.Listing.{listing_text, last_number}
-use Rattle.match_run.specs.inner.Rows.{counted, last_counted, IsAfter, Progress, so_far, IsAt, IsAtSome, MayFollow, row_of, AddsRow, EndsAtRow, AddsRows, IsBuffered, ListsFirst, BreaksOff, IsOverLimitAt, StopsAmong, EndsAmong, TakesRow, StopsAtRow, TakesRows, GoesThrough, StopsAtOne, WritesBundle, StopsInBundle}
+use Rattle.match_run.specs.inner.Rows.{counted, last_counted, IsAfter, Progress, so_far, IsAt, IsAtSome, row_of, AddsRow, EndsAtRow, AddsRows, IsBuffered, ListsFirst, BreaksOff, IsOverLimitAt, StopsAmong, EndsAmong, TakesRow, StopsAtRow, TakesRows, GoesThrough, StopsAtOne, WritesBundle, StopsInBundle}
+use Rattle.match_run.specs.Reading.{MayFollow}
 use Rattle.match_run.specs.inner.MatchEnds.{CutsLines, HasCutLines}
 use Rattle.flow_edges.specs.Flow.{written_with, WritesPrefix}
 use Rattle.match_run.specs.declared.match_end.MatchEnd.{MatchEnd}

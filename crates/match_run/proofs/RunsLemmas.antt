@@ -31,7 +31,9 @@ use Rattle.flow_edges.specs.Streams.{Streams, streams}
 use Rattle.match_run.specs.Entries.{AreEntriesOf}
 use Rattle.match_run.specs.Listing.{listing_text}
 use Rattle.match_run.specs.Matching.{IsNeverOverLimit, ListsLog, ListsWhole, ListsBefore, ListsTaken, BeganInTime, ReadsNoFurther, StopsOverLimit, StopsWithin, StopsBetween, AnswersMatch}
-use Rattle.match_run.specs.inner.Rows.{no_tally, IsAfter, MayFollow, ListsFirst, StopsAmong, WritesRows, EndsInBundle, row_of, bundle_of}
+use Rattle.match_run.specs.inner.Rows.{no_tally, IsAfter, ListsFirst, StopsAmong, WritesRows, EndsInBundle, row_of}
+use Rattle.match_run.specs.Reading.{MayFollow}
+use Rattle.match_run.specs.Reading.{bundle_of}
 use Rattle.match_run.specs.inner.MatchEnds.{end_of_read}
 use Rattle.match_run.specs.inner.MatchRuns.{IsStageOf, IsInTime, RunsSo, HasRead}
 use Rattle.match_run.specs.declared.tally.Tally.{Tally}

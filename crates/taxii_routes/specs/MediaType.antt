@@ -5,6 +5,7 @@
 use Rattle.std.specs.Prelude.{◌≡◌, ◌⊎◌, ℕ, ◌-◌, ◌==◌, ◌||◌, Bool, List, length, take, drop, map, All, Any, codes}
 use Rattle.std.specs.List.{slice_split, before_first, after_first, prefix_len, suffix_len}
 use Rattle.std.specs.Char.{to_ascii_lowercase}
+use Rattle.taxii_routes.specs.Value.{is_comma}
 
 -- OWS = *( SP / HTAB )
 abbrev pub is_blank : ℕ → Bool
@@ -25,9 +26,6 @@ trimmed text = without_back (without_front text)
 -- the text, trimmed, is the name, in letters of either case
 abbrev pub IsNamed : List ℕ → List ℕ → Type 0
 IsNamed name text = map to_ascii_lowercase (trimmed text) ≡ map to_ascii_lowercase name
-
-abbrev pub is_comma : ℕ → Bool
-is_comma byte = byte == 44
 
 abbrev pub is_semicolon : ℕ → Bool
 is_semicolon byte = byte == 59
