@@ -13,7 +13,7 @@ http() {
 }
 
 program=${1:-}
-[ -n "$program" ] || build http "flow_values http_frames" pieces 1
+[ -n "$program" ] || build http "flow_values http_messages" pieces 1
 uptime
 for _ in 1 2 3; do
   http "100,000 GETs in pieces of 65,536 bytes" pieces 100000

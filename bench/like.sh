@@ -15,7 +15,7 @@ mixed() { awk -v count="$1" -v seed="$2" 'BEGIN { srand(seed); for (n = 0; n < c
 like() { printf '%-62s ' "$1"; (ulimit -s 1024 && "$program" "$3" "$2" < "$folder/text"); }
 
 program=${1:-}
-[ -n "$program" ] || build like "match_like" a 1
+[ -n "$program" ] || build like "match_comparisons" a 1
 uptime
 many=$(repeated 30000 a)
 repeated 8388608 a > "$folder/text"

@@ -25,7 +25,7 @@ held() {
 }
 
 program=${1:-}
-[ -n "$program" ] || build live "flow_values stix_times pattern_types pattern_reader match_bindings match_live" "[a:b='1']" 1 drawn
+[ -n "$program" ] || build live "flow_values stix_times pattern_types pattern_reader match_bindings match_stream" "[a:b='1']" 1 drawn
 uptime
 for _ in 1 2 3; do
   live "one bracket" "[a:b='1']"

@@ -12,7 +12,7 @@ queries() {
 }
 
 program=${1:-}
-[ -n "$program" ] || build queries "flow_values stix_ids stix_names taxii_routes taxii_rows taxii_store taxii_pages" load 1
+[ -n "$program" ] || build queries "flow_values stix_ids taxii_routes taxii_rows taxii_store" load 1
 uptime
 queries pages 1000000
 queries deletes 1000000

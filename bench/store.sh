@@ -13,7 +13,7 @@ store() {
 }
 
 program=${1:-}
-[ -n "$program" ] || build store "flow_values stix_ids stix_names stix_json taxii_routes taxii_rows taxii_store taxii_pages" load 1
+[ -n "$program" ] || build store "flow_values stix_ids stix_json taxii_routes taxii_rows taxii_store" load 1
 uptime
 for _ in 1 2 3; do
   store make 1000000

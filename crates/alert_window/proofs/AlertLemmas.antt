@@ -212,7 +212,7 @@ recent_row x t row = truth row 0 && int_lt t (later_by x (first_time row))
 abbrev pub begins_within : ℕ → ℤ → MatchingRow → Bool
 begins_within x t row = int_lt t (later_by x row.first)
 
--- how many of so many numbers behind one pass
+-- how many of so many numbers after one pass
 abbrev count_after : (ℕ → Bool) → ℕ → ℕ → ℕ
 count_after hit i zero = 0
 count_after hit i (suc m) = cond (hit (suc i)) 1 0 + count_after hit (suc i) m

@@ -64,7 +64,7 @@ first_less a b Less p e h = let less : a <ℤ b = subst (λ o. MatchOrdering o (
 first_less a b Equal p e h = let same = int_same a b e in omega (arith, ints)
 first_less a b Greater p e h = absurd (cc)
 
--- what stands behind a row doesn't begin before it
+-- what stands after a row doesn't begin before it
 pub begins_later : (r s : MatchingRow) → row_cmp r s ≡ Less → r.first ≤ℤ s.first
 begins_later r s h = first_less r.first s.first (int_cmp r.first s.first) (nat_cmp r.number s.number) refl h
 

@@ -26,7 +26,7 @@ pub record IsOrder {K : Type 0} (cmp : K → K → Ordering) : Type 0 where
   pub same : (x y : K) → cmp x y ≡ Equal → x ≡ y
   pub self : (x : K) → cmp x x ≡ Equal
 
--- each comes before all behind it
+-- each comes before all after it
 abbrev pub Ascend : {K : Type 0} → (K → K → Ordering) → List K → Type 0
 Ascend cmp [] = ⊤
 Ascend {K} cmp (x ∷ xs) = ((y : K) → In y xs → cmp x y ≡ Less) × Ascend cmp xs
@@ -129,7 +129,7 @@ module _ {K : Type 0} {cmp : K → K → Ordering} (o : IsOrder cmp) where
   not_behind x y h =
       by_order (cmp y x) (λ k. absurd (not_both x y h k)) (λ k. ap is_lt k) (λ k. ap is_lt k)
 
-  -- how many of a list stand behind something
+  -- how many of a list stand after something
   abbrev pub behind : K → List K → ℕ
   behind y xs = count_by (λ z. is_lt (cmp y z)) xs
 
@@ -142,7 +142,7 @@ module _ {K : Type 0} {cmp : K → K → Ordering} (o : IsOrder cmp) where
   all_behind_first x xs up =
       none_behind_itself x x xs up (inl refl) ∙ count_all (λ z. is_lt (cmp x z)) xs (λ y i. ap is_lt (up.0 y i))
 
-  -- what is kept of a ascending list are those with fewer than n behind them
+  -- what is kept of an ascending list are those with fewer than n after them
   pub kept_few_behind : (n : ℕ) (xs : List K) (y : K) → Ascend cmp xs → In y (keep n xs) → behind y xs < n
   kept_few_behind n [] y up h = absurd h
   kept_few_behind n (x ∷ xs) y up h =
@@ -327,9 +327,9 @@ module _ {K : Type 0} {cmp : K → K → Ordering} (o : IsOrder cmp) where
       let head = count_cons p x xs in
       omega arith
 
--- ---- the last n of a list by what is behind them
+-- ---- the last n of a list by what is after them
 
--- a ascending list of what stands in a list and has fewer than n behind it there
+-- an ascending list of what stands in a list and has fewer than n after it there
 pub record IsLast {K : Type 0} (cmp : K → K → Ordering) (n : ℕ) (xs last : List K) : Type 0 where
   pub ascend : Ascend cmp last
   pub from : (y : K) → In y last → In y xs × (count_by (λ z. is_lt (cmp y z)) xs < n)
@@ -397,7 +397,7 @@ module _ {K : Type 0} {cmp : K → K → Ordering} (o : IsOrder cmp) where
       }
       )
 
--- ---- how many pass a test that what is behind passes too
+-- ---- how many pass a test that what is after passes too
 
 -- a full list whose first passes
 abbrev pub FullFrom : {K : Type 0} → (K → Bool) → ℕ → List K → Type 0
@@ -409,7 +409,7 @@ module _ {K : Type 0} (cmp : K → K → Ordering) (p : K → Bool) (continues :
   all_from_first x xs up h =
       count_all p (x ∷ xs) (λ y i. elim i [ inl e ↦ subst (λ (z : K). p z ≡ true) e h | inr j ↦ continues x y (up.0 y j) h ])
 
-  -- n of a ascending list pass exactly where its last n do
+  -- n of an ascending list pass exactly where its last n do
   pub full_from_enough : (n : ℕ) (xs : List K) → 1 ≤ n → Ascend cmp xs → n ≤ count_by p xs → FullFrom p n (keep n xs)
   full_from_enough n [] some up h = absurd (omega arith)
   full_from_enough n (x ∷ xs) some up h =

@@ -92,7 +92,7 @@ sees-more stay objects observations o holds before between after text more sees 
   takes = takes-more stay sees.rows (row_of o holds ∷ []) before between after text more sees.takes takes;
 }
 
--- ---- what is true behind some observations
+-- ---- what is true after some observations
 
 last_of-more : (log : List LogEntry) (row : LogEntry) → last_of (log ++ row ∷ []) ≡ Some row.last
 last_of-more [] row = refl
@@ -139,7 +139,7 @@ last-after objects observations before after text ready sees =
     represents.last ∙ last-entries (plain_pattern before.pattern) objects observations ready.log sees.rows sees.entries
     ∙ ap (λ (last : Option ℤ). last_after last observations) (sym ready.behind.represents.last)
 
--- what may follow behind one row
+-- what may follow after one row
 pub follow-after : (before after : AlerterState) (o : Observation) (holds : Bool) (text : List ℕ) (observations : List Observation)
     → IsReady before → TakesRows (row_of o holds ∷ []) before after text
     → MayFollow (Some o.last) ((before.watch.rows + 1) + 1) observations → MayFollow after.watch.last (after.watch.rows + 1) observations

@@ -26,7 +26,7 @@ rows-same P Q number (row ∷ rows) text same (own, later, reports, others, is) 
   is,
 )
 
--- rows and others behind them
+-- rows and others after them
 pub rows-append : (P : ℕ → Type 0) (number : ℕ) (rows others : List LogEntry) (text more : List ℕ)
     → ReportsRows P number rows text → ReportsRows P (number + length rows) others more → ReportsRows P number (rows ++ others) (text ++ more)
 rows-append P number [] others text more reports behind =
@@ -45,7 +45,7 @@ rows-append P number (row ∷ rows) others text more (own, later, reports, rest,
 pub row-alone : (P : ℕ → Type 0) (number : ℕ) (row : LogEntry) (text : List ℕ) → ReportsRow P number row text → ReportsRows P number (row ∷ []) text
 row-alone P number row text reports = (text, [], reports, refl, sym (append-nil text))
 
--- what is reported of rows behind a log, and of others behind these
+-- what is reported of rows after a log, and of others after these
 pub behind-more : AlertsStay → (n x : ℕ) (log rows others : List LogEntry) (text more : List ℕ)
     → ReportsRows (IsAlert n x (log ++ rows)) (length log + 1) rows text
     → ReportsRows (IsAlert n x ((log ++ rows) ++ others)) (length (log ++ rows) + 1) others more

@@ -1,4 +1,5 @@
--- What an ending says of the arguments, the log and what was reported; its status, and its reason as a text.
+-- What an ending implies for the arguments, the log and what was reported; its exit status, and its
+-- message.
 use Rattle.std.specs.Prelude.{◌≡◌, ◌⊎◌, ℕ, List, [], codes}
 use Rattle.flow_edges.specs.Streams.{Streams, AreUntouched}
 use Rattle.pattern_types.specs.declared.pattern.Pattern.{Pattern}
@@ -12,19 +13,19 @@ use Rattle.command_alerts.specs.declared.ending.AlertEnding.TheVariants.{Usage, 
 use Rattle.command_alerts.specs.Tasks.{AlertTask, AskFor, AskForNothing, IsReadAsLeaf, IsReadAsMore}
 use Rattle.command_alerts.specs.Telling.{AnswersAlerts}
 
--- the arguments ask for something, of which that holds
+-- the arguments request a task, for which that holds
 pub record AskSo (arguments : List (List ℕ)) (Holds : AlertTask → Type 0) : Type 0 where
   pub task : AlertTask
   pub asked : AskFor arguments task
   pub holds : Holds task
 
--- the text is read as one pair of brackets, and the alerts of the input were reported
+-- the text is read as one observation expression, and the alerts of the input were reported
 pub record FollowsInput (before after : Streams) (ended : WatchEnd Infallible) (task : AlertTask) : Type 0 where
   pub pattern : Pattern
   pub read : IsReadAsLeaf task.pattern pattern
   pub answers : AnswersAlerts pattern task.n task.seconds before after ended
 
--- what an ending says of what is asked for
+-- what an ending implies for what is requested
 abbrev pub EndsTask : Streams → Streams → AlertEnding → AlertTask → Type 0
 EndsTask before after Usage task = ⊥
 EndsTask before after (PatternRefused refusal) task = IsRefusedPattern task.pattern refusal × AreUntouched before after
@@ -32,7 +33,8 @@ EndsTask before after NotLeaf task = IsReadAsMore task.pattern × AreUntouched b
 EndsTask before after (Ended ended) task = FollowsInput before after ended task
 EndsTask before after NoMemory task = AreUntouched before after
 
--- the arguments ask for nothing, and that is the ending; or they ask for something, of which it says that
+-- the arguments are no command line, and that is the ending; or they request a task, for which it
+-- says that
 abbrev pub EndsAlerts : List (List ℕ) → Streams → Streams → AlertEnding → Type 0
 EndsAlerts arguments before after ending = (AskForNothing arguments × (ending ≡ Usage) × AreUntouched before after) ⊎ AskSo arguments (EndsTask before after ending)
 

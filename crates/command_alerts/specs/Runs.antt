@@ -1,4 +1,4 @@
--- What stands when the program ended, by its status.
+-- What holds when the program has ended, by its exit status.
 use Rattle.std.specs.Prelude.{◌≡◌, ◌⊎◌, ◌↔◌, ℕ, List}
 use Rattle.flow_edges.specs.Streams.{Streams}
 use Rattle.pattern_types.specs.declared.pattern.Pattern.{Pattern}
@@ -10,7 +10,7 @@ use Rattle.command_alerts.specs.Tasks.{AlertTask, AskFor, AskForNothing, IsReadA
 use Rattle.command_alerts.specs.Telling.{ReportsBundles}
 use Rattle.command_alerts.specs.Endings.{AskSo, EndsAlerts, alert_status, IsAlertReason}
 
--- the program ended in one of its ways, with that status and that reason
+-- the program ended with one of the endings, with its exit status and its message
 pub record Ends (arguments : List (List ℕ)) (before after : Streams) (status : ℕ) (Writes : List ℕ → Type 0) : Type 0 where
   pub ending : AlertEnding
   pub status_is : status ≡ alert_status ending
@@ -19,11 +19,12 @@ pub record Ends (arguments : List (List ℕ)) (before after : Streams) (status :
   pub reason_is : IsAlertReason ending text
   pub reason : Writes text
 
--- the arguments ask for the alerts of what is no pair of brackets
+-- the arguments ask for the alerts of what is not one observation expression
 abbrev pub RefusesPattern : List (List ℕ) → Type 0
 RefusesPattern arguments = AskSo arguments (λ task. IsReadAsNoLeaf task.pattern)
 
--- the status 2 reports that the arguments ask for nothing, and 3 that the pattern is refused; only want of memory comes instead of 3
+-- status 2 means that the arguments are no command line, and 3 that the pattern is refused; only
+-- out of memory may replace 3
 pub record ReportsRefusals (arguments : List (List ℕ)) (status : ℕ) : Type 0 where
   pub usage : (status ≡ 2) ↔ AskForNothing arguments
   pub pattern : status ≡ 3 → RefusesPattern arguments
@@ -34,8 +35,8 @@ abbrev pub end_status : InputEnd → ℕ
 end_status Whole = 0
 end_status (Refused line why) = 4
 
--- the bytes of the input are read as bundles, up to their end or to the first line that is refused, and the alerts over the log of
--- these were reported, and nothing else
+-- the bytes of the input are read as bundles, up to their end or to the first line that is refused,
+-- and the alerts over the log of these were reported, and nothing else
 pub record ReportsInput (arguments : List (List ℕ)) (before after : Streams) (status : ℕ) : Type 0 where
   pub task : AlertTask
   pub asked : AskFor arguments task

@@ -1,4 +1,4 @@
--- What arguments ask for: PATTERN N SECONDS.
+-- The arguments PATTERN N SECONDS.
 use Rattle.std.specs.Prelude.{◌≡◌, ℕ, ◌≤◌, List, [], ◌∷◌}
 use Rattle.pattern_types.specs.declared.pattern.Pattern.{Pattern}
 use Rattle.pattern_types.specs.PlainLeaf.{PlainLeaf}
@@ -8,13 +8,13 @@ use Rattle.command_line.specs.CommandLines.{IsNumberIn}
 use Rattle.command_alerts.specs.declared.arguments.AlertRequest.{AlertRequest}
 use Rattle.command_alerts.specs.declared.arguments.TheConstants.{MAX_N, MAX_SECONDS}
 
--- the alerts of a pattern, for so many matches within so many seconds
+-- the alerts of a pattern, for n matches within a window of seconds
 pub record AlertTask : Type 0 where
   pub pattern : List ℕ
   pub n : ℕ
   pub seconds : ℕ
 
--- what is asked for
+-- what is requested
 abbrev pub task_of : AlertRequest → AlertTask
 task_of request = record { pattern = request.pattern.now; n = request.n; seconds = request.seconds }
 
@@ -26,7 +26,7 @@ pub record AskFor (arguments : List (List ℕ)) (task : AlertTask) : Type 0 wher
   pub n_is : IsNumberIn 1 MAX_N n_text task.n
   pub seconds_is : IsNumberIn 1 MAX_SECONDS seconds_text task.seconds
 
--- they aren't that
+-- the arguments are nothing of the kind
 abbrev pub AskForNothing : List (List ℕ) → Type 0
 AskForNothing arguments = (task : AlertTask) → ¬ AskFor arguments task
 
@@ -34,15 +34,15 @@ AskForNothing arguments = (task : AlertTask) → ¬ AskFor arguments task
 abbrev pub IsInRange : AlertTask → Type 0
 IsInRange task = (1 ≤ task.n) × (task.n ≤ MAX_N) × (1 ≤ task.seconds)
 
--- the pattern is one pair of brackets
+-- the pattern is one observation expression
 abbrev pub IsOneLeaf : Pattern → Type 0
 IsOneLeaf pattern = (leaf : PlainLeaf) × (plain_pattern pattern ≡ a_leaf leaf)
 
--- the text is read as that pattern, which is one pair of brackets
+-- the text is read as that pattern, which is one observation expression
 abbrev pub IsReadAsLeaf : List ℕ → Pattern → Type 0
 IsReadAsLeaf text pattern = IsReadAs text pattern × IsOneLeaf pattern
 
--- the text is read as a pattern that is more than one pair of brackets
+-- the text is read as a pattern that is more than one observation expression
 abbrev pub IsReadAsMore : List ℕ → Type 0
 IsReadAsMore text = (pattern : Pattern) × IsReadAs text pattern × ¬ IsOneLeaf pattern
 

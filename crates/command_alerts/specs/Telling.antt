@@ -1,5 +1,5 @@
--- What a run over an input has reported, by how it ended. The pattern is one pair of brackets; n and x are how many matches within how
--- many seconds are asked for.
+-- The output of a run over an input, by how it ended. The pattern is one observation expression; n
+-- and x are the number of matches and the window in seconds.
 use Rattle.std.specs.Prelude.{◌≡◌, ◌⊎◌, ℕ, List, [], ◌∷◌, ◌++◌, Option}
 use Rattle.std.specs.declared.convert.Infallible.{Infallible}
 use Rattle.flow_edges.specs.Flow.{IsAtEnd, written_with, WritesPrefix}
@@ -47,8 +47,8 @@ pub record ReportsTaken (p : Pattern) (n x : ℕ) (before after : Streams) : Typ
   pub reports : ReportsBundles p n x bundles before.written after.written
   pub taken : ReadsTaken bundles before.left after.left
 
--- the run stopped within a bundle, and read no further than its line: the alerts of the bundles before were reported, and of what is
--- reported of its first observations a prefix was written
+-- the run stopped within a bundle, and read no further than its line: the alerts of the bundles
+-- before were reported, and of what is reported of its first observations a prefix was written
 pub record StopsWithin (p : Pattern) (n x : ℕ) (before after : Streams) : Type 0 where
   pub earlier : List BundleOf
   pub bundle : BundleOf
@@ -73,7 +73,7 @@ pub record StopsBetween (p : Pattern) (n x : ℕ) (before after : Streams) : Typ
   pub begins : HasPrefix Lines before.left bundles
   pub reports : ReportsBundles p n x bundles before.written after.written
 
--- what an end says; nothing but memory, the input and the output stops the run
+-- what an end implies; nothing but memory, the input and the output stops the run
 abbrev pub AnswersAlerts : Pattern → ℕ → ℕ → Streams → Streams → WatchEnd Infallible → Type 0
 AnswersAlerts p n x before after Done = ReportsWhole p n x before after
 AnswersAlerts p n x before after (Input line why) = ReportsBefore p n x before after line why

@@ -6,7 +6,7 @@ use itoa::Buffer;
 use std::alloc::Global;
 use stix_times::{Instant, write};
 
-/// The line of an alert: its number, and when it was last observed.
+/// The line of an alert: the observation's number, and its last time.
 pub(crate) fn line_of(alloc: Global, number: u64, last: Instant) -> Result<Vec<u8>, NoMemory>
     ensures { IfOk result (λ line. IsLineOf number last line.items) }
 {

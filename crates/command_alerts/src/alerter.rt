@@ -21,7 +21,8 @@ use std::convert::Infallible;
 use std::marker::Model;
 use stix_bundles::Observation;
 
-/// Who reports the alerts of a log: a pattern, which is one bracket, and the watch over the rows at which it holds.
+/// The alert generator for a log: a pattern, which is one observation expression, and the sliding
+/// window of its matches.
 #[derive(Drop)]
 pub(crate) struct Alerter<'p> {
     alloc: Global,
@@ -42,7 +43,7 @@ impl<'p> Model for Alerter<'p> {
 }
 
 impl<'p> Alerter<'p> {
-    /// One that has seen nothing yet.
+    /// A generator that has read no observation.
     pub(crate) fn new(alloc: Global, pattern: &'p Pattern, watch: Watch) -> Alerter<'p>
         ensures { result ≡ record { pattern = pattern.now; watch = watch } }
     {
@@ -53,7 +54,8 @@ impl<'p> Alerter<'p> {
         }
     }
 
-    /// Reports of each observation of a bundle, in turn.
+    /// Processes the observations of a bundle in order, and adds their alerts to the pending
+    /// output.
     fn report_all<O: Sink>(
         &mut self,
         batch: &Batch,
@@ -61,11 +63,17 @@ impl<'p> Alerter<'p> {
         output: &mut O,
     ) -> Result<(), CutShort>
         requires ready { IsReady self.old }
-        requires follow { MayFollow self.old.watch.last (self.old.watch.rows + 1) batch.now.observations }
+        requires follow { MayFollow self.old.watch.last
+            (self.old.watch.rows + 1) batch.now.observations }
         requires empty { pending.old ≡ [] }
-        ensures sees { OnOk result (SeesSoFar (data_in batch.now.bundle) batch.now.observations self.old self.new pending.new (O.written output.old) (O.written output.new)) }
-        ensures part { OnErr result (SeesPart (data_in batch.now.bundle) batch.now.observations self.old (O.written output.old) (O.written output.new)) }
-        ensures causes { Counted (result ≡ Err CutShort.WriteFault) (O.faults output.old) (O.faults output.new) }
+        ensures sees { OnOk result
+            (SeesSoFar (data_in batch.now.bundle) batch.now.observations self.old self.new
+            pending.new (O.written output.old) (O.written output.new)) }
+        ensures part { OnErr result
+            (SeesPart (data_in batch.now.bundle) batch.now.observations self.old
+            (O.written output.old) (O.written output.new)) }
+        ensures causes { Counted (result ≡ Err CutShort.WriteFault) (O.faults output.old)
+            (O.faults output.new) }
     {
         alerts_persist();
         parts_are_buffered();
@@ -81,14 +89,15 @@ impl<'p> Alerter<'p> {
         Ok(())
     }
 
-    /// Takes the next observation, at which the bracket holds or not. The answer is what is reported of it: its line, where it
-    /// is an alert, or nothing.
+    /// Processes the next observation, for which `holds` says whether the expression matches.
+    /// Returns its line if it is an alert, else nothing.
     fn reported_of(&mut self, observation: &Observation, holds: bool) -> Result<Vec<u8>, NoMemory>
         requires ready { IsReady self.old }
         requires span { observation.now.first ≤ℤ observation.now.last }
         requires number { observation.now.number ≡ self.old.watch.rows + 1 }
         requires order { ¬ (Falls self.old.watch.last observation.now.last) }
-        ensures { IfOk result (λ text. TakesRows (row_of observation.now holds ∷ []) self.old self.new text.items) }
+        ensures { IfOk result
+            (λ text. TakesRows (row_of observation.now holds ∷ []) self.old self.new text.items) }
     {
         let number = observation.number;
         match self.watch.take(observation.first, observation.last, holds) {
@@ -100,7 +109,7 @@ impl<'p> Alerter<'p> {
     }
 }
 
-/// Whether the one bracket of a pattern holds, by its truths.
+/// Whether the pattern's one observation expression matches.
 fn holds_alone(truths: &[bool]) -> bool
     requires { length truths.now ≡ 1 }
     ensures { truths.now ≡ result ∷ [] }

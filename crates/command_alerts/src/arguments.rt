@@ -1,4 +1,4 @@
-//! The arguments of the program: `PATTERN N SECONDS`.
+//! The arguments `PATTERN N SECONDS`.
 
 ghost use Rattle.std.specs.Prelude.{IfNone, IfSome};
 ghost use Rattle.command_line.specs.CommandLines.{texts};
@@ -6,13 +6,13 @@ ghost use Rattle.command_alerts.specs.Tasks.{AskFor, AskForNothing, IsInRange, t
 
 use command_line::number_in;
 
-/// The greatest number of matches that may be asked for.
+/// The largest number of matches that may be requested.
 pub const MAX_N: u32 = 10_000;
 
-/// The greatest number of seconds.
+/// The longest window, in seconds.
 pub const MAX_SECONDS: u32 = 4_294_967_295;
 
-/// What is asked for: the alerts of a pattern, for so many matches within so many seconds.
+/// The request: the alerts of a pattern, for n matches within a window.
 #[derive(Clone, Copy)]
 pub(crate) struct AlertRequest<'a> {
     pub(crate) pattern: &'a str,
@@ -20,7 +20,7 @@ pub(crate) struct AlertRequest<'a> {
     pub(crate) seconds: u32,
 }
 
-/// What the arguments after the program's name ask for, if anything.
+/// Parses the arguments after the program's name; `None` if they are no command line.
 pub(crate) fn read_request<'a>(arguments: &'a [String]) -> Option<AlertRequest<'a>>
     ensures some { IfSome result (λ request. AskFor (texts arguments.entry.now) (task_of request)) }
     ensures range { IfSome result (λ request. IsInRange (task_of request)) }

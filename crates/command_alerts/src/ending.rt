@@ -12,13 +12,13 @@ use std::convert::Infallible;
 /// How the program ends.
 #[derive(Debug, Drop)]
 pub enum AlertEnding {
-    /// The arguments ask for nothing.
+    /// The arguments are no command line.
     Usage,
     /// The pattern is refused.
     PatternRefused(PatternRefusal),
-    /// The pattern isn't one bracket.
+    /// The pattern is not one observation expression.
     NotLeaf,
-    /// The input was followed, and that ended so.
+    /// The input was processed, with this end.
     Ended(WatchEnd<Infallible>),
     /// Memory ran out before the input was read.
     NoMemory,
@@ -28,7 +28,7 @@ impl AlertEnding {
     ghost use Rattle.std.specs.Prelude.{◌≡◌, List, ℕ, IsErr};
     ghost use Rattle.command_alerts.specs.Endings.{alert_status, IsAlertReason};
 
-    /// The status that the program ends with.
+    /// The program's exit status.
     pub fn status(&self) -> u8
         ensures { result ≡ alert_status self.now }
     {
@@ -44,9 +44,10 @@ impl AlertEnding {
         }
     }
 
-    /// Writes why the program ends so, in one line, or nothing where all was reported. Takes no memory.
+    /// Writes why the program ends, in one line, or nothing after success. Allocates nothing.
     pub fn write_reason<S: Sink>(&self, reasons: &mut S) -> Result<(), Fault>
-        ensures text { (text : List ℕ) × IsAlertReason self.now text × WritesWhole text (S.written reasons.old) (S.written reasons.new) result }
+        ensures text { (text : List ℕ) × IsAlertReason self.now text
+            × WritesWhole text (S.written reasons.old) (S.written reasons.new) result }
         ensures causes { Counted (IsErr result) (S.faults reasons.old) (S.faults reasons.new) }
     {
         match self {

@@ -1,5 +1,11 @@
-//! The alerter: at which observations of a log at least n matches of one bracket lie within x seconds, as arguments ask for it, each reported
-//! before the next line is read.
+//! The program `stix_alerts`: reports each observation at which at least n matches of one
+//! observation expression (`[..]`) lie within the last x seconds. Each alert is written before the
+//! next line is read. The window is a queue of the last n matches.
+//!
+//! ```text
+//! // stix_alerts PATTERN N SECONDS
+//! let status = run_alerts(alloc, &arguments, &mut stdin, &mut stdout, &mut stderr);
+//! ```
 #![tactic(auto)]
 
 mod alert_line;

@@ -25,7 +25,7 @@ use pattern_types::Pattern;
 use std::alloc::Global;
 use std::convert::Infallible;
 
-/// Reports the alerts of an input for a pattern that is one bracket.
+/// Writes the alerts of an input for a pattern that is one observation expression.
 fn watch_input<I: Source, O: Sink>(
     alloc: Global,
     pattern: &Pattern,
@@ -35,11 +35,15 @@ fn watch_input<I: Source, O: Sink>(
 ) -> Result<WatchEnd<Infallible>, NoMemory>
     requires read { IsReadAsLeaf request.pattern.now pattern.now }
     requires range { IsInRange (task_of request) }
-    ensures end { IfOk result (AnswersAlerts pattern.now request.entry.n request.entry.seconds (streams (I.left input.old) (I.began input.old) (O.written output.old))
+    ensures end { IfOk result
+        (AnswersAlerts pattern.now request.entry.n request.entry.seconds
+        (streams (I.left input.old) (I.began input.old) (O.written output.old))
         (streams (I.left input.new) (I.began input.new) (O.written output.new))) }
     ensures untouched { OnErr result ((input.new ≡ input.old) × (output.new ≡ output.old)) }
-    ensures input { Counted (result ≡ Ok WatchEnd.ReadFault) (I.faults input.old) (I.faults input.new) }
-    ensures output { Counted (result ≡ Ok WatchEnd.WriteFault) (O.faults output.old) (O.faults output.new) }
+    ensures input { Counted (result ≡ Ok WatchEnd.ReadFault) (I.faults input.old)
+        (I.faults input.new) }
+    ensures output { Counted (result ≡ Ok WatchEnd.WriteFault) (O.faults output.old)
+        (O.faults output.new) }
 {
     alerts_persist();
     begins_with_none();
@@ -49,7 +53,7 @@ fn watch_input<I: Source, O: Sink>(
     Ok(follow(&mut reader, &mut alerter, input, output))
 }
 
-/// Reports the alerts of an input for a pattern.
+/// Writes the alerts of an input for a parsed pattern.
 fn report_alerts<I: Source, O: Sink>(
     alloc: Global,
     pattern: &Pattern,
@@ -60,8 +64,10 @@ fn report_alerts<I: Source, O: Sink>(
     requires read { IsReadAs request.pattern.now pattern.now }
     requires range { IsInRange (task_of request) }
     ensures end { EndsTask (streams (I.left input.old) (I.began input.old) (O.written output.old))
-        (streams (I.left input.new) (I.began input.new) (O.written output.new)) result (task_of request.entry) }
-    ensures untouched { (alert_status result ≡ 2) ⊎ (alert_status result ≡ 3) → (input.new ≡ input.old) × (output.new ≡ output.old) }
+        (streams (I.left input.new) (I.began input.new) (O.written output.new)) result
+        (task_of request.entry) }
+    ensures untouched { (alert_status result ≡ 2) ⊎ (alert_status result ≡ 3)
+        → (input.new ≡ input.old) × (output.new ≡ output.old) }
     ensures input { Counted (alert_status result ≡ 5) (I.faults input.old) (I.faults input.new) }
     ensures output { Counted (alert_status result ≡ 6) (O.faults output.old) (O.faults output.new) }
 {
@@ -74,7 +80,7 @@ fn report_alerts<I: Source, O: Sink>(
     }
 }
 
-/// Does what is asked for.
+/// Executes a request.
 fn answer<I: Source, O: Sink>(
     alloc: Global,
     request: AlertRequest<'_>,
@@ -83,8 +89,10 @@ fn answer<I: Source, O: Sink>(
 ) -> AlertEnding
     requires range { IsInRange (task_of request) }
     ensures end { EndsTask (streams (I.left input.old) (I.began input.old) (O.written output.old))
-        (streams (I.left input.new) (I.began input.new) (O.written output.new)) result (task_of request.entry) }
-    ensures untouched { (alert_status result ≡ 2) ⊎ (alert_status result ≡ 3) → (input.new ≡ input.old) × (output.new ≡ output.old) }
+        (streams (I.left input.new) (I.began input.new) (O.written output.new)) result
+        (task_of request.entry) }
+    ensures untouched { (alert_status result ≡ 2) ⊎ (alert_status result ≡ 3)
+        → (input.new ≡ input.old) × (output.new ≡ output.old) }
     ensures input { Counted (alert_status result ≡ 5) (I.faults input.old) (I.faults input.new) }
     ensures output { Counted (alert_status result ≡ 6) (O.faults output.old) (O.faults output.new) }
 {
@@ -100,16 +108,18 @@ fn answer<I: Source, O: Sink>(
     }
 }
 
-/// Does what the arguments ask for.
+/// Executes the command line.
 fn execute<I: Source, O: Sink>(
     alloc: Global,
     arguments: &[String],
     input: &mut I,
     output: &mut O,
 ) -> AlertEnding
-    ensures end { EndsAlerts (texts arguments.now) (streams (I.left input.old) (I.began input.old) (O.written output.old))
+    ensures end { EndsAlerts (texts arguments.now)
+        (streams (I.left input.old) (I.began input.old) (O.written output.old))
         (streams (I.left input.new) (I.began input.new) (O.written output.new)) result }
-    ensures untouched { (alert_status result ≡ 2) ⊎ (alert_status result ≡ 3) → (input.new ≡ input.old) × (output.new ≡ output.old) }
+    ensures untouched { (alert_status result ≡ 2) ⊎ (alert_status result ≡ 3)
+        → (input.new ≡ input.old) × (output.new ≡ output.old) }
     ensures input { Counted (alert_status result ≡ 5) (I.faults input.old) (I.faults input.new) }
     ensures output { Counted (alert_status result ≡ 6) (O.faults output.old) (O.faults output.new) }
 {
@@ -119,19 +129,19 @@ fn execute<I: Source, O: Sink>(
     }
 }
 
-/// The program: reports the alerts that the arguments after its name ask for, each before more is read than its line, and answers
-/// its status.
+/// Writes the alerts that the arguments request, each before more than its line is read, and
+/// returns the exit status.
 ///
-/// | Status | Comes |
+/// | Exit status | Condition |
 /// |---|---|
-/// | 0 | the input was read to its end, and all alerts were reported |
+/// | 0 | the input was read to its end, and all alerts were written |
 /// | 1 | memory ran out |
-/// | 2 | exactly where the arguments ask for nothing |
-/// | 3 | exactly where the pattern is refused or isn't one bracket, unless memory runs out while it is read |
-/// | 4 | where a line is refused, the first such one |
-/// | 5, 6 | only where the input, the output counted a fault, and at each fault of theirs |
+/// | 2 | if and only if the arguments are no command line |
+/// | 3 | the pattern is refused, or not one observation expression; out of memory may come first |
+/// | 4 | the first refused line |
+/// | 5, 6 | if and only if the input, or the output, counted a fault |
 ///
-/// On `faults` the reason is reported in one line. A failing write there changes nothing else.
+/// The reason is written to `faults` in one line. A failing write there changes nothing else.
 pub fn run_alerts<I: Source, O: Sink, E: Sink>(
     alloc: Global,
     arguments: &[String],
@@ -139,13 +149,21 @@ pub fn run_alerts<I: Source, O: Sink, E: Sink>(
     output: &mut O,
     faults: &mut E,
 ) -> u8
-    ensures ends { Ends (texts arguments.now) (streams (I.left input.old) (I.began input.old) (O.written output.old))
+    ensures ends { Ends (texts arguments.now)
+        (streams (I.left input.old) (I.began input.old) (O.written output.old))
         (streams (I.left input.new) (I.began input.new) (O.written output.new)) result
-        (λ reason. WritesReason reason (E.written faults.old) (E.written faults.new) (E.faults faults.old) (E.faults faults.new)) }
+        (λ reason. WritesReason reason (E.written faults.old) (E.written faults.new)
+        (E.faults faults.old) (E.faults faults.new)) }
+    // what the statuses 2 and 3 mean
     ensures refusals { ReportsRefusals (texts arguments.now) result }
-    ensures reported { (result ≡ 0) ⊎ (result ≡ 4) → ReportsInput (texts arguments.now) (streams (I.left input.old) (I.began input.old) (O.written output.old))
+    // with status 0 or 4 exactly the alerts of the bundles before the end, or the refused line,
+    // were written
+    ensures reported { (result ≡ 0) ⊎ (result ≡ 4)
+        → ReportsInput (texts arguments.now)
+        (streams (I.left input.old) (I.began input.old) (O.written output.old))
         (streams (I.left input.new) (I.began input.new) (O.written output.new)) result }
-    ensures untouched { (result ≡ 2) ⊎ (result ≡ 3) → (input.new ≡ input.old) × (output.new ≡ output.old) }
+    ensures untouched { (result ≡ 2) ⊎ (result ≡ 3)
+        → (input.new ≡ input.old) × (output.new ≡ output.old) }
     ensures input { Counted (result ≡ 5) (I.faults input.old) (I.faults input.new) }
     ensures output { Counted (result ≡ 6) (O.faults output.old) (O.faults output.new) }
 {
@@ -154,10 +172,12 @@ pub fn run_alerts<I: Source, O: Sink, E: Sink>(
     finish(&ending, faults)
 }
 
-/// Reports why the program ends so, and answers its status.
+/// Writes why the program ends, and returns its exit status.
 fn finish<E: Sink>(ending: &AlertEnding, faults: &mut E) -> u8
     ensures status { result ≡ alert_status ending.now }
-    ensures reason { (text : List ℕ) × IsAlertReason ending.now text × WritesReason text (E.written faults.old) (E.written faults.new) (E.faults faults.old) (E.faults faults.new) }
+    ensures reason { (text : List ℕ) × IsAlertReason ending.now text
+        × WritesReason text (E.written faults.old) (E.written faults.new) (E.faults faults.old)
+        (E.faults faults.new) }
 {
     let _ = ending.write_reason(faults);
     ending.status()

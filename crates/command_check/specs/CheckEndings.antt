@@ -1,4 +1,5 @@
--- What `check` writes, and what an ending of it says of its input and of what was written; its status, and its reason as a text.
+-- What `check` writes, and what an ending of it implies for its input and for what was written; its
+-- status, and its reason as a text.
 use Rattle.std.specs.Prelude.{◌≡◌, ℕ, ◌+◌, List, [], ◌++◌, flat_map, codes, decimal, Option}
 use Rattle.flow_edges.specs.declared.source.TheConstants.{MAX_READ}
 use Rattle.flow_edges.specs.Flow.{TakesAtMost, written_with, WritesPrefix}
@@ -29,8 +30,8 @@ version_line broken = codes "object " ++ (decimal broken.object ++ (codes ": " +
 abbrev pub marking_line : MarkingBreak → List ℕ
 marking_line broken = codes "object " ++ (decimal broken.object ++ (codes ": marking " ++ (decimal broken.marking ++ (codes ": " ++ (marking_rule_name broken.rule ++ codes "\n")))))
 
--- what is written of a verdict: the breaks, a line each, those of versions before those of markings, or how many objects
--- are sound
+-- the output for a verdict: the violations, one per line, those of versions before those of
+-- markings, or the number of valid objects
 abbrev pub verdict_text : Verdict → List ℕ
 verdict_text (verdict.Sound count) = codes "ok " ++ (decimal count ++ codes " objects\n")
 verdict_text (verdict.Broken breaks) = flat_map break_line breaks
@@ -43,7 +44,7 @@ pub record IsVerdictOn (before after : Streams) (found : Verdict) : Type 0 where
   pub whole : IsWhole bytes before.left after.left
   pub validated : IsValidated bytes found
 
--- no more is taken of the input than it may have, and one read
+-- at most the allowed number of bytes, and one more read, are taken from the input
 abbrev pub TakesNoMore : Streams → Streams → Type 0
 TakesNoMore before after = TakesAtMost (MAX_WHOLE_INPUT + MAX_READ) before.left after.left
 

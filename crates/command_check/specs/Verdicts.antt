@@ -1,4 +1,4 @@
--- What an input is found to be, as a bundle.
+-- The verdict on an input, as a bundle.
 use Rattle.std.specs.Prelude.{◌≡◌, ◌≢◌, ℕ, List, [], length}
 use Rattle.serde_json.specs.Data.{Data}
 use Rattle.stix_json.specs.declared.value.Json.{Json}
@@ -25,25 +25,26 @@ IsNotBundleFor d (NoBundle (NotBundle path)) = IsBundleRefused d (NotBundle path
 IsNotBundleFor d (NoBundle (Breaks breaks)) = ⊥
 IsNotBundleFor d (NoBundle NoMemory) = ⊥
 
--- objects that meet the rules of their types are so many, or their versions and markings break these rules
+-- for objects that meet the rules of their types: their number, or the violated rules of their
+-- versions and markings
 abbrev pub AreValidated : List Data → Verdict → Type 0
 AreValidated objects (Sound count) = (count ≡ length objects) × AreVersionBreaks objects [] × AreMarkingBreaks objects []
 AreValidated objects (Broken breaks) = ⊥
 AreValidated objects (Unfit versions markings) = AreVersionBreaks objects versions × AreMarkingBreaks objects markings × (¬ ((versions ≡ []) × (markings ≡ [])))
 AreValidated objects (Refused rule) = ⊥
 
--- a value is a bundle, of which that is found, or one with these breaks, or none
+-- a value is a bundle with this verdict, or one with these violations, or no bundle
 abbrev pub IsBundleValidated : Data → Verdict → Type 0
 IsBundleValidated d (Sound count) = (objects : List Data) × IsBundle d objects × AreValidated objects (Sound count)
 IsBundleValidated d (Unfit versions markings) = (objects : List Data) × IsBundle d objects × AreValidated objects (Unfit versions markings)
 IsBundleValidated d (Broken breaks) = IsBundleRefused d (Breaks breaks)
 IsBundleValidated d (Refused rule) = IsNotBundleFor d rule
 
--- some bytes are a JSON value of which that is known
+-- some bytes are a JSON value with this verdict
 abbrev pub HasJson : List ℕ → (Data → Type 0) → Type 0
 HasJson bytes P = (value : Json) × IsJsonOf bytes value × P (data_of value)
 
--- why bytes are refused, of which there aren't too many: they are no JSON value, or it is no bundle
+-- why bytes of an allowed length are refused: they are no JSON value, or the value is no bundle
 abbrev pub IsRefusedFor : List ℕ → InputRule → Type 0
 IsRefusedFor bytes LineTooLong = ⊥
 IsRefusedFor bytes InputTooLong = ⊥
@@ -52,7 +53,7 @@ IsRefusedFor bytes (OutOfOrder last now) = ⊥
 IsRefusedFor bytes (NoJson refusal) = (refusal ≢ json_refusal.NoMemory) × IsJsonRefusedAs bytes refusal
 IsRefusedFor bytes (NoBundle refusal) = HasJson bytes (λ d. IsNotBundleFor d (NoBundle refusal))
 
--- what bytes are
+-- the verdict on some bytes
 abbrev pub IsValidated : List ℕ → Verdict → Type 0
 IsValidated bytes (Sound count) = HasJson bytes (λ d. IsBundleValidated d (Sound count))
 IsValidated bytes (Broken breaks) = HasJson bytes (λ d. IsBundleValidated d (Broken breaks))

@@ -17,9 +17,9 @@ use std::alloc::Global;
 /// How `check` ends.
 #[derive(Debug, Drop)]
 pub enum CheckEnding {
-    /// The input was read whole, and the verdict on it was written.
+    /// The input was read completely, and the verdict on it was written.
     Validated(Verdict),
-    /// The input has more bytes than it may have.
+    /// The input is longer than allowed.
     TooLong,
     /// The input failed.
     ReadFault,
@@ -32,7 +32,7 @@ pub enum CheckEnding {
 impl CheckEnding {
     ghost use Rattle.command_check.specs.CheckEndings.{IsCheckReason};
 
-    /// The status of the program.
+    /// The program's exit status.
     pub fn status(&self) -> u8
         ensures { result ≡ check_status self.now }
     {
@@ -46,9 +46,10 @@ impl CheckEnding {
         }
     }
 
-    /// Writes why it ends so; an input that is refused is line 1. Takes no memory.
+    /// Writes why the command ends; a refused input counts as line 1. Allocates nothing.
     pub fn write_reason<S: Sink>(&self, reasons: &mut S) -> Result<(), Fault>
-        ensures text { (text : List ℕ) × IsCheckReason self.now text × WritesWhole text (S.written reasons.old) (S.written reasons.new) result }
+        ensures text { (text : List ℕ) × IsCheckReason self.now text
+            × WritesWhole text (S.written reasons.old) (S.written reasons.new) result }
         ensures causes { Counted (IsErr result) (S.faults reasons.old) (S.faults reasons.new) }
     {
         match self {
@@ -64,10 +65,11 @@ impl CheckEnding {
     }
 }
 
-/// The command `check`: writes the breaks of a bundle's objects, else those of their versions and
-/// granular markings, else how many objects are sound.
+/// The command `check`: writes the violations of a bundle's objects, else those of their versions
+/// and granular markings, else how many objects are valid.
 pub fn check<I: Source, O: Sink>(alloc: Global, input: &mut I, output: &mut O) -> CheckEnding
-    ensures end { EndsCheck (streams (I.left input.old) (I.began input.old) (O.written output.old)) (streams (I.left input.new) (I.began input.new) (O.written output.new)) result }
+    ensures end { EndsCheck (streams (I.left input.old) (I.began input.old) (O.written output.old))
+        (streams (I.left input.new) (I.began input.new) (O.written output.new)) result }
     ensures input { Counted (check_status result ≡ 5) (I.faults input.old) (I.faults input.new) }
     ensures output { Counted (check_status result ≡ 6) (O.faults output.old) (O.faults output.new) }
 {

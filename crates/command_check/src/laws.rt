@@ -1,4 +1,4 @@
-//! What follows from the definitions: the contracts are the laws, and the functions do nothing.
+//! Theorems about the definitions. Each `ensures` states one; the functions have no effect.
 
 ghost use Rattle.std.specs.Prelude.{◌≡◌, ℕ, List};
 ghost use Rattle.command_check.specs.declared.verdict.Verdict.{Verdict};
@@ -6,9 +6,11 @@ ghost use Rattle.command_check.specs.Verdicts.{IsValidated};
 
 use stix_bundles::laws::one_reading;
 
-/// Some bytes have one verdict. So what a check writes, and its status, are functions of the bytes.
+/// The verdict on a byte string is unique. So the output and the exit status are functions of the
+/// input.
 pub fn one_verdict()
-    ensures { (bytes : List ℕ) (first second : Verdict) → IsValidated bytes first → IsValidated bytes second → first ≡ second }
+    ensures { (bytes : List ℕ) (first second : Verdict) → IsValidated bytes first
+        → IsValidated bytes second → first ≡ second }
 {
     stix_versions::laws::one_list();
     one_reading();

@@ -13,7 +13,7 @@ use stix_bundles::{Bundle, BundleRefusal, read_bundle};
 use stix_json::{Json, JsonRefusal, read_owned};
 use stix_versions::{marking_breaks, version_breaks};
 
-/// What bytes are, as a bundle. They are taken over: the texts of its objects lie in them.
+/// Validates bytes as a bundle. They are moved in, since the texts of the objects borrow from them.
 pub(crate) fn validate(alloc: Global, bytes: Items<u8>) -> Result<Verdict, NoMemory>
     ensures { IfOk result (IsValidated bytes) }
 {
@@ -23,9 +23,10 @@ pub(crate) fn validate(alloc: Global, bytes: Items<u8>) -> Result<Verdict, NoMem
     }
 }
 
-/// The verdict on bytes that are refused as JSON.
+/// The verdict on bytes that are no acceptable JSON.
 fn refuse(refusal: JsonRefusal) -> Result<Verdict, NoMemory>
-    ensures { IfOk result (λ verdict. (refusal ≢ json_refusal.NoMemory) × (verdict ≡ Verdict.Refused (InputRule.Json refusal))) }
+    ensures { IfOk result (λ verdict. (refusal ≢ json_refusal.NoMemory)
+        × (verdict ≡ Verdict.Refused (InputRule.Json refusal))) }
 {
     match &refusal {
         JsonRefusal::NoMemory => Err(NoMemory),
@@ -38,7 +39,7 @@ fn refuse(refusal: JsonRefusal) -> Result<Verdict, NoMemory>
     }
 }
 
-/// What a value is, as a bundle.
+/// Validates a JSON value as a bundle.
 fn validate_value(alloc: Global, value: Json) -> Result<Verdict, NoMemory>
     requires { IsOrdered (data_of value) }
     ensures { IfOk result (IsBundleValidated (data_of value)) }
@@ -54,7 +55,7 @@ fn validate_value(alloc: Global, value: Json) -> Result<Verdict, NoMemory>
     }
 }
 
-/// What objects are that meet the rules of their types.
+/// Validates the versions and granular markings of objects that meet the rules of their types.
 fn validate_bundle(alloc: Global, bundle: &Bundle) -> Result<Verdict, NoMemory>
     ensures { IfOk result (AreValidated (data_in bundle.now)) }
 {

@@ -3,20 +3,21 @@ use match_input::InputRule;
 use stix_bundles::ObjectBreak;
 use stix_versions::{MarkingBreak, VersionBreak};
 
-/// What a check finds of an input.
+/// The verdict on an input.
 #[derive(Debug, Drop)]
 pub enum Verdict {
-    /// It is a bundle of so many objects, in which each rule is met.
+    /// A bundle with this many objects that meets all rules.
     Sound {
         objects: usize,
     },
-    /// It is a bundle, objects of which break rules.
+    /// A bundle with objects that violate the rules of their types.
     Broken(Items<ObjectBreak>),
-    /// Its objects meet the rules of their types, and versions of them or granular markings break theirs.
+    /// A bundle whose objects meet the rules of their types, but not those of versions or granular
+    /// markings.
     Unfit {
         versions: Items<VersionBreak>,
         markings: Items<MarkingBreak>,
     },
-    /// It is no bundle.
+    /// No bundle.
     Refused(InputRule),
 }

@@ -8,7 +8,7 @@ use std::alloc::Global;
 use stix_bundles::ObjectBreak;
 use stix_versions::{MarkingBreak, VersionBreak};
 
-/// What is written of a verdict.
+/// The output for a verdict.
 pub(crate) fn verdict_text(alloc: Global, verdict: &Verdict) -> Result<Text, NoMemory>
     ensures { IfOk result (λ text. text ≡ text_of_verdict verdict.now) }
 {
@@ -40,7 +40,7 @@ fn breaks_text(alloc: Global, breaks: &[ObjectBreak]) -> Result<Text, NoMemory>
     Ok(text)
 }
 
-/// The line of a break.
+/// The line of a violation.
 fn break_text(alloc: Global, broken: &ObjectBreak) -> Result<Text, NoMemory>
     ensures { IfOk result (λ text. text ≡ break_line broken.now) }
 {
@@ -53,17 +53,22 @@ fn break_text(alloc: Global, broken: &ObjectBreak) -> Result<Text, NoMemory>
     placed_line(alloc, object, rule, path)
 }
 
-/// The line of a break of the whole object.
+/// The line of a violation by the whole object.
 fn plain_line(alloc: Global, object: u32, rule: &str) -> Result<Text, NoMemory>
-    ensures { IfOk result (λ text. text ≡ codes "object " ++ (decimal object ++ (codes ": " ++ (rule.now ++ codes "\n")))) }
+    ensures { IfOk result
+        (λ text. text ≡ codes "object "
+        ++ (decimal object ++ (codes ": " ++ (rule.now ++ codes "\n")))) }
 {
     let text = format!(in alloc; "object {object}: {rule}\n")?;
     Ok(Text::from_string(text))
 }
 
-/// The line of a break at a path.
+/// The line of a violation at a path.
 fn placed_line(alloc: Global, object: u32, rule: &str, path: &str) -> Result<Text, NoMemory>
-    ensures { IfOk result (λ text. text ≡ codes "object " ++ (decimal object ++ (codes ": " ++ (rule.now ++ (codes " at " ++ (path.now ++ codes "\n")))))) }
+    ensures { IfOk result
+        (λ text. text ≡ codes "object "
+        ++ (decimal object
+        ++ (codes ": " ++ (rule.now ++ (codes " at " ++ (path.now ++ codes "\n")))))) }
 {
     let text = format!(in alloc; "object {object}: {rule} at {path}\n")?;
     Ok(Text::from_string(text))
@@ -74,7 +79,8 @@ fn unfit_text(
     versions: &[VersionBreak],
     markings: &[MarkingBreak],
 ) -> Result<Text, NoMemory>
-    ensures { IfOk result (λ text. text ≡ flat_map version_line versions.now ++ flat_map marking_line markings.now) }
+    ensures { IfOk result
+        (λ text. text ≡ flat_map version_line versions.now ++ flat_map marking_line markings.now) }
 {
     let mut text = versions_text(alloc, versions)?;
     let rest = markings_text(alloc, markings)?;
@@ -104,7 +110,7 @@ fn markings_text(alloc: Global, markings: &[MarkingBreak]) -> Result<Text, NoMem
     Ok(text)
 }
 
-/// The line of a break of a rule of versions.
+/// The line of a violation of a version rule.
 fn version_text(alloc: Global, broken: VersionBreak) -> Result<Text, NoMemory>
     ensures { IfOk result (λ text. text ≡ version_line broken) }
 {
@@ -114,7 +120,7 @@ fn version_text(alloc: Global, broken: VersionBreak) -> Result<Text, NoMemory>
     Ok(Text::from_string(text))
 }
 
-/// The line of a break of a rule of markings.
+/// The line of a violation of a marking rule.
 fn marking_text(alloc: Global, broken: MarkingBreak) -> Result<Text, NoMemory>
     ensures { IfOk result (λ text. text ≡ marking_line broken) }
 {

@@ -22,7 +22,7 @@ pub first-argument : (arguments : List Argument) (a : Argument) → 1 ≤ length
 first-argument [] a least is = absurd (omega arith)
 first-argument (x ∷ arguments) a least is = (texts arguments, ap (λ (argument : Argument). string_bytes argument ∷ texts arguments) (sym is))
 
--- a argument is the retained limit
+-- an argument is the retained limit
 module _ (texts_of : List (List ℕ)) (own text : List ℕ) (are : texts_of ≡ own ∷ []) (same : text ≡ own) where
   pub retained_limit-some : (answer : Option ℕ) → ((n : ℕ) → (answer ≡ Some n) ↔ IsNumberIn 1 MAX_RETAINED_LIMIT text n) → IfSome answer (IsNumberOr DEFAULT_RETAINED_LIMIT 1 MAX_RETAINED_LIMIT texts_of)
   retained_limit-some (Some n) reads =
@@ -45,7 +45,7 @@ no-moment texts_of own text rest are same answer only err moment retained_limit 
     let wrong : IsErr {T = ℤ} {E = TimeRefusal} (Ok moment) = subst IsErr (sym read) err in
     cc
 
--- ---- the option and its value, ahead of the others or behind them
+-- ---- the option and its value, ahead of the others or after them
 
 two-first : (arguments : List Argument) (a b : Argument) → 2 ≤ length arguments → a ≡ get_or arguments 0 a → b ≡ get_or arguments 1 b
     → arguments ≡ a ∷ b ∷ take (length arguments - 2) (drop 2 arguments)
@@ -116,7 +116,7 @@ two-behind arguments others last a b option name are count is_a is_b is_option i
     let own : texts last ≡ option ∷ name ∷ [] = (let it = ap texts two in cc) in
     parts ∙ ap (λ (l : List (List ℕ)). texts others ++ l) own
 
--- a argument that isn't empty is a name
+-- an argument that isn't empty is a name
 pub named-so : (name : List ℕ) (empty : Bool) → empty ≡ (length name == 0) → IsTrue (not empty) ↔ (name ≢ [])
 named-so [] true is = ((λ yes none. absurd (false≢true yes)), (λ named. absurd (named refl)))
 named-so [] false is = absurd (false≢true is)

@@ -152,12 +152,12 @@ module _ (law : AnswersAreHits) (task : HuntTask) (feed : List Data) (hunt : Hun
 pub prefix-whole : (text : List ℕ) (before now : Option (List ℕ)) → now ≡ written_with text before → WritesPrefix text before now
 prefix-whole text before now is = (length text, omega arith, is ∙ ap (λ (t : List ℕ). written_with t before) (sym (take-length text)))
 
--- behind one text another one
+-- after one text another one
 reported-behind : (text more : List ℕ) (before now after : Option (List ℕ)) → now ≡ written_with text before → after ≡ written_with more now
     → after ≡ written_with (text ++ more) before
 reported-behind text more before now after was is = is ∙ ap (written_with more) was ∙ written_with-both text more before
 
--- behind a text a prefix of another one
+-- after a text a prefix of another one
 prefix-behind : (text more : List ℕ) (before now after : Option (List ℕ)) → now ≡ written_with text before → WritesPrefix more now after
     → WritesPrefix (text ++ more) before after
 prefix-behind text more before now after was prefix = way-cut (text ++ more) more before now after (record { sent = text; text_is = refl; now_is = was }) prefix
@@ -292,7 +292,7 @@ module _ (law : AnswersAreHits) (task : HuntTask) (before : Streams) (feed : Lis
     -- some bundles were seen
     module _ (file : Option (List Data)) (earlier : List BundleOf) (known : IsKnownFrom file earlier feed) (next : HunterState) (own : List ℕ)
         (written_next : Option (List ℕ)) (one : TakesRows (rows_of earlier) start next own) (was_next : written_next ≡ written_with own written) where
-      -- and more behind them
+      -- and more after them
       pub record SeenBehind (bundles : List BundleOf) (at : HunterState) (now : Option (List ℕ)) : Type 0 where
         pub text : List ℕ
         pub takes : TakesRows (rows_of (earlier ++ bundles)) start at text

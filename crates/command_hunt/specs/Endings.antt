@@ -1,4 +1,5 @@
--- What an ending says of the arguments, the file of the indicators, the log and what was reported; its status, and its reason as a text.
+-- What an ending implies for the arguments, the file of the indicators, the log and what was
+-- reported; its exit status, and its message.
 use Rattle.std.specs.Prelude.{◌≡◌, ◌⊎◌, ℕ, List, [], Option, codes}
 use Rattle.flow_edges.specs.Streams.{Streams, AreUntouched}
 use Rattle.serde_json.specs.Data.{Data}
@@ -13,19 +14,20 @@ use Rattle.command_hunt.specs.Tasks.{HuntTask, AskFor, AskForNothing}
 use Rattle.command_hunt.specs.Feeding.{IsFed, IsUnfed}
 use Rattle.command_hunt.specs.Telling.{AnswersHunt}
 
--- the arguments ask for a hunt, of which that holds
+-- the arguments request a hunt, for which this holds
 pub record AskSo (arguments : List (List ℕ)) (Holds : HuntTask → Type 0) : Type 0 where
   pub task : HuntTask
   pub asked : AskFor arguments task
   pub holds : Holds task
 
--- what an ending says of what is asked for
+-- what an ending implies for what is requested
 abbrev pub EndsTask : (List ℕ → Option (List ℕ)) → Streams → Streams → HuntEnding → HuntTask → Type 0
 EndsTask contents before after Usage task = ⊥
 EndsTask contents before after (Unfed end) task = IsUnfed contents task end × AreUntouched before after
 EndsTask contents before after (Ended ended) task = (file : Option (List Data)) × IsFed contents task file × AnswersHunt task file before after ended
 
--- the arguments ask for nothing, and that is the ending; or they ask for a hunt, of which it says that
+-- the arguments are no command line, and that is the ending; or they request a hunt, for which the
+-- ending implies this
 abbrev pub EndsHunt : List (List ℕ) → (List ℕ → Option (List ℕ)) → Streams → Streams → HuntEnding → Type 0
 EndsHunt arguments contents before after ending = (AskForNothing arguments × (ending ≡ Usage) × AreUntouched before after)
     ⊎ AskSo arguments (EndsTask contents before after ending)

@@ -1,5 +1,5 @@
--- Where the indicators of a hunt come from: a file, where the arguments name one. `contents` are the bytes of files by their names, where
--- they are reported.
+-- The source of the indicators: a file, if the arguments name one. `contents` are the bytes of
+-- files by their names, as far as they are observable.
 use Rattle.std.specs.Prelude.{◌≡◌, ◌⊎◌, ⊤, ℕ, List, Option, Some, None}
 use Rattle.serde_json.specs.Data.{Data}
 use Rattle.flow_edges.specs.Faults.{Counted}
@@ -23,12 +23,13 @@ module _ (contents : List ℕ → Option (List ℕ)) (task : HuntTask) where
   abbrev pub IsRefusedFeed : ℕ → FeedRule → Type 0
   IsRefusedFeed line why = NamesFile task (λ name. (objects : List Data) × ReadsFeed (contents name) objects (RefusedLine line why))
 
-  -- a file is named, and that is why it wasn't read to its end
+  -- a file is named, and that is why it was not read to its end
   abbrev pub IsUnfed : FeedEnd → Type 0
   IsUnfed (Refused line why) = IsRefusedFeed line why
   IsUnfed Fault = NamesFile task (λ name. ⊤)
   IsUnfed NoMemory = NamesFile task (λ name. ⊤)
 
--- a read of the one object failed, or, where that may be, one of the other, which counted it; and nothing happened to the other count
+-- a read of the first object failed, or, if allowed, one of the second, which counted it; the other
+-- count stays
 abbrev pub CountedByOne : (Other Failed : Type 0) → ℕ → ℕ → ℕ → ℕ → Type 0
 CountedByOne Other Failed one one_now other other_now = (Counted Failed one one_now × (other_now ≡ other)) ⊎ (Other × (one_now ≡ one) × Counted Failed other other_now)

@@ -1,4 +1,4 @@
--- What stands when the program ended, by its status.
+-- What holds when the program has ended, by its exit status.
 use Rattle.std.specs.Prelude.{◌≡◌, ◌⊎◌, ⊤, ℕ, List, Option}
 use Rattle.flow_edges.specs.Flow.{written_with}
 use Rattle.flow_edges.specs.Streams.{Streams, AreUntouched}
@@ -14,7 +14,7 @@ use Rattle.command_hunt.specs.Feeding.{NamesFile, IsFed, IsRefusedFeed}
 use Rattle.command_hunt.specs.Telling.{ReportsTo, StopsOverLimit}
 use Rattle.command_hunt.specs.Endings.{AskSo, EndsHunt, hunt_status, IsHuntReason}
 
--- the program ended in one of its ways, with that status and that reason
+-- the program ended with one of the endings, with its exit status and its message
 pub record Ends (arguments : List (List ℕ)) (contents : List ℕ → Option (List ℕ)) (before after : Streams) (status : ℕ) (Writes : List ℕ → Type 0) : Type 0 where
   pub ending : HuntEnding
   pub status_is : status ≡ hunt_status ending
@@ -28,9 +28,9 @@ abbrev pub end_status : InputEnd → ℕ
 end_status Whole = 0
 end_status (Refused line why) = 4
 
--- the bytes of the input are read as bundles, up to their end or to the first line that is refused; the indicators of the file that is
--- named, or of the first bundle, are hunted over the log of all, at no row of which one is over limit; and what is reported of that was written,
--- and nothing else
+-- the input is read as bundles, up to its end or to the first refused line. The indicators of the
+-- file, or of the first bundle, are matched over the log of all bundles, and at no row one exceeds
+-- its limit. Exactly the output of that was written
 pub record HuntsInput (contents : List ℕ → Option (List ℕ)) (before after : Streams) (status : ℕ) (task : HuntTask) : Type 0 where
   pub file : Option (List Data)
   pub fed : IsFed contents task file
@@ -54,7 +54,7 @@ pub record RefusesFeed (contents : List ℕ → Option (List ℕ)) (before after
 abbrev pub HuntsOrRefuses : (List ℕ → Option (List ℕ)) → Streams → Streams → ℕ → HuntTask → Type 0
 HuntsOrRefuses contents before after status task = HuntsInput contents before after status task ⊎ RefusesFeed contents before after status task
 
--- a pattern is over limit at some observation, and the hits ahead of it were reported
+-- a pattern exceeds its limit at some observation, and the hits before it were written
 abbrev pub HuntsToLimit : (List ℕ → Option (List ℕ)) → Streams → Streams → HuntTask → Type 0
 HuntsToLimit contents before after task = (why : OverLimit) × (file : Option (List Data)) × IsFed contents task file × StopsOverLimit task file before after why
 

@@ -1,5 +1,6 @@
--- What a run over an input has reported, by how it ended. The indicators are among the objects of a file, where the arguments name one; else the
--- first bundle holds them. The log is that of all bundles, the first one among them.
+-- The output of a run over an input, by how it ended. The indicators are among the objects of a
+-- file, if the arguments name one; else the first bundle holds them. The log is that of all
+-- bundles, including the first one.
 use Rattle.std.specs.Prelude.{◌≡◌, ◌⊎◌, ℕ, List, [], ◌∷◌, ◌++◌, Option, Some, None, MatchOption}
 use Rattle.flow_edges.specs.Flow.{IsAtEnd, written_with, WritesPrefix}
 use Rattle.flow_edges.specs.Streams.{Streams}
@@ -27,14 +28,15 @@ use Rattle.command_hunt.specs.Tasks.{HuntTask}
 
 -- ---- the hunt
 
--- the objects of which some are indicators: those of the file, where there is one, and else of the first bundle; none are known before
--- that has come
+-- the objects of which some are indicators: those of the file, if any, and else of the first
+-- bundle; none are known before that has come
 abbrev pub feed_of : Option (List Data) → List BundleOf → Option (List Data)
 feed_of (Some objects) bundles = Some objects
 feed_of None [] = None
 feed_of None (first ∷ later) = Some first.objects
 
--- the hunt of a feed over the rows of a log: which indicators are hunted and which are skipped, and the hits
+-- the hunt of a feed over the rows of a log: which indicators are hunted and which are skipped, and
+-- the hits
 pub record HuntsRows (task : HuntTask) (feed : List Data) (rows : List Row) : Type 0 where
   pub hunt : Hunt
   pub hunt_is : IsHuntOf feed task.moment hunt
@@ -95,8 +97,8 @@ module _ (task : HuntTask) (file : Option (List Data)) (before after : Streams) 
     pub text_is : after.written ≡ written_with text before.written
     pub taken : ReadsTaken bundles before.left after.left
 
-  -- the run stopped at an observation at which a pattern is over limit, the first such one, and read no further than its line: the hits
-  -- ahead of it were reported
+  -- the run stopped at the first observation at which a pattern exceeds its limit, and read no
+  -- further than its line: the hits before it were written
   pub record StopsOverLimit (why : OverLimit) : Type 0 where
     pub earlier : List BundleOf
     pub bundle : BundleOf
@@ -113,8 +115,8 @@ module _ (task : HuntTask) (file : Option (List Data)) (before after : Streams) 
         ((rows_of earlier ++ rows_over bundle.objects seen) ++ row_of observation bundle.objects ∷ []) why.hunted why.number why.retained_limit
     pub text_is : after.written ≡ written_with (reported_of hunts) before.written
 
-  -- the run stopped within a bundle, and read no further than its line: what is reported of the bundles before was, and of what is reported
-  -- of its first observations a prefix was written
+  -- the run stopped within a bundle, and read no further than its line: what is reported of the
+  -- bundles before was, and of what is reported of its first observations a prefix was written
   pub record StopsWithin : Type 0 where
     pub earlier : List BundleOf
     pub bundle : BundleOf
@@ -132,7 +134,8 @@ module _ (task : HuntTask) (file : Option (List Data)) (before after : Streams) 
     pub more_is : reported_of hunts ≡ text ++ more
     pub prefix : WritesPrefix more (written_with text before.written) after.written
 
-  -- the input was read to its end and its hits were reported, and of the report a prefix was written
+  -- the input was read to its end and its hits were reported, and of the report a prefix was
+  -- written
   pub record StopsReporting : Type 0 where
     pub bundles : List BundleOf
     pub reading : ReadsInput Lines before.left bundles Whole
@@ -152,7 +155,8 @@ module _ (task : HuntTask) (file : Option (List Data)) (before after : Streams) 
     pub reports : ReportsHits task file bundles text
     pub text_is : after.written ≡ written_with text before.written
 
-  -- the objects of the file were known, and of what is skipped a prefix was reported, before anything of the input was read
+  -- the objects of the file were known, and of what is skipped a prefix was reported, before
+  -- anything of the input was read
   pub record StopsSkipping : Type 0 where
     pub feed : List Data
     pub file_is : file ≡ Some feed
@@ -160,11 +164,11 @@ module _ (task : HuntTask) (file : Option (List Data)) (before after : Streams) 
     pub prefix : WritesPrefix (reported_of hunts) before.written after.written
     pub unread : (after.left ≡ before.left) × (after.began ≡ before.began)
 
-  -- the run stopped before it knew what to hunt, and had reported nothing
+  -- the run stopped before it had the indicators, and had written nothing
   abbrev pub StopsUnreported : Type 0
   StopsUnreported = after.written ≡ before.written
 
-  -- what an end says
+  -- what an end implies
   abbrev pub AnswersHunt : WatchEnd OverLimit → Type 0
   AnswersHunt Done = HuntsWhole
   AnswersHunt (Input line why) = HuntsBefore line why

@@ -1,4 +1,4 @@
-//! The arguments of the program: `[--indicators FILE] TIME [CAP]`, the option ahead of the others or behind them.
+//! The arguments `[--indicators FILE] TIME [CAP]`, the option before or after the others.
 
 ghost use Rattle.std.specs.Prelude.{◌≡◌, ◌≢◌, ◌⊎◌, ◌↔◌, ℕ, ℤ, [], List, IfNone, IfSome, IsTrue, codes};
 ghost use Rattle.command_line.specs.CommandLines.{texts, IsNumberOr};
@@ -9,8 +9,8 @@ use command_line::{DEFAULT_RETAINED_LIMIT, MAX_RETAINED_LIMIT, number_in};
 use stix_times::laws::one_instant;
 use stix_times::{Instant, read};
 
-/// What is asked for: a hunt for what is to be hunted at a moment, where no more than the retained limit may be live of one pattern. The
-/// indicators are those of a file, where one is named.
+/// The request: the moment at which indicators must be valid, the limit on retained partial matches
+/// per pattern, and the indicator file, if any.
 #[derive(Clone, Copy)]
 pub(crate) struct HuntRequest<'a> {
     pub(crate) file: Option<&'a str>,
@@ -18,14 +18,14 @@ pub(crate) struct HuntRequest<'a> {
     pub(crate) retained_limit: u32,
 }
 
-/// What the arguments TIME and Retained limit say.
+/// The values of TIME and CAP.
 #[derive(Clone, Copy)]
 struct Positions {
     moment: Instant,
     retained_limit: u32,
 }
 
-/// What the arguments after the program's name ask for, if anything.
+/// Parses the arguments after the program's name; `None` if they are no command line.
 pub(crate) fn read_request<'a>(arguments: &'a [String]) -> Option<HuntRequest<'a>>
     ensures some { IfSome result (λ request. AskFor (texts arguments.entry.now) (task_of request)) }
     ensures none { IfNone result (AskForNothing (texts arguments.entry.now)) }
@@ -44,10 +44,12 @@ pub(crate) fn read_request<'a>(arguments: &'a [String]) -> Option<HuntRequest<'a
     option_after(arguments)
 }
 
-/// What arguments ask for that begin with the option.
+/// Parses arguments that begin with the option.
 fn option_before<'a>(arguments: &'a [String]) -> Option<HuntRequest<'a>>
-    ensures some { IfSome result (λ request. OptionBefore (texts arguments.entry.now) (task_of request)) }
-    ensures none { IfNone result ((task : HuntTask) → ¬ OptionBefore (texts arguments.entry.now) task) }
+    ensures some { IfSome result
+        (λ request. OptionBefore (texts arguments.entry.now) (task_of request)) }
+    ensures none { IfNone result ((task : HuntTask)
+        → ¬ OptionBefore (texts arguments.entry.now) task) }
 {
     let [option, name, others @ ..] = arguments else {
         return None;
@@ -55,10 +57,12 @@ fn option_before<'a>(arguments: &'a [String]) -> Option<HuntRequest<'a>>
     with_option(option.as_str(), name.as_str(), others)
 }
 
-/// What arguments ask for that end with the option.
+/// Parses arguments that end with the option.
 fn option_after<'a>(arguments: &'a [String]) -> Option<HuntRequest<'a>>
-    ensures some { IfSome result (λ request. OptionAfter (texts arguments.entry.now) (task_of request)) }
-    ensures none { IfNone result ((task : HuntTask) → ¬ OptionAfter (texts arguments.entry.now) task) }
+    ensures some { IfSome result
+        (λ request. OptionAfter (texts arguments.entry.now) (task_of request)) }
+    ensures none { IfNone result ((task : HuntTask)
+        → ¬ OptionAfter (texts arguments.entry.now) task) }
 {
     if arguments.len() < 2 {
         return None;
@@ -70,10 +74,13 @@ fn option_after<'a>(arguments: &'a [String]) -> Option<HuntRequest<'a>>
     with_option(option.as_str(), name.as_str(), others)
 }
 
-/// What arguments ask for of which these two are the option and its value, and these the others.
+/// Parses arguments, given the option, its value and the others.
 fn with_option<'a>(option: &str, name: &'a str, others: &[String]) -> Option<HuntRequest<'a>>
-    ensures some { IfSome result (λ request. AreWithOption option.entry.now name.entry.now (texts others.entry.now) (task_of request)) }
-    ensures none { IfNone result ((task : HuntTask) → ¬ AreWithOption option.entry.now name.entry.now (texts others.entry.now) task) }
+    ensures some { IfSome result
+        (λ request. AreWithOption option.entry.now name.entry.now (texts others.entry.now)
+        (task_of request)) }
+    ensures none { IfNone result ((task : HuntTask)
+        → ¬ AreWithOption option.entry.now name.entry.now (texts others.entry.now) task) }
 {
     if !is_option(option, name) {
         return None;
@@ -89,17 +96,20 @@ fn with_option<'a>(option: &str, name: &'a str, others: &[String]) -> Option<Hun
     })
 }
 
-/// Whether a argument is the option, and the one behind it the name of a file.
+/// Whether the option is `--indicators`, with a file name.
 fn is_option(option: &str, name: &str) -> bool
     ensures { IsTrue result ↔ ((option.now ≡ codes "--indicators") × (name.now ≢ [])) }
 {
     option == "--indicators" && !name.is_empty()
 }
 
-/// What the arguments TIME and Retained limit say, where they are that.
+/// Parses TIME and CAP.
 fn read_positions(arguments: &[String]) -> Option<Positions>
-    ensures some { IfSome result (λ positions. ArePositions (texts arguments.now) positions.moment positions.retained_limit) }
-    ensures none { IfNone result ((moment : ℤ) (retained_limit : ℕ) → ¬ ArePositions (texts arguments.now) moment retained_limit) }
+    ensures some { IfSome result
+        (λ positions. ArePositions
+        (texts arguments.now) positions.moment positions.retained_limit) }
+    ensures none { IfNone result ((moment : ℤ) (retained_limit : ℕ)
+        → ¬ ArePositions (texts arguments.now) moment retained_limit) }
 {
     let [time, caps @ ..] = arguments else {
         return None;
@@ -112,10 +122,11 @@ fn read_positions(arguments: &[String]) -> Option<Positions>
     })
 }
 
-/// The retained limit that the arguments name, or the usual one where there is no argument.
+/// Parses the optional CAP; the default if it is absent.
 fn read_retained_limit(arguments: &[String]) -> Option<u32>
     ensures some { IfSome result (IsNumberOr usual 1 most (texts arguments.now)) }
-    ensures none { IfNone result ((retained_limit : ℕ) → ¬ IsNumberOr usual 1 most (texts arguments.now) retained_limit) }
+    ensures none { IfNone result ((retained_limit : ℕ)
+        → ¬ IsNumberOr usual 1 most (texts arguments.now) retained_limit) }
 {
     match arguments {
         [] => Some(DEFAULT_RETAINED_LIMIT),

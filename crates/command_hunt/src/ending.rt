@@ -15,16 +15,16 @@ use match_run::WatchEnd;
 /// How the program ends.
 #[derive(Debug, Drop)]
 pub enum HuntEnding {
-    /// The arguments ask for nothing.
+    /// The arguments are no command line.
     Usage,
-    /// The file of the indicators isn't read to its end, and nothing of the input was read.
+    /// The indicator file could not be read completely. Nothing of the input was read.
     Unfed(FeedEnd),
-    /// The input was followed, and that ended so; or memory ran out before.
+    /// The input was processed, with this end; or memory ran out before.
     Ended(WatchEnd<OverLimit>),
 }
 
 impl HuntEnding {
-    /// The status that the program ends with.
+    /// The program's exit status.
     pub fn status(&self) -> u8
         ensures { result ≡ hunt_status self.now }
     {
@@ -42,9 +42,10 @@ impl HuntEnding {
         }
     }
 
-    /// Writes why the program ends so, in one line, or nothing where all was reported. Takes no memory.
+    /// Writes why the program ends, in one line, or nothing after success. Allocates nothing.
     pub fn write_reason<S: Sink>(&self, reasons: &mut S) -> Result<(), Fault>
-        ensures text { (text : List ℕ) × IsHuntReason self.now text × WritesWhole text (S.written reasons.old) (S.written reasons.new) result }
+        ensures text { (text : List ℕ) × IsHuntReason self.now text
+            × WritesWhole text (S.written reasons.old) (S.written reasons.new) result }
         ensures causes { Counted (IsErr result) (S.faults reasons.old) (S.faults reasons.new) }
     {
         match self {
@@ -69,9 +70,10 @@ impl HuntEnding {
     }
 }
 
-/// Writes why the file of the indicators isn't read to its end.
+/// Writes why the indicator file could not be read completely.
 fn write_unfed<S: Sink>(end: &FeedEnd, reasons: &mut S) -> Result<(), Fault>
-    ensures text { (text : List ℕ) × IsHuntReason (Unfed end.now) text × WritesWhole text (S.written reasons.old) (S.written reasons.new) result }
+    ensures text { (text : List ℕ) × IsHuntReason (Unfed end.now) text
+        × WritesWhole text (S.written reasons.old) (S.written reasons.new) result }
     ensures causes { Counted (IsErr result) (S.faults reasons.old) (S.faults reasons.new) }
 {
     match end {

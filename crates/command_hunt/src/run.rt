@@ -36,7 +36,7 @@ use std::alloc::Global;
 use stix_bundles::Bundle;
 use stix_times::Instant;
 
-/// The hunt of a bundle: each indicator of it can be hunted and reported.
+/// The hunt for the indicators of a bundle.
 fn hunt_of(alloc: Global, bundle: &Bundle, moment: Instant) -> Result<Hunt, NoMemory>
     ensures hunt { IfOk result (IsHuntOf (data_in bundle.now) moment) }
     ensures hunted { IfOk result (λ hunt. All IsHuntable hunt.hunted) }
@@ -48,18 +48,21 @@ fn hunt_of(alloc: Global, bundle: &Bundle, moment: Instant) -> Result<Hunt, NoMe
     hunt(alloc, bundle, moment)
 }
 
-/// The hunt of what is kept of a feed: each indicator of it can be hunted and reported.
+/// The hunt for the indicators of a feed.
 fn hunt_of_feed(gathering: Gathering, moment: Instant) -> Result<Hunt, NoMemory>
-    ensures hunt { (feed : List Data) → GathersFor gathering feed → IfOk result (IsHuntOf feed moment) }
-    ensures hunted { (feed : List Data) → GathersFor gathering feed → AreUnbroken feed → IfOk result (λ hunt. All IsHuntable hunt.hunted) }
-    ensures skipped { (feed : List Data) → GathersFor gathering feed → AreUnbroken feed → IfOk result (λ hunt. All (λ s. IsKind s.id.kind) hunt.skipped) }
+    ensures hunt { (feed : List Data) → GathersFor gathering feed
+        → IfOk result (IsHuntOf feed moment) }
+    ensures hunted { (feed : List Data) → GathersFor gathering feed → AreUnbroken feed
+        → IfOk result (λ hunt. All IsHuntable hunt.hunted) }
+    ensures skipped { (feed : List Data) → GathersFor gathering feed → AreUnbroken feed
+        → IfOk result (λ hunt. All (λ s. IsKind s.id.kind) hunt.skipped) }
 {
     hunted_are_huntable();
     skipped_have_lines();
     gathering.hunt(moment)
 }
 
-/// Reports at the end of the input what was seen.
+/// Writes the report at the end of the input.
 fn report<O: Sink>(
     alloc: Global,
     request: &HuntRequest<'_>,
@@ -68,9 +71,12 @@ fn report<O: Sink>(
 ) -> WatchEnd<OverLimit>
     requires huntable { All IsHuntable hunter.now.hunted }
     ensures end { (rows : List Row) (hits : List Hit) → HuntsOver hunter.now rows hits
-        → Reports request.now.moment rows hits hunter.now.hunted (O.written output.old) (O.written output.new) result }
+        → Reports request.now.moment rows hits hunter.now.hunted (O.written output.old)
+        (O.written output.new) result }
+    // the report reads no input
     ensures unread { result ≢ WatchEnd.ReadFault }
-    ensures causes { Counted (result ≡ WatchEnd.WriteFault) (O.faults output.old) (O.faults output.new) }
+    ensures causes { Counted (result ≡ WatchEnd.WriteFault) (O.faults output.old)
+        (O.faults output.new) }
 {
     match write_report(alloc, hunter, request.moment, output) {
         Ok(()) => WatchEnd::Done,
@@ -79,7 +85,7 @@ fn report<O: Sink>(
     }
 }
 
-/// Hunts for some indicators over an input: the first bundle has come, and then what follows.
+/// Hunts for indicators over an input whose first bundle was already read.
 fn hunt_for<I: Source, O: Sink>(
     alloc: Global,
     request: &HuntRequest<'_>,
@@ -90,14 +96,22 @@ fn hunt_for<I: Source, O: Sink>(
     output: &mut O,
 ) -> WatchEnd<OverLimit>
     requires huntable { All IsHuntable hunted.now }
-    requires read { (start : Option (List ℕ)) × HasRead start reader.old (I.left input.old) (I.began input.old) (bundle_of first.now ∷ []) }
+    requires read { (start : Option (List ℕ))
+        × HasRead start reader.old (I.left input.old) (I.began input.old)
+        (bundle_of first.now ∷ []) }
     requires follow { MayFollow None 1 first.now.observations }
-    ensures end { (before : Streams) → HasRead before.left reader.old (I.left input.old) (I.began input.old) (bundle_of first.now ∷ [])
+    ensures end { (before : Streams)
+        → HasRead before.left reader.old (I.left input.old) (I.began input.old)
+        (bundle_of first.now ∷ [])
         → IsBegun before (bundle_of first.now) (I.left input.old) (I.began input.old)
-        → HasSkipped (task_of request.now) before (bundle_of first.now).objects hunted.now (O.written output.old)
-        → AnswersHunt (task_of request.now) None before (streams (I.left input.new) (I.began input.new) (O.written output.new)) result }
-    ensures input { Counted (result ≡ WatchEnd.ReadFault) (I.faults input.old) (I.faults input.new) }
-    ensures output { Counted (result ≡ WatchEnd.WriteFault) (O.faults output.old) (O.faults output.new) }
+        → HasSkipped (task_of request.now) before (bundle_of first.now).objects hunted.now
+        (O.written output.old)
+        → AnswersHunt (task_of request.now) None before
+        (streams (I.left input.new) (I.began input.new) (O.written output.new)) result }
+    ensures input { Counted (result ≡ WatchEnd.ReadFault) (I.faults input.old)
+        (I.faults input.new) }
+    ensures output { Counted (result ≡ WatchEnd.WriteFault) (O.faults output.old)
+        (O.faults output.new) }
 {
     answers_are_the_hits();
     let mut hunter = match Hunter::new(alloc, hunted, u64::from(request.retained_limit)) {
@@ -113,7 +127,7 @@ fn hunt_for<I: Source, O: Sink>(
     }
 }
 
-/// Hunts over an input, whose first bundle has come: it holds the indicators.
+/// Hunts over an input whose first bundle was already read and holds the indicators.
 fn hunt_from<I: Source, O: Sink>(
     alloc: Global,
     request: &HuntRequest<'_>,
@@ -122,13 +136,21 @@ fn hunt_from<I: Source, O: Sink>(
     input: &mut I,
     output: &mut O,
 ) -> WatchEnd<OverLimit>
-    requires read { (start : Option (List ℕ)) × HasRead start reader.old (I.left input.old) (I.began input.old) (bundle_of first.now ∷ []) }
+    requires read { (start : Option (List ℕ))
+        × HasRead start reader.old (I.left input.old) (I.began input.old)
+        (bundle_of first.now ∷ []) }
     requires follow { MayFollow None 1 first.now.observations }
-    ensures end { (before : Streams) → HasRead before.left reader.old (I.left input.old) (I.began input.old) (bundle_of first.now ∷ [])
-        → IsBegun before (bundle_of first.now) (I.left input.old) (I.began input.old) → before.written ≡ O.written output.old
-        → AnswersHunt (task_of request.now) None before (streams (I.left input.new) (I.began input.new) (O.written output.new)) result }
-    ensures input { Counted (result ≡ WatchEnd.ReadFault) (I.faults input.old) (I.faults input.new) }
-    ensures output { Counted (result ≡ WatchEnd.WriteFault) (O.faults output.old) (O.faults output.new) }
+    ensures end { (before : Streams)
+        → HasRead before.left reader.old (I.left input.old) (I.began input.old)
+        (bundle_of first.now ∷ [])
+        → IsBegun before (bundle_of first.now) (I.left input.old) (I.began input.old)
+        → before.written ≡ O.written output.old
+        → AnswersHunt (task_of request.now) None before
+        (streams (I.left input.new) (I.began input.new) (O.written output.new)) result }
+    ensures input { Counted (result ≡ WatchEnd.ReadFault) (I.faults input.old)
+        (I.faults input.new) }
+    ensures output { Counted (result ≡ WatchEnd.WriteFault) (O.faults output.old)
+        (O.faults output.new) }
 {
     answers_are_the_hits();
     let hunt = match hunt_of(alloc, &first.bundle, request.moment) {
@@ -145,17 +167,20 @@ fn hunt_from<I: Source, O: Sink>(
     }
 }
 
-/// Hunts over an input.
+/// Hunts over an input whose first bundle holds the indicators.
 fn hunt_input<I: Source, O: Sink>(
     alloc: Global,
     request: &HuntRequest<'_>,
     input: &mut I,
     output: &mut O,
 ) -> WatchEnd<OverLimit>
-    ensures end { AnswersHunt (task_of request.now) None (streams (I.left input.old) (I.began input.old) (O.written output.old))
+    ensures end { AnswersHunt (task_of request.now) None
+        (streams (I.left input.old) (I.began input.old) (O.written output.old))
         (streams (I.left input.new) (I.began input.new) (O.written output.new)) result }
-    ensures input { Counted (result ≡ WatchEnd.ReadFault) (I.faults input.old) (I.faults input.new) }
-    ensures output { Counted (result ≡ WatchEnd.WriteFault) (O.faults output.old) (O.faults output.new) }
+    ensures input { Counted (result ≡ WatchEnd.ReadFault) (I.faults input.old)
+        (I.faults input.new) }
+    ensures output { Counted (result ≡ WatchEnd.WriteFault) (O.faults output.old)
+        (O.faults output.new) }
 {
     begins_with_none();
     read_bundles_come_first();
@@ -170,7 +195,7 @@ fn hunt_input<I: Source, O: Sink>(
     }
 }
 
-/// Hunts for some indicators over an input, of which nothing was read.
+/// Hunts for indicators over an input, from its start.
 fn hunt_log<I: Source, O: Sink>(
     alloc: Global,
     request: &HuntRequest<'_>,
@@ -181,11 +206,15 @@ fn hunt_log<I: Source, O: Sink>(
 ) -> WatchEnd<OverLimit>
     requires huntable { All IsHuntable hunted.now }
     requires start { reader.old ≡ reader_start Lines }
-    ensures end { (before : Streams) (feed : List Data) → IsUnread before (I.left input.old) (I.began input.old)
+    ensures end { (before : Streams) (feed : List Data)
+        → IsUnread before (I.left input.old) (I.began input.old)
         → HasSkipped (task_of request.now) before feed hunted.now (O.written output.old)
-        → AnswersHunt (task_of request.now) (Some feed) before (streams (I.left input.new) (I.began input.new) (O.written output.new)) result }
-    ensures input { Counted (result ≡ WatchEnd.ReadFault) (I.faults input.old) (I.faults input.new) }
-    ensures output { Counted (result ≡ WatchEnd.WriteFault) (O.faults output.old) (O.faults output.new) }
+        → AnswersHunt (task_of request.now) (Some feed) before
+        (streams (I.left input.new) (I.began input.new) (O.written output.new)) result }
+    ensures input { Counted (result ≡ WatchEnd.ReadFault) (I.faults input.old)
+        (I.faults input.new) }
+    ensures output { Counted (result ≡ WatchEnd.WriteFault) (O.faults output.old)
+        (O.faults output.new) }
 {
     answers_are_the_hits();
     begins_with_none();
@@ -200,7 +229,7 @@ fn hunt_log<I: Source, O: Sink>(
     }
 }
 
-/// Hunts for the indicators of a feed over an input, of which nothing was read.
+/// Hunts for the indicators of a feed over an input, from its start.
 fn hunt_feed<I: Source, O: Sink>(
     alloc: Global,
     request: &HuntRequest<'_>,
@@ -210,10 +239,13 @@ fn hunt_feed<I: Source, O: Sink>(
 ) -> WatchEnd<OverLimit>
     requires fed { (feed : List Data) × GathersFor gathering feed × AreUnbroken feed }
     ensures end { (feed : List Data) → GathersFor gathering feed
-        → AnswersHunt (task_of request.now) (Some feed) (streams (I.left input.old) (I.began input.old) (O.written output.old))
+        → AnswersHunt (task_of request.now) (Some feed)
+        (streams (I.left input.old) (I.began input.old) (O.written output.old))
         (streams (I.left input.new) (I.began input.new) (O.written output.new)) result }
-    ensures input { Counted (result ≡ WatchEnd.ReadFault) (I.faults input.old) (I.faults input.new) }
-    ensures output { Counted (result ≡ WatchEnd.WriteFault) (O.faults output.old) (O.faults output.new) }
+    ensures input { Counted (result ≡ WatchEnd.ReadFault) (I.faults input.old)
+        (I.faults input.new) }
+    ensures output { Counted (result ≡ WatchEnd.WriteFault) (O.faults output.old)
+        (O.faults output.new) }
 {
     answers_are_the_hits();
     let hunt = match hunt_of_feed(gathering, request.moment) {
@@ -234,12 +266,14 @@ fn hunt_feed<I: Source, O: Sink>(
     }
 }
 
-/// What is kept of the feed that a file is.
+/// Reads the feed in a file.
 fn read_feed<F: Files>(alloc: Global, name: &str, files: &mut F) -> Result<Gathering, FeedEnd>
-    ensures whole { IfOk result (λ gathering. (feed : List Data) × GathersFeed (F.contents files.old name.now) gathering feed) }
+    ensures whole { IfOk result (λ gathering. (feed : List Data)
+        × GathersFeed (F.contents files.old name.now) gathering feed) }
     ensures refused { (line : ℕ) (why : FeedRule) → result ≡ Err (FeedEnd.Refused line why)
         → (feed : List Data) × ReadsFeed (F.contents files.old name.now) feed (Refused line why) }
-    ensures causes { Counted (result ≡ Err FeedEnd.Fault) (F.faults files.old) (F.faults files.new) }
+    ensures causes { Counted (result ≡ Err FeedEnd.Fault) (F.faults files.old)
+        (F.faults files.new) }
 {
     match files.open(name) {
         Ok(()) => gather(alloc, files),
@@ -257,10 +291,14 @@ fn hunt_file<F: Files, I: Source, O: Sink>(
     output: &mut O,
 ) -> HuntEnding
     ensures end { (task_of request.now).file ≡ Some name.now
-        → EndsTask (F.contents files.old) (streams (I.left input.old) (I.began input.old) (O.written output.old))
-        (streams (I.left input.new) (I.began input.new) (O.written output.new)) result (task_of request.now) }
-    ensures files { Counted (result ≡ HuntEnding.Unfed FeedEnd.Fault) (F.faults files.old) (F.faults files.new) }
-    ensures input { Counted (result ≡ HuntEnding.Ended WatchEnd.ReadFault) (I.faults input.old) (I.faults input.new) }
+        → EndsTask (F.contents files.old)
+        (streams (I.left input.old) (I.began input.old) (O.written output.old))
+        (streams (I.left input.new) (I.began input.new) (O.written output.new)) result
+        (task_of request.now) }
+    ensures files { Counted (result ≡ HuntEnding.Unfed FeedEnd.Fault) (F.faults files.old)
+        (F.faults files.new) }
+    ensures input { Counted (result ≡ HuntEnding.Ended WatchEnd.ReadFault) (I.faults input.old)
+        (I.faults input.new) }
     ensures output { Counted (hunt_status result ≡ 6) (O.faults output.old) (O.faults output.new) }
 {
     match read_feed(alloc, name, files) {
@@ -269,7 +307,7 @@ fn hunt_file<F: Files, I: Source, O: Sink>(
     }
 }
 
-/// Does what the arguments ask for.
+/// Executes the command line.
 fn execute<F: Files, I: Source, O: Sink>(
     alloc: Global,
     arguments: &[String],
@@ -277,11 +315,15 @@ fn execute<F: Files, I: Source, O: Sink>(
     input: &mut I,
     output: &mut O,
 ) -> HuntEnding
-    ensures end { EndsHunt (texts arguments.now) (F.contents files.old) (streams (I.left input.old) (I.began input.old) (O.written output.old))
+    ensures end { EndsHunt (texts arguments.now) (F.contents files.old)
+        (streams (I.left input.old) (I.began input.old) (O.written output.old))
         (streams (I.left input.new) (I.began input.new) (O.written output.new)) result }
-    ensures untouched { hunt_status result ≡ 2 → (files.new ≡ files.old) × (input.new ≡ input.old) × (output.new ≡ output.old) }
+    ensures untouched { hunt_status result ≡ 2
+        → (files.new ≡ files.old) × (input.new ≡ input.old) × (output.new ≡ output.old) }
+    // without `--indicators` no file is opened
     ensures unopened { ¬ AskForFile (texts arguments.now) → files.new ≡ files.old }
-    ensures reads { CountedByOne (AskForFile (texts arguments.now)) (hunt_status result ≡ 5) (I.faults input.old) (I.faults input.new)
+    ensures reads { CountedByOne (AskForFile (texts arguments.now)) (hunt_status result ≡ 5)
+        (I.faults input.old) (I.faults input.new)
         (F.faults files.old) (F.faults files.new) }
     ensures output { Counted (hunt_status result ≡ 6) (O.faults output.old) (O.faults output.new) }
 {
@@ -294,25 +336,28 @@ fn execute<F: Files, I: Source, O: Sink>(
     }
 }
 
-/// Hunts many indicators over an input, as arguments ask for it. The arguments are TIME, the moment at which indicators have to be valid, and
-/// perhaps Retained limit: how much may be live of one pattern; and perhaps `--indicators FILE`. Then the objects of the file, a line each, hold the
-/// indicators; else the first bundle of the input does, which is of the log itself. The input is one of `match`.
+/// Hunts for many indicators over an input, as the arguments request, and returns the exit status.
+/// TIME is the moment at which indicators must be valid. CAP limits the retained partial matches
+/// per pattern. With `--indicators FILE`, the objects of the file, one per line, hold the
+/// indicators. Otherwise the first bundle of the input does, which is also part of the log. The
+/// input format is that of `match`.
 ///
-/// `output` gets a line for each indicator whose pattern isn't read; then each hit, which is the identifier of an indicator and a
-/// binding of its pattern, by the observation at which it ends and by the indicator's place, before more is read; and at the end of
-/// the input, where there was a hit, an envelope of sightings, one for each indicator that was seen.
+/// `output` gets a line for each indicator whose pattern is not supported, then each hit. A hit is
+/// the identifier of an indicator and a binding of its pattern. Hits are ordered by the observation
+/// at which they end, then by the indicator's index, and are written before more is read. At the
+/// end of the input, if there was a hit, follows an envelope with one sighting per indicator seen.
 ///
-/// | Status | Comes |
+/// | Exit status | Condition |
 /// |---|---|
-/// | 0 | the input was read to its end, and all was reported |
+/// | 0 | the input was read to its end, and all hits and the report were written |
 /// | 1 | memory ran out |
-/// | 2 | exactly where the arguments ask for nothing |
-/// | 4 | where a line is refused, of the file or else of the input, the first such one |
-/// | 5 | only where the input or the files counted a fault, and at each fault of theirs |
-/// | 6 | only where the output counted a fault, and at each fault of it |
-/// | 7 | where more of a pattern is live at an observation than the retained limit allows, the first such one |
+/// | 2 | if and only if the arguments are no command line |
+/// | 4 | the first refused line of the file, or else of the input |
+/// | 5 | if and only if the input or the files counted a fault |
+/// | 6 | if and only if the output counted a fault |
+/// | 7 | at the first observation where a pattern exceeds its limit on retained partial matches |
 ///
-/// On `faults` the reason is reported in one line. A failing write there changes nothing else.
+/// The reason is written to `faults` in one line. A failing write there changes nothing else.
 pub fn run_hunt<F: Files, I: Source, O: Sink, E: Sink>(
     alloc: Global,
     arguments: &[String],
@@ -321,27 +366,39 @@ pub fn run_hunt<F: Files, I: Source, O: Sink, E: Sink>(
     output: &mut O,
     faults: &mut E,
 ) -> u8
-    ensures ends { Ends (texts arguments.now) (F.contents files.old) (streams (I.left input.old) (I.began input.old) (O.written output.old))
+    ensures ends { Ends (texts arguments.now) (F.contents files.old)
+        (streams (I.left input.old) (I.began input.old) (O.written output.old))
         (streams (I.left input.new) (I.began input.new) (O.written output.new)) result
-        (λ reason. WritesReason reason (E.written faults.old) (E.written faults.new) (E.faults faults.old) (E.faults faults.new)) }
+        (λ reason. WritesReason reason (E.written faults.old) (E.written faults.new)
+        (E.faults faults.old) (E.faults faults.new)) }
     ensures refusals { (result ≡ 2) ↔ AskForNothing (texts arguments.now) }
-    ensures reported { (result ≡ 0) ⊎ (result ≡ 4) → AskSo (texts arguments.now) (HuntsOrRefuses (F.contents files.old)
-        (streams (I.left input.old) (I.began input.old) (O.written output.old)) (streams (I.left input.new) (I.began input.new) (O.written output.new)) result) }
-    ensures over_limit { result ≡ 7 → AskSo (texts arguments.now) (HuntsToLimit (F.contents files.old)
-        (streams (I.left input.old) (I.began input.old) (O.written output.old)) (streams (I.left input.new) (I.began input.new) (O.written output.new))) }
-    ensures untouched { result ≡ 2 → (files.new ≡ files.old) × (input.new ≡ input.old) × (output.new ≡ output.old) }
+    // with status 0 or 4 exactly the hits were written, or the indicator file was refused
+    ensures reported { (result ≡ 0) ⊎ (result ≡ 4)
+        → AskSo (texts arguments.now) (HuntsOrRefuses (F.contents files.old)
+        (streams (I.left input.old) (I.began input.old) (O.written output.old))
+        (streams (I.left input.new) (I.began input.new) (O.written output.new)) result) }
+    ensures over_limit { result ≡ 7
+        → AskSo (texts arguments.now) (HuntsToLimit (F.contents files.old)
+        (streams (I.left input.old) (I.began input.old) (O.written output.old))
+        (streams (I.left input.new) (I.began input.new) (O.written output.new))) }
+    ensures untouched { result ≡ 2
+        → (files.new ≡ files.old) × (input.new ≡ input.old) × (output.new ≡ output.old) }
     ensures unopened { ¬ AskForFile (texts arguments.now) → files.new ≡ files.old }
-    ensures reads { CountedByOne (AskForFile (texts arguments.now)) (result ≡ 5) (I.faults input.old) (I.faults input.new) (F.faults files.old) (F.faults files.new) }
+    // status 5 exactly if the input or, with `--indicators`, the files counted a fault
+    ensures reads { CountedByOne (AskForFile (texts arguments.now)) (result ≡ 5)
+        (I.faults input.old) (I.faults input.new) (F.faults files.old) (F.faults files.new) }
     ensures output { Counted (result ≡ 6) (O.faults output.old) (O.faults output.new) }
 {
     let ending = execute(alloc, arguments, files, input, output);
     finish(&ending, faults)
 }
 
-/// Reports why the program ends so, and answers its status.
+/// Writes why the program ends, and returns its exit status.
 fn finish<E: Sink>(ending: &HuntEnding, faults: &mut E) -> u8
     ensures status { result ≡ hunt_status ending.now }
-    ensures reason { (text : List ℕ) × IsHuntReason ending.now text × WritesReason text (E.written faults.old) (E.written faults.new) (E.faults faults.old) (E.faults faults.new) }
+    ensures reason { (text : List ℕ) × IsHuntReason ending.now text
+        × WritesReason text (E.written faults.old) (E.written faults.new) (E.faults faults.old)
+        (E.faults faults.new) }
 {
     let _ = ending.write_reason(faults);
     ending.status()

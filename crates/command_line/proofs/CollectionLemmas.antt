@@ -1,4 +1,4 @@
--- Collections in arguments: a argument is one collection at most, for a UUID has one length, and rights have no colon.
+-- Collections in arguments: an argument is one collection at most, for a UUID has one length, and rights have no colon.
 use Rattle.std.proofs.Common.{◌≡◌, ◌≢◌, ◌<◌, ℕ, zero, suc, Bool, true, false, Option, List, [], ◌∷◌, ◌++◌, length, get_or, codes, Bor, refl, sym, ap, ◌∙◌, subst, arith}
 use Rattle.std.specs.Prelude.{MatchOption}
 use Rattle.std.proofs.lemmas.Str.Pattern.{IsSplitOnceResult, split_after}
@@ -25,7 +25,7 @@ same_cut (x ∷ front) (y ∷ front') back back' free free' same =
     let rest = same_cut front front' back back' (rest_free x front free) (rest_free y front' free') tails in
     (λ i. heads i ∷ rest.0 i, rest.1)
 
--- one way to cut behind the first bytes
+-- one way to cut after the first bytes
 pub same_front : (front front' back back' : Text) → length front ≡ length front' → front ++ back ≡ front' ++ back' → (front ≡ front') × (back ≡ back')
 same_front [] [] back back' size same = (refl, same)
 same_front [] (x ∷ front') back back' size same = absurd (omega arith)
@@ -66,7 +66,7 @@ same_rights text false true true false h g = differ (codes "w") (codes "r") refl
 same_tails : (xs ys : Text) → 58 ∷ xs ≡ 58 ∷ ys → xs ≡ ys
 same_tails xs ys e = cc
 
--- a argument is one collection
+-- an argument is one collection
 pub one_collection : (argument : Text) (a b : PlainCollection) → IsCollectionOf argument a → IsCollectionOf argument b → a ≡ b
 one_collection argument a b one two =
     let first = same_front one.uuid two.uuid (58 ∷ (one.rights ++ 58 ∷ a.title)) (58 ∷ (two.rights ++ 58 ∷ b.title)) (length-uuid one.uuid a.id one.id_is ∙ sym (length-uuid two.uuid b.id two.id_is))
@@ -101,7 +101,7 @@ are_collections-append [] more (a ∷ xs) ys all rest = absurd all
 are_collections-append (argument ∷ arguments) more [] ys all rest = absurd all
 are_collections-append (argument ∷ arguments) more (a ∷ xs) ys all rest = (all.0, are_collections-append arguments more xs ys all.1 rest)
 
--- a argument among them that is no collection
+-- an argument among them that is no collection
 pub bad_argument : (arguments : List Text) (argument : Text) (more : List Text) → ((collection : PlainCollection) → ¬ IsCollectionOf argument collection)
     → (collections : List PlainCollection) → ¬ AreCollectionsOf (arguments ++ argument ∷ more) collections
 bad_argument [] argument more bad [] all = all

@@ -1,4 +1,4 @@
--- One command of the line: `clap` takes the arguments behind it just where they have parts that fit, and then its rows say what the parts say.
+-- One command of the line: `clap` takes the arguments after it just where they have parts that fit, and then its rows say what the parts say.
 use Rattle.std.proofs.lemmas.Bool.{false≢true}
 use Rattle.std.proofs.Common.{◌≡◌, ◌↔◌, ◌≤◌, ℕ, Bool, true, false, not, ◌&&◌, ◌||◌, if◌then◌else◌, List, [], ◌∷◌, map, length, fold, Option, Some, None, option_and_then, slice_get, codes, bytes_eq, refl, sym, ap, ◌∙◌, subst, arith, le_antisymm}
 use Rattle.std.specs.List.{list_any}
@@ -183,7 +183,7 @@ module _ (form : Form) (sound : is_sound_form form ≡ true) (parts : List Part)
       go true all = all_given_from form.positions (positions parts) (positions_distinct form sound) (omega (arith, all))
       go false all = refl
 
--- the mistakes of a command in the arguments behind it
+-- the mistakes of a command in the arguments after it
 abbrev pub command_fault : Form → List Text → Kinds
 command_fault form arguments = level_fault (leaf form) [] nothing_held arguments false []
 

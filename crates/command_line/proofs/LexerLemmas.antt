@@ -1,4 +1,4 @@
--- What a argument is: an option's name with or without a value, `--`, or no option.
+-- What an argument is: an option's name with or without a value, `--`, or no option.
 use Rattle.std.proofs.lemmas.Bool.{false≢true}
 use Rattle.std.proofs.Common.{◌≡◌, ◌+◌, ◌==◌, ℕ, suc, Bool, true, false, ◌||◌, [], ◌∷◌, ◌++◌, Some, None, bytes_eq, inl, inr, refl, sym, ap, ◌∙◌, subst, arith}
 use Rattle.std.specs.List.{before_first, after_first, position_or_len}
@@ -91,7 +91,7 @@ pub joined_is_long : (name value : Text) → is_name name ≡ true → bytes_eq 
 joined_is_long [] value h = absurd (false≢true h)
 joined_is_long (x ∷ xs) value h = refl
 
--- what a argument is: `--`, `--NAME`, `--NAME=VALUE`, `-` with more, or no option
+-- what an argument is: `--`, `--NAME`, `--NAME=VALUE`, `-` with more, or no option
 pub data Look (argument : Text) : Type 0 where
   dashes : argument ≡ 45 ∷ 45 ∷ [] → Look argument
   alone : (name : Text) → argument ≡ 45 ∷ 45 ∷ name → bytes_eq argument (45 ∷ 45 ∷ []) ≡ false → long_of argument ≡ Some (name, None) → Look argument
@@ -99,7 +99,7 @@ pub data Look (argument : Text) : Type 0 where
   short : (x : ℕ) (xs : Text) → argument ≡ 45 ∷ x ∷ xs → bytes_eq argument (45 ∷ 45 ∷ []) ≡ false → long_of argument ≡ None → short_of argument ≡ Some (x ∷ xs) → Look argument
   plain : IsNoOption argument → Look argument
 
--- and what `clap` sees of a argument that is no option
+-- and what `clap` sees of an argument that is no option
 pub record IsPlainArgument (argument : Text) : Type 0 where
   pub not_dashes : bytes_eq argument (45 ∷ 45 ∷ []) ≡ false
   pub not_long : long_of argument ≡ None

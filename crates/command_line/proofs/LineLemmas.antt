@@ -1,4 +1,4 @@
--- The command line whole: its first argument is a command, and `clap` takes it just where it takes the arguments behind the command.
+-- The command line whole: its first argument is a command, and `clap` takes it just where it takes the arguments after the command.
 use Rattle.std.proofs.Common.{◌≡◌, ℕ, Bool, true, false, List, [], ◌∷◌, ◌++◌, fold, find, Some, None, IsUtf8, codes, bytes_eq, append_assoc, append-nil, refl, sym, ap, ◌∙◌, subst}
 use Rattle.clap.specs.Lexer.{long_of, short_of}
 use Rattle.clap.specs.Kinds.{Kinds, or_else}
@@ -35,7 +35,7 @@ program_shape = (built program_app).top
 abbrev program_names : Names
 program_names = names_of (built program_app)
 
--- where the walk stands once it met a command, and arguments behind it
+-- where the walk stands once it met a command, and arguments after it
 abbrev met : Text → List Text → Walk
 met name arguments = record { held = nothing_held; waiting = idle; position = 1; is_trailing = false; stopped = Some (name, arguments) }
 
@@ -52,7 +52,7 @@ known_command is_show = record { goes = refl; quiet = refl; found = refl }
 known_command is_make = record { goes = refl; quiet = refl; found = refl }
 known_command is_serve = record { goes = refl; quiet = refl; found = refl }
 
--- the arguments behind a command are kept for it
+-- the arguments after a command are kept for it
 met_quiet : (name : Text) (before arguments : List Text) → walk_fault program_shape program_names (met name before) arguments ≡ []
 unfolding walked walk_fault
 met_quiet name before [] = refl
@@ -75,7 +75,7 @@ module _ (form : Form) (known : Known form) (arguments : List Text) where
   pub line_rows : subcommand_of program_app (form.name ∷ arguments) ≡ Some (form.name, command_rows form arguments)
   line_rows = rw (walks_to, (known_command known).found) refl
 
-  -- the mistakes are those behind the command
+  -- the mistakes are those after the command
   pub line_fault : fault_of program_app (form.name ∷ arguments) ≡ command_fault form arguments
   unfolding defaults_fault
   line_fault = rw (walk_quiet, walks_to, (known_command known).found) (alone_left (command_fault form arguments))

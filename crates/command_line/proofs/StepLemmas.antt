@@ -1,4 +1,4 @@
--- One argument of `clap`'s walk over the arguments behind a command of flags, options with a value and positions.
+-- One argument of `clap`'s walk over the arguments after a command of flags, options with a value and positions.
 use Rattle.std.proofs.Common.{◌≡◌, ◌↔◌, ◌<◌, ◌+◌, ℕ, suc, Bool, true, false, min, if◌then◌else◌, List, [], ◌∷◌, Option, Some, None, slice_get, bytes_eq, chars, encode_utf8_all, is_some, IsUtf8, refl, sym, ap, ◌∙◌, arith}
 use Rattle.std.proofs.lemmas.Str.{IsUtf8-drop, IsCharBoundary-after_ascii, encodes-chars}
 use Rattle.clap.specs.declared.error.kind.ErrorKind.TheVariants.{TooManyValues}
@@ -102,7 +102,7 @@ module _ (form : Form) (rows : List Row) (pending : Pending) (n : ℕ) where
 index_fits : (k : ℕ) → k < 1000 → min (1 + k + 1) usize_max ≡ 1 + suc k
 index_fits k few = omega arith
 
--- a argument behind `--`, or one that is no option
+-- an argument after `--`, or one that is no option
 module _ (form : Form) (rows : List Row) (pending : Pending) (k : ℕ) (few : k < 1000) (name : Text)
     (next : arg_by_index (built_rules form) (1 + k) ≡ Some (built_position form.needs_all (1 + k) name)) where
   pub step_trailing : (waiting : Waiting) (argument : Text)

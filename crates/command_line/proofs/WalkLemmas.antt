@@ -12,7 +12,7 @@ use Rattle.command_line.proofs.StepLemmas.{Pending, Settles, rows_with, stands, 
 use Rattle.command_line.proofs.QuietLemmas.{Done, done_first, done_with, left_is, option_found, option_rows, option_settles, position_rows, position_settles}
 
 module _ (form : Form) (sound : is_sound_form form ≡ true) where
-  -- behind `--`
+  -- after `--`
   pub trail_from : (arguments : List Text) (rows : List Row) (pending : Pending) (waiting : Waiting) (k : ℕ) (left : List Text) → drop k form.positions ≡ left
       → Settles form rows pending → length (positions (map Position arguments)) ≤ length left → Fresh (rows_with form rows pending) (part_rows left (map Position arguments))
       → Done form (stands rows pending waiting (1 + k) true) arguments (rows_with form rows pending ++ part_rows left (map Position arguments))

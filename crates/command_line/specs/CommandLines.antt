@@ -1,4 +1,4 @@
--- The command lines of the program: for each command, which arguments ask for it with which values.
+-- The grammar of the command line: for each command, which arguments request it with which values.
 use Rattle.std.specs.Prelude.{◌≡◌, ◌≢◌, ◌≤◌, ◌⊎◌, ⊤, ℕ, List, [], ◌∷◌, ◌++◌, length, map, codes, Bool, true, false, Option, Some, None, String, string_bytes, bytes_eq, nat_eq, if◌then◌else◌}
 use Rattle.std.specs.List.{IsDistinct}
 use Rattle.std.specs.Str.Parse.{IsNumeral, digits_value}
@@ -21,14 +21,14 @@ flags_of name (Flag other ∷ parts) = if bytes_eq other name then other ∷ fla
 flags_of name (Valued other value ∷ parts) = flags_of name parts
 flags_of name (Position argument ∷ parts) = flags_of name parts
 
--- the values that are given to the option of that name, in turn
+-- the values that are given to the option of that name, in order
 abbrev pub values_of : List ℕ → List Part → List (List ℕ)
 values_of name [] = []
 values_of name (Flag other ∷ parts) = values_of name parts
 values_of name (Valued other value ∷ parts) = if bytes_eq other name then value ∷ values_of name parts else values_of name parts
 values_of name (Position argument ∷ parts) = values_of name parts
 
--- a flag stands there once, or not at all
+-- a flag occurs once, or not at all
 abbrev pub IsFlag : List (List ℕ) → Bool → Type 0
 IsFlag [] given = given ≡ false
 IsFlag (flag ∷ []) given = given ≡ true
@@ -42,13 +42,13 @@ pub record IsNumberIn (least most : ℕ) (text : List ℕ) (number : ℕ) : Type
   pub at_least : least ≤ number
   pub at_most : number ≤ most
 
--- the number that an option names, or the usual one where it isn't there
+-- the number that an option gives, or the default if it is absent
 abbrev pub IsNumberOr : ℕ → ℕ → ℕ → List (List ℕ) → ℕ → Type 0
 IsNumberOr usual least most [] number = number ≡ usual
 IsNumberOr usual least most (text ∷ []) number = IsNumberIn least most text number
 IsNumberOr usual least most (text ∷ other ∷ texts) number = ⊥
 
--- the command, and then arguments of these parts
+-- the command, and then arguments that consist of these parts
 pub record IsCalledWith (command : List ℕ) (options : Options) (arguments : List (List ℕ)) (parts : List Part) : Type 0 where
   pub rest : List (List ℕ)
   pub line : arguments ≡ command ∷ rest
@@ -60,7 +60,7 @@ match_options = record { flags = codes "whole" ∷ []; valued = codes "cap" ∷ 
 abbrev pub no_options : Options
 no_options = record { flags = []; valued = [] }
 
--- match [--whole] [--retained limit N] PATTERN
+-- match [--whole] [--cap N] PATTERN
 pub record IsMatchLine (arguments : List (List ℕ)) (whole : Bool) (retained_limit : ℕ) (pattern : List ℕ) : Type 0 where
   pub parts : List Part
   pub called : IsCalledWith (codes "match") match_options arguments parts
@@ -96,7 +96,7 @@ IsNumberOf least most [] number = ⊥
 IsNumberOf least most (text ∷ []) number = IsNumberIn least most text number
 IsNumberOf least most (text ∷ other ∷ texts) number = ⊥
 
--- the value of that form that an option names, or none where it isn't there
+-- the well-formed value of an option, or none if it is absent
 abbrev pub IsValueOrNone : (List ℕ → Type 0) → List (List ℕ) → Option (List ℕ) → Type 0
 IsValueOrNone IsForm [] given = given ≡ None
 IsValueOrNone IsForm (value ∷ []) given = (given ≡ Some value) × IsForm value
@@ -106,7 +106,7 @@ IsValueOrNone IsForm (value ∷ other ∷ values) given = ⊥
 abbrev pub IsFile : List ℕ → Type 0
 IsFile name = name ≢ []
 
--- a URL of the web, as `http://localhost:8080`, which doesn't end in `/`
+-- an absolute URL, as `http://localhost:8080`, without a trailing `/`
 pub record IsBase (url : List ℕ) : Type 0 where
   pub scheme : (rest : List ℕ) × ((url ≡ codes "http://" ++ rest) ⊎ (url ≡ codes "https://" ++ rest))
   pub short : length url ≤ MAX_BASE
@@ -136,14 +136,14 @@ pub record IsCollectionOf (argument : List ℕ) (collection : PlainCollection) :
   pub titled : 1 ≤ length collection.title
   pub short : length collection.title ≤ MAX_TITLE
 
--- each argument is the collection at its place
+-- each argument is the collection at its index
 abbrev pub AreCollectionsOf : List (List ℕ) → List PlainCollection → Type 0
 AreCollectionsOf [] [] = ⊤
 AreCollectionsOf [] (collection ∷ collections) = ⊥
 AreCollectionsOf (argument ∷ arguments) [] = ⊥
 AreCollectionsOf (argument ∷ arguments) (collection ∷ collections) = IsCollectionOf argument collection × AreCollectionsOf arguments collections
 
--- what is to be served: at which port, how many connections, from which file and under which URL, and which collections
+-- the service: port, number of connections, file, base URL, and collections
 pub record PlainService : Type 0 where
   pub port : ℕ
   pub connections : ℕ
@@ -167,7 +167,7 @@ pub record IsServeLine (arguments : List (List ℕ)) (service : PlainService) : 
   pub few : length service.collections ≤ MAX_COLLECTIONS
   pub differ : IsDistinct nat_eq (map (λ collection. collection.id) service.collections)
 
--- what arguments ask for, without where it lies in memory
+-- the request of a command line, without references
 pub data PlainRequest : Type 0 where
   Match : (whole : Bool) (retained_limit : ℕ) (pattern : List ℕ) → PlainRequest
   Check : PlainRequest

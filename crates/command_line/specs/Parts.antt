@@ -1,9 +1,9 @@
--- The parts that the arguments of a command line are cut into: options with and without a value, and positions.
+-- The parts of a command's arguments: options with and without a value, and positional arguments.
 use Rattle.std.specs.Prelude.{◌≡◌, ◌≢◌, ◌⊎◌, ℕ, List, [], ◌∷◌, ◌++◌, Contains, map, Some, slice_get, codes}
 
--- what the arguments after a command are, one by one
+-- the parts of a command's arguments, one by one
 pub data Part : Type 0 where
-  -- an option that stands alone, by its name
+  -- a flag, by its name
   Flag : (name : List ℕ) → Part
   -- an option with its value
   Valued : (name value : List ℕ) → Part
@@ -15,11 +15,11 @@ pub record Options : Type 0 where
   pub flags : List (List ℕ)
   pub valued : List (List ℕ)
 
--- a argument that is no option: `-` itself, or one that doesn't begin with `-` (45)
+-- an argument that is no option: `-` itself, or one that does not begin with `-` (45)
 abbrev pub IsNoOption : List ℕ → Type 0
 IsNoOption argument = (argument ≡ codes "-") ⊎ (slice_get argument 0 ≢ Some 45)
 
--- these are the parts of the arguments, in turn
+-- these are the parts of the arguments, in order
 pub data AreParts (options : Options) : List (List ℕ) → List Part → Type 0 where
   none : AreParts options [] []
   -- --NAME
@@ -33,10 +33,10 @@ pub data AreParts (options : Options) : List (List ℕ) → List Part → Type 0
       → AreParts options arguments parts → AreParts options ((codes "--" ++ name) ∷ value ∷ arguments) (Valued name value ∷ parts)
   position : {argument : List ℕ} {arguments : List (List ℕ)} {parts : List Part} → IsNoOption argument
       → AreParts options arguments parts → AreParts options (argument ∷ arguments) (Position argument ∷ parts)
-  -- behind the first `--`, which is no part itself, each argument is a position
+  -- after the first `--`, which is no part itself, each argument is positional
   rest : {arguments : List (List ℕ)} → AreParts options (codes "--" ∷ arguments) (map Position arguments)
 
--- the positions among the parts, in turn
+-- the positional arguments among the parts, in order
 abbrev pub positions : List Part → List (List ℕ)
 positions [] = []
 positions (Position argument ∷ parts) = argument ∷ positions parts

@@ -1,4 +1,4 @@
--- What arguments ask for, from the code's request.
+-- The request of a command line, as a value without references.
 use Rattle.std.specs.Prelude.{map, option_map}
 use Rattle.command_line.specs.declared.request.CollectionRequest.{CollectionRequest}
 use Rattle.command_line.specs.declared.request.Request.{Request}
@@ -6,11 +6,11 @@ use Rattle.command_line.specs.declared.request.Request.TheVariants as request
 use Rattle.command_line.specs.declared.request.ServeRequest.{ServeRequest}
 use Rattle.command_line.specs.CommandLines.{PlainCollection, PlainService, PlainRequest, Match, Check, Show, Make, Serve}
 
--- the collection, without where it lies in memory
+-- the collection, as a value without references
 abbrev pub plain_collection : CollectionRequest → PlainCollection
 plain_collection asked = record { id = asked.id; can_read = asked.can_read; can_write = asked.can_write; title = asked.title.now }
 
--- what is to be served, without where it lies in memory
+-- the service, as a value without references
 abbrev pub plain_service : ServeRequest → PlainService
 plain_service asked = record {
   port = asked.port;
@@ -20,7 +20,7 @@ plain_service asked = record {
   collections = map plain_collection asked.collections;
 }
 
--- the request, without where it lies in memory
+-- the request, as a value without references
 abbrev pub plain_request : Request → PlainRequest
 plain_request (request.Match wanted) = Match wanted.whole wanted.retained_limit wanted.pattern.now
 plain_request request.Check = Check

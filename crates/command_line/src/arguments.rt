@@ -1,10 +1,11 @@
-//! The arguments that the program was called with.
+//! The arguments that the program was started with.
 
 use flow_values::NoMemory;
 use std::rt::HostRuntime;
 use std::{env, io};
 
-/// The arguments after the program's name; none where one of them isn't UTF-8, which is no command line, as no arguments are.
+/// The arguments after the program's name. If one is not UTF-8, the result is empty, which is no
+/// command line either.
 pub fn program_arguments(rt: &HostRuntime) -> Result<Vec<String>, NoMemory> {
     match arguments(rt) {
         Ok(arguments) => Ok(arguments),

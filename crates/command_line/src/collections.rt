@@ -1,4 +1,4 @@
-//! Collections in arguments.
+//! The collections of a command line.
 
 ghost use Rattle.std.specs.Prelude.{◌≡◌, ◌≢◌, ◌++◌, ℕ, List, Bool, IfNone, IfSome, codes, length};
 ghost use Rattle.command_line.specs.CommandLines.{PlainCollection, AreRights, IsCollectionOf};
@@ -8,16 +8,16 @@ ghost use Rattle.command_line.specs.declared.collections.TheConstants.{UUID_LENG
 use crate::request::CollectionRequest;
 use stix_ids::read_uuid;
 
-/// How many collections may be served.
+/// The maximum number of collections.
 pub const MAX_COLLECTIONS: usize = 64;
 
-/// How many bytes a title has at most.
+/// The maximum length of a title in bytes.
 pub const MAX_TITLE: usize = 256;
 
-/// How many bytes a UUID has.
+/// The length of a UUID in bytes.
 const UUID_LENGTH: usize = 36;
 
-/// The collection of a argument.
+/// Parses a COLLECTION argument.
 pub(crate) fn collection_of(argument: &str) -> Option<CollectionRequest<'_>>
     ensures some { IfSome result (λ asked. IsCollectionOf argument.now (plain_collection asked)) }
     ensures none { IfNone result ((collection : PlainCollection)
@@ -38,7 +38,7 @@ pub(crate) fn collection_of(argument: &str) -> Option<CollectionRequest<'_>>
     })
 }
 
-/// What stands before and behind the colon where a UUID ends.
+/// Splits the argument at the colon after its UUID.
 fn cut_behind_uuid(argument: &str) -> Option<(&str, &str)>
     ensures some { IfSome result (λ cut. argument.now ≡ cut.0.now ++ (codes ":" ++ cut.1.now)) }
     ensures long { IfSome result (λ cut. length cut.0.now ≡ UUID_LENGTH) }
@@ -50,7 +50,7 @@ fn cut_behind_uuid(argument: &str) -> Option<(&str, &str)>
     Some((uuid, rest))
 }
 
-/// Whether a client may read, and whether it may add.
+/// Parses the rights: whether clients may read, and whether they may add.
 fn rights_of(text: &str) -> Option<(bool, bool)>
     ensures some { IfSome result (λ both. AreRights text.now both.0 both.1) }
     ensures none { IfNone result ((can_read can_write : Bool)

@@ -1,12 +1,20 @@
-//! The arguments of a command line, and what they ask for. A command line is a command and then its
-//! options and positions in any order: `match [--whole] [--retained_limit N] PATTERN`, `check`, `show PATTERN`,
-//! `make SEED COUNT` or `serve --port P --connections N [--store FILE] [--base URL] COLLECTION...`. A
-//! COLLECTION is `UUID:RIGHTS:TITLE`, with `r`, `w` or `rw` as its rights. [`read_arguments`] answers the
-//! request of the arguments, or that they are no command line; it reads them with `clap`, and its
-//! contract is the rule without `clap`.
+//! Parses the command line of `stix_command`: a command, then its options and positional arguments
+//! in any order.
 //!
-//! The arguments `match`, `--retained_limit=7`, `--` and `-x` ask for the matches of the pattern `-x`, of which at
-//! most 7 may be live; with another `--retained_limit` they ask for nothing.
+//! ```text
+//! match [--whole] [--cap N] PATTERN
+//! check
+//! show PATTERN
+//! make SEED COUNT
+//! serve --port P --connections N [--store FILE] [--base URL] COLLECTION...
+//! ```
+//!
+//! A COLLECTION is `UUID:RIGHTS:TITLE`, with `r`, `w` or `rw` as its rights. [`read_arguments`]
+//! returns the request, or that the arguments are no command line. It parses with `clap`; its
+//! contract is the grammar, without `clap`.
+//!
+//! The arguments `match`, `--cap=7`, `--` and `-x` request the matches of the pattern `-x` with at
+//! most 7 retained partial matches; a second `--cap` makes them no command line.
 #![tactic(auto)]
 
 mod arguments;

@@ -1,21 +1,21 @@
-//! Numbers in arguments: one to ten decimal digits in a range.
+//! Numeric arguments: one to ten decimal digits, within a range.
 
 ghost use Rattle.std.specs.Prelude.{◌≡◌, ◌↔◌, ℕ, Some};
 ghost use Rattle.command_line.specs.CommandLines.{IsNumberIn};
 
-/// The greatest number of things that may be live in a match, where the arguments name none.
+/// The default limit on the partial matches that a match retains.
 pub const DEFAULT_RETAINED_LIMIT: u32 = 200_000;
 
-/// The greatest such number that they may name.
+/// The largest limit that `--cap` accepts.
 pub const MAX_RETAINED_LIMIT: u32 = 1_000_000;
 
-/// The greatest port.
+/// The largest port.
 pub const MAX_PORT: u32 = 65_535;
 
-/// The greatest number of connections that may be asked for.
+/// The largest number of connections.
 pub const MAX_CONNECTIONS: u32 = 4_294_967_295;
 
-/// The number of a text, if it has one in the range.
+/// Parses a number within a range.
 pub fn number_in(text: &str, least: u32, most: u32) -> Option<u32>
     ensures { (number : ℕ) → (result ≡ Some number) ↔ IsNumberIn least most text.now number }
 {

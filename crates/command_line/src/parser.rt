@@ -1,4 +1,4 @@
-//! The program's commands, as `clap` parses them.
+//! The grammar of the commands, as a `clap` command.
 
 ghost use Rattle.std.specs.Prelude.{◌≡◌, ◌++◌, ◌∷◌, [], List, IfOk, OnOk, map, true, false};
 ghost use Rattle.std.specs.List.{AllZip};
@@ -11,7 +11,7 @@ use crate::serve::COLLECTION_NAMES;
 use clap::{Arg, ArgAction, ArgMatches, Command, Error};
 use std::alloc::{AllocError, Global};
 
-/// An option that stands alone.
+/// A flag.
 fn flag<'a>(alloc: Global, name: &'a str) -> Arg<'a>
     ensures rule { rule_of result ≡ flag_rule name.entry.now }
     ensures local { result.global ≡ false }
@@ -19,7 +19,7 @@ fn flag<'a>(alloc: Global, name: &'a str) -> Arg<'a>
     Arg::new(alloc, name).long(name).action(ArgAction::SetTrue)
 }
 
-/// An option that takes a value.
+/// An option with a value.
 fn option<'a>(alloc: Global, name: &'a str) -> Arg<'a>
     ensures rule { rule_of result ≡ option_rule name.entry.now }
     ensures local { result.global ≡ false }
@@ -27,7 +27,7 @@ fn option<'a>(alloc: Global, name: &'a str) -> Arg<'a>
     Arg::new(alloc, name).long(name)
 }
 
-/// A position, which may not be missing.
+/// A required positional argument.
 fn position<'a>(alloc: Global, name: &'a str) -> Arg<'a>
     ensures rule { rule_of result ≡ position_rule true name.entry.now }
     ensures local { result.global ≡ false }
@@ -35,7 +35,7 @@ fn position<'a>(alloc: Global, name: &'a str) -> Arg<'a>
     Arg::new(alloc, name).required(true)
 }
 
-/// A position, which may be missing.
+/// An optional positional argument.
 fn free_position<'a>(alloc: Global, name: &'a str) -> Arg<'a>
     ensures rule { rule_of result ≡ position_rule false name.entry.now }
     ensures local { result.global ≡ false }
@@ -43,14 +43,15 @@ fn free_position<'a>(alloc: Global, name: &'a str) -> Arg<'a>
     Arg::new(alloc, name)
 }
 
-/// Adds positions that may be missing.
+/// Adds optional positional arguments.
 fn add_free_positions<'a>(
     alloc: Global,
     args: &mut Vec<Arg<'a>>,
     names: &'a [&'a str],
 ) -> Result<(), AllocError>
     ensures { (rules : List Rule) → AllZip HasRule args.old.items rules
-        → OnOk result (AllZip HasRule args.new.items (rules ++ free_rules (map (λ name. name.now) names.entry.now))) }
+        → OnOk result (AllZip HasRule args.new.items
+        (rules ++ free_rules (map (λ name. name.now) names.entry.now))) }
 {
     for name in names {
         args.push(free_position(alloc, name))?;
@@ -58,24 +59,25 @@ fn add_free_positions<'a>(
     Ok(())
 }
 
-/// Adds a command that takes these options and positions. The list is let go by one call where memory runs
-/// out, whatever is in it.
+/// Adds a subcommand with these arguments. When out of memory, one call drops the whole list.
 fn add_command<'a>(
     alloc: Global,
     commands: &mut Vec<Command<'a>>,
     name: &'a str,
     args: Vec<Arg<'a>>,
 ) -> Result<(), AllocError>
-    ensures { (rules : List Rule) (apps : List App) → AllZip HasRule args.entry.items rules → AllZip IsCommandOf commands.old.items apps
-        → OnOk result (AllZip IsCommandOf commands.new.items (apps ++ app_with name.entry.now rules ∷ [])) }
+    ensures { (rules : List Rule) (apps : List App) → AllZip HasRule args.entry.items rules
+        → AllZip IsCommandOf commands.old.items apps
+        → OnOk result (AllZip IsCommandOf commands.new.items
+        (apps ++ app_with name.entry.now rules ∷ [])) }
 {
     let command = Command::new(alloc, name).args(args)?;
     commands.push(command)?;
     Ok(())
 }
 
-/// The program without commands. It has no help and no version, and its arguments don't begin with its
-/// name.
+/// The program without subcommands. It has neither help nor version, and its arguments do not
+/// include the program's name.
 fn bare_program<'a>(alloc: Global) -> Command<'a>
     ensures { app_of result ≡ bare_app }
 {
@@ -136,7 +138,7 @@ fn add_serve<'a>(alloc: Global, commands: &mut Vec<Command<'a>>) -> Result<(), A
     add_command(alloc, commands, "serve", args)
 }
 
-/// The program with its commands.
+/// The program with its subcommands.
 fn program<'a>(alloc: Global) -> Result<Command<'a>, AllocError>
     ensures { IfOk result (λ c. app_of c ≡ program_app) }
 {
@@ -149,7 +151,7 @@ fn program<'a>(alloc: Global) -> Result<Command<'a>, AllocError>
     bare_program(alloc).subcommands(commands)
 }
 
-/// What `clap` finds in the arguments.
+/// Parses the arguments with `clap`.
 pub(crate) fn parse<'a>(alloc: Global, arguments: &'a [String]) -> Result<ArgMatches<'a>, Error>
     ensures matches { IfOk result
         (λ m. subcommand_rows_of m ≡ subcommand_of program_app (texts arguments.entry.now)) }

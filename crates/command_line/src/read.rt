@@ -1,4 +1,4 @@
-//! A request from arguments.
+//! From arguments to a request.
 
 ghost use Rattle.std.specs.Prelude.{◌≡◌, ◌≢◌, ◌↔◌, ℕ, List, Bool, IfErr, IfNone, IfOk, IfSome, Some, codes, option_copied};
 ghost use Rattle.clap.specs.Words.{first_of, kind_of, one_of};
@@ -17,7 +17,7 @@ use flow_values::NoMemory;
 use match_generator::{MAX_COUNT, MAX_SEED};
 use std::alloc::Global;
 
-/// What the arguments after the program's name ask for.
+/// Parses the arguments after the program's name. `NoLine` if they are no command line.
 pub fn read_arguments<'a>(
     alloc: Global,
     arguments: &'a [String],
@@ -41,7 +41,7 @@ pub fn read_arguments<'a>(
     }
 }
 
-/// The refusal for an error of `clap`.
+/// Converts an error of `clap`.
 fn refusal_of(error: &Error) -> ArgumentsRefusal
     ensures { (result ≡ ArgumentsRefusal.NoMemory) ↔ (kind_of error.now ≡ OutOfMemory) }
 {
@@ -52,7 +52,7 @@ fn refusal_of(error: &Error) -> ArgumentsRefusal
     }
 }
 
-/// What a command asks for by its values.
+/// The request of a subcommand with these values.
 fn request_in<'a>(
     alloc: Global,
     command: &str,
@@ -73,7 +73,7 @@ fn request_in<'a>(
     }
 }
 
-/// What a command other than `serve` asks for by its values.
+/// The request of a subcommand other than `serve`.
 fn other_request_in<'a>(command: &str, values: &ArgMatches<'a>) -> Option<Request<'a>>
     ensures some { IfSome result
         (λ request. IsAskedIn command.now (rows_in values.now) (plain_request request)) }
@@ -94,7 +94,7 @@ fn other_request_in<'a>(command: &str, values: &ArgMatches<'a>) -> Option<Reques
     }
 }
 
-/// What a `match` asks for.
+/// The request of a `match`.
 fn match_in<'a>(values: &ArgMatches<'a>) -> Option<MatchRequest<'a>>
     ensures some { IfSome result (λ request.
         IsMatchIn (rows_in values.now) request.whole request.retained_limit request.pattern.now) }
@@ -111,9 +111,11 @@ fn match_in<'a>(values: &ArgMatches<'a>) -> Option<MatchRequest<'a>>
     })
 }
 
-/// The retained limit of a text, or the usual one.
+/// Parses the limit, or returns the default.
 fn retained_limit_in(text: Option<&str>) -> Option<u32>
-    ensures { (retained_limit : ℕ) → (result ≡ Some retained_limit) ↔ IsRetainedLimitText (option_copied text.entry) retained_limit }
+    ensures { (retained_limit : ℕ)
+        → (result ≡ Some retained_limit)
+        ↔ IsRetainedLimitText (option_copied text.entry) retained_limit }
 {
     match text {
         Some(text) => number_in(text, 1, MAX_RETAINED_LIMIT),
@@ -132,7 +134,7 @@ fn make_in(values: &ArgMatches<'_>) -> Option<(u32, u32)>
     Some((seed, count))
 }
 
-/// The number of an option or a position.
+/// The numeric value of an option or positional argument.
 pub(crate) fn number_of(values: &ArgMatches<'_>, name: &str, least: u32, most: u32) -> Option<u32>
     ensures { (number : ℕ) → (result ≡ Some number)
         ↔ IsNumberText least most (first_of name.now (rows_in values.now)) number }
@@ -141,7 +143,7 @@ pub(crate) fn number_of(values: &ArgMatches<'_>, name: &str, least: u32, most: u
     number_in(text, least, most)
 }
 
-/// The value of an option or a position.
+/// The value of an option or positional argument.
 pub(crate) fn value_of<'a>(values: &ArgMatches<'a>, name: &str) -> Option<&'a str>
     ensures { option_copied result ≡ first_of name.now (rows_in values.now) }
 {

@@ -1,11 +1,11 @@
-//! What arguments may ask for.
+//! The requests of a command line.
 
 use flow_values::Items;
 
-/// What the arguments ask for.
+/// A parsed command line.
 #[derive(Debug, Drop)]
 pub enum Request<'a> {
-    /// `match [--whole] [--retained_limit N] PATTERN`
+    /// `match [--whole] [--cap N] PATTERN`
     Match(MatchRequest<'a>),
     /// `check`
     Check,
@@ -16,55 +16,55 @@ pub enum Request<'a> {
     },
     /// `make SEED COUNT`
     Make {
-        /// What the input is made from.
+        /// The seed of the generator.
         seed: u32,
-        /// How many objects it has.
+        /// The number of observations.
         count: u32,
     },
     /// `serve --port P --connections N [--store FILE] [--base URL] COLLECTION...`
     Serve(ServeRequest<'a>),
 }
 
-/// What a `match` is to do.
+/// The request of a `match`.
 #[derive(Clone, Copy, Debug)]
 pub struct MatchRequest<'a> {
-    /// Whether the input is one bundle, and not one on each line.
+    /// Whether the input is one bundle, instead of one per line.
     pub whole: bool,
-    /// How much may be live at once.
+    /// The maximum number of retained partial matches.
     pub retained_limit: u64,
     /// The text of the pattern.
     pub pattern: &'a str,
 }
 
-/// What a `serve` is to do.
+/// The request of a `serve`.
 #[derive(Debug, Drop)]
 pub struct ServeRequest<'a> {
     /// The port to listen at.
     pub port: u16,
-    /// How many connections to serve.
+    /// The number of connections to serve.
     pub connections: u32,
-    /// The file that keeps the rows. Without one they are kept in memory.
+    /// The database file. Without one, the rows are kept in memory.
     pub store: Option<&'a str>,
-    /// The URL that the server has, without `/` at its end.
+    /// The base URL of the server, without a trailing slash.
     pub base: Option<&'a str>,
-    /// The collections, in this order. No two have one identifier.
+    /// The collections, in this order, with distinct identifiers.
     pub collections: Items<CollectionRequest<'a>>,
 }
 
-/// A collection that is to be served.
+/// A collection to be served.
 #[derive(Clone, Copy, Debug)]
 pub struct CollectionRequest<'a> {
-    /// The number of its UUID.
+    /// Its UUID as a number.
     pub id: u128,
-    /// Whether a client may read its objects.
+    /// Whether clients may read its objects.
     pub can_read: bool,
-    /// Whether a client may add objects.
+    /// Whether clients may add objects.
     pub can_write: bool,
     /// Its title.
     pub title: &'a str,
 }
 
-/// Why arguments ask for nothing.
+/// Why arguments give no request.
 #[derive(Clone, Copy, Debug, PartialEq, Eq)]
 pub enum ArgumentsRefusal {
     /// They are no command line.

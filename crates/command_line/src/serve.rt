@@ -1,4 +1,4 @@
-//! A `serve` from what `clap` found.
+//! The request of a `serve`, from the values that `clap` found.
 
 ghost use Rattle.std.specs.Prelude.{◌≡◌, ◌↔◌, ℕ, List, Option, Some, true, codes, map, nat_eq};
 ghost use Rattle.std.specs.Prelude.{IfNone, IfOk, IfSome, option_copied, option_map};
@@ -19,7 +19,7 @@ use clap::ArgMatches;
 use flow_values::{Items, NoMemory};
 use std::alloc::Global;
 
-/// The names of the positions of a `serve`.
+/// The names of the positional arguments of a `serve`.
 pub(crate) const COLLECTION_NAMES: [&str; 64] = [
     "1", "2", "3", "4", "5", "6", "7", "8", "9", "10", "11", "12", "13", "14", "15", "16", "17",
     "18", "19", "20", "21", "22", "23", "24", "25", "26", "27", "28", "29", "30", "31", "32", "33",
@@ -27,7 +27,7 @@ pub(crate) const COLLECTION_NAMES: [&str; 64] = [
     "50", "51", "52", "53", "54", "55", "56", "57", "58", "59", "60", "61", "62", "63", "64",
 ];
 
-/// What a `serve` asks for.
+/// The request of a `serve`, if its values are valid.
 pub(crate) fn serve_in<'a>(
     alloc: Global,
     values: &ArgMatches<'a>,
@@ -73,7 +73,7 @@ fn port_in(values: &ArgMatches<'_>) -> Option<u16>
     Some(port as u16)
 }
 
-/// The name of a file, or none, of an option's text.
+/// Checks a file name; an absent option is valid, an empty name is not.
 fn file_in(text: Option<&str>) -> Option<Option<&str>>
     ensures { (given : Option (List ℕ))
         → (option_map (option_map (λ name. name.now)) result ≡ Some given)
@@ -85,7 +85,7 @@ fn file_in(text: Option<&str>) -> Option<Option<&str>>
     }
 }
 
-/// The URL of a server, or none, of an option's text.
+/// Checks a base URL; an absent option is valid.
 fn base_in(text: Option<&str>) -> Option<Option<&str>>
     ensures { (given : Option (List ℕ))
         → (option_map (option_map (λ url. url.now)) result ≡ Some given)
@@ -97,7 +97,7 @@ fn base_in(text: Option<&str>) -> Option<Option<&str>>
     }
 }
 
-/// The collections at the positions of those names, in turn.
+/// Parses the collections at these positional arguments, in order.
 fn collections_in<'a>(
     alloc: Global,
     values: &ArgMatches<'a>,
@@ -123,7 +123,7 @@ fn collections_in<'a>(
     Ok(Some(collections))
 }
 
-/// Whether no two collections have one identifier.
+/// Whether all identifiers are distinct. O(n²) for at most 64 collections.
 fn do_all_differ(collections: &[CollectionRequest<'_>]) -> bool
     ensures { (result ≡ true) ↔ IsDistinct nat_eq (map (λ asked. asked.id) collections.now) }
 {
@@ -135,7 +135,7 @@ fn do_all_differ(collections: &[CollectionRequest<'_>]) -> bool
     true
 }
 
-/// Whether a collection has the identifier.
+/// Whether one of the collections has the identifier.
 fn has_id(collections: &[CollectionRequest<'_>], id: u128) -> bool
     ensures { result ≡ list_any (λ asked. nat_eq id asked.id) collections.now }
 {

@@ -1,4 +1,5 @@
--- What `make` writes of the generated log, and what an ending of it says; its status, and its reason as a text.
+-- What `make` writes of the generated log, and what an ending of it says; its status, and its
+-- reason as a text.
 use Rattle.std.specs.Prelude.{◌≡◌, ⊤, ℕ, List, [], ◌++◌, length, codes, decimal, Option}
 use Rattle.flow_edges.specs.Flow.{written_with, WritesPrefix}
 use Rattle.pattern_types.specs.declared.pattern.Pattern.{Pattern}
@@ -20,8 +21,8 @@ use Rattle.command_make.specs.declared.making.MakeEnding.TheVariants.{Made, Refu
 abbrev pub made_pattern : List ℕ
 made_pattern = codes "[user-account:account_login = 'u1'] REPEATS 2 TIMES WITHIN 30 SECONDS"
 
--- how many observations the generated log has, how many bindings the pattern has over it, and the greatest number of the last
--- one, or 0
+-- the numbers of observations and of bindings over the generated log, and the largest observation
+-- number of the last binding, or 0
 pub record AreNumbersOf (seed count observations bindings last : ℕ) : Type 0 where
   pub pattern : Pattern
   pub read : IsReadAs made_pattern pattern

@@ -18,15 +18,15 @@ use pattern_reader::{Pattern, read_pattern};
 use pattern_types::leaf_laws::leaves_are_brackets;
 use std::alloc::Global;
 
-/// The pattern that a generated log is matched with.
+/// The pattern matched over the generated log.
 const PATTERN: &str = "[user-account:account_login = 'u1'] REPEATS 2 TIMES WITHIN 30 SECONDS";
 
 /// How `make` ends.
 #[derive(Debug, Drop)]
 pub enum MakeEnding {
-    /// The numbers of the log's listing were written.
+    /// The numbers were written.
     Made,
-    /// A line of the log is refused. That none is, tests show.
+    /// A line of the log is refused. Tests show that this does not occur.
     Refused { line: u64, rule: InputRule },
     /// The output failed.
     WriteFault,
@@ -37,7 +37,7 @@ pub enum MakeEnding {
 impl MakeEnding {
     ghost use Rattle.command_make.specs.MakeEndings.{IsMakeReason};
 
-    /// The status of the program.
+    /// The program's exit status.
     pub fn status(&self) -> u8
         ensures { result ≡ make_status self.now }
     {
@@ -49,9 +49,10 @@ impl MakeEnding {
         }
     }
 
-    /// Writes why it ends so. Takes no memory.
+    /// Writes why the command ends. Allocates nothing.
     pub fn write_reason<S: Sink>(&self, reasons: &mut S) -> Result<(), Fault>
-        ensures text { (text : List ℕ) × IsMakeReason self.now text × WritesWhole text (S.written reasons.old) (S.written reasons.new) result }
+        ensures text { (text : List ℕ) × IsMakeReason self.now text
+            × WritesWhole text (S.written reasons.old) (S.written reasons.new) result }
         ensures causes { Counted (IsErr result) (S.faults reasons.old) (S.faults reasons.new) }
     {
         match self {
@@ -63,8 +64,8 @@ impl MakeEnding {
     }
 }
 
-/// The numbers of a listing: how many observations and bindings there are, and the greatest number of the last
-/// binding, or 0.
+/// The size of a listing: the numbers of observations and of bindings, and the largest observation
+/// number of the last binding, or 0.
 #[derive(Clone, Copy)]
 struct Numbers {
     observations: u64,
@@ -72,7 +73,8 @@ struct Numbers {
     last: u64,
 }
 
-/// The command `make`: matches a pattern against the generated log, and writes the numbers of the listing.
+/// The command `make`: matches the fixed pattern over the generated log, and writes the size of the
+/// listing.
 pub fn make<O: Sink>(alloc: Global, seed: u32, count: u32, output: &mut O) -> MakeEnding
     requires seed { seed ≤ MAX_SEED }
     requires count { count ≤ MAX_COUNT }
@@ -89,11 +91,12 @@ pub fn make<O: Sink>(alloc: Global, seed: u32, count: u32, output: &mut O) -> Ma
     }
 }
 
-/// The numbers of the generated log's listing.
+/// The size of the generated log's listing.
 fn numbers_of(alloc: Global, seed: u32, count: u32) -> Result<Numbers, MakeEnding>
     requires seed { seed ≤ MAX_SEED }
     requires count { count ≤ MAX_COUNT }
-    ensures ok { IfOk result (λ numbers. AreNumbersOf seed count numbers.observations numbers.bindings numbers.last) }
+    ensures ok { IfOk result
+        (λ numbers. AreNumbersOf seed count numbers.observations numbers.bindings numbers.last) }
     ensures err { IfErr result (StopsEarly seed count) }
 {
     match read_pattern(alloc, PATTERN) {
@@ -102,17 +105,18 @@ fn numbers_of(alloc: Global, seed: u32, count: u32) -> Result<Numbers, MakeEndin
             drop(pattern);
             numbers
         }
-        // No other refusal comes: the text is a pattern, as tests show.
+        // No other error occurs: the text is a pattern, as tests show.
         Err(_) => Err(MakeEnding::NoMemory),
     }
 }
 
-/// The same, of the pattern's listing.
+/// Matches the parsed pattern over the generated log.
 fn matched(alloc: Global, pattern: &Pattern, seed: u32, count: u32) -> Result<Numbers, MakeEnding>
     requires read { IsReadAs made_pattern pattern.now }
     requires seed { seed ≤ MAX_SEED }
     requires count { count ≤ MAX_COUNT }
-    ensures ok { IfOk result (λ numbers. AreNumbersOf seed count numbers.observations numbers.bindings numbers.last) }
+    ensures ok { IfOk result
+        (λ numbers. AreNumbersOf seed count numbers.observations numbers.bindings numbers.last) }
     ensures err { IfErr result (StopsEarly seed count) }
 {
     leaves_are_brackets();
@@ -132,7 +136,7 @@ fn matched(alloc: Global, pattern: &Pattern, seed: u32, count: u32) -> Result<Nu
             last,
         }),
         MatchEnd::Input { line, rule } => Err(MakeEnding::Refused { line, rule }),
-        // Neither stream fails, and of 100,000 observations no more than 199,999 things are live.
+        // Neither stream fails, and 100,000 observations retain at most 199,999 partial matches.
         MatchEnd::ReadFault
         | MatchEnd::WriteFault
         | MatchEnd::OverLimit { .. }
@@ -142,7 +146,8 @@ fn matched(alloc: Global, pattern: &Pattern, seed: u32, count: u32) -> Result<Nu
 
 /// Writes numbers, as `observations 5 bindings 1 last 4` and a line feed.
 fn write_numbers<O: Sink>(numbers: Numbers, output: &mut O) -> Result<(), Fault>
-    ensures text { WritesWhole (numbers_text numbers.observations numbers.bindings numbers.last) (O.written output.old) (O.written output.new) result }
+    ensures text { WritesWhole (numbers_text numbers.observations numbers.bindings numbers.last)
+        (O.written output.old) (O.written output.new) result }
     ensures causes { Counted (IsErr result) (O.faults output.old) (O.faults output.new) }
 {
     let mut buffer = Buffer::new();
@@ -154,15 +159,17 @@ fn write_numbers<O: Sink>(numbers: Numbers, output: &mut O) -> Result<(), Fault>
     write_texts(observations, bindings, last, output)
 }
 
-/// The same, of the texts of the numbers.
+/// Writes the line with the formatted numbers.
 fn write_texts<O: Sink>(
     observations: &str,
     bindings: &str,
     last: &str,
     output: &mut O,
 ) -> Result<(), Fault>
-    ensures text { WritesWhole (codes "observations " ++ (observations.now ++ (codes " bindings " ++ (bindings.now
-        ++ (codes " last " ++ (last.now ++ codes "\n")))))) (O.written output.old) (O.written output.new) result }
+    ensures text { WritesWhole
+        (codes "observations " ++ (observations.now ++ (codes " bindings " ++ (bindings.now
+        ++ (codes " last " ++ (last.now ++ codes "\n"))))))
+        (O.written output.old) (O.written output.new) result }
     ensures causes { Counted (IsErr result) (O.faults output.old) (O.faults output.new) }
 {
     write_all_vectored(

@@ -1,4 +1,5 @@
--- What an ending of `match` says of its pattern, the log and what was written; its status, and its reason as a text.
+-- What an ending of `match` says of its pattern, the log and what was written; its status, and its
+-- reason as a text.
 use Rattle.std.specs.Prelude.{◌≡◌, ℕ, List, [], codes}
 use Rattle.pattern_reader.specs.declared.pattern_refusal.PatternRefusal.{PatternRefusal}
 use Rattle.pattern_types.specs.declared.pattern.Pattern.{Pattern}

@@ -26,7 +26,7 @@ use std::mem;
 pub enum MatchEnding {
     /// The pattern is refused.
     PatternRefused(PatternRefusal),
-    /// The input was matched, and that ended so.
+    /// The input was matched, with this end.
     Ended(MatchEnd),
     /// Memory ran out before the input was read.
     NoMemory,
@@ -35,7 +35,7 @@ pub enum MatchEnding {
 impl MatchEnding {
     ghost use Rattle.command_match.specs.MatchEndings.{IsMatchReason};
 
-    /// The status of the program.
+    /// The program's exit status.
     pub fn status(&self) -> u8
         ensures { result ≡ match_status self.now }
     {
@@ -50,9 +50,10 @@ impl MatchEnding {
         }
     }
 
-    /// Writes why it ends so. Takes no memory.
+    /// Writes why the command ends. Allocates nothing.
     pub fn write_reason<S: Sink>(&self, reasons: &mut S) -> Result<(), Fault>
-        ensures text { (text : List ℕ) × IsMatchReason self.now text × WritesWhole text (S.written reasons.old) (S.written reasons.new) result }
+        ensures text { (text : List ℕ) × IsMatchReason self.now text
+            × WritesWhole text (S.written reasons.old) (S.written reasons.new) result }
         ensures causes { Counted (IsErr result) (S.faults reasons.old) (S.faults reasons.new) }
     {
         match self {
@@ -76,7 +77,7 @@ impl MatchEnding {
     }
 }
 
-/// Writes the bindings of a pattern over an input.
+/// Writes the bindings of a parsed pattern over an input.
 fn match_pattern<I: Source, O: Sink>(
     alloc: Global,
     pattern: &Pattern,
@@ -85,7 +86,8 @@ fn match_pattern<I: Source, O: Sink>(
     output: &mut O,
 ) -> MatchEnding
     requires { IsReadAs request.pattern.now pattern.now }
-    ensures end { EndsMatch (request_of request.entry) (streams (I.left input.old) (I.began input.old) (O.written output.old))
+    ensures end { EndsMatch (request_of request.entry)
+        (streams (I.left input.old) (I.began input.old) (O.written output.old))
         (streams (I.left input.new) (I.began input.new) (O.written output.new)) result }
     ensures read { match_status result ≢ 3 }
     ensures input { Counted (match_status result ≡ 5) (I.faults input.old) (I.faults input.new) }
@@ -97,12 +99,12 @@ fn match_pattern<I: Source, O: Sink>(
         Err(NoMemory) => return MatchEnding::NoMemory,
     };
     let end = match_stream(alloc, &mut matcher, input, output, mode_of(request.whole));
-    // The program ends next. To drop what the matcher keeps would go as deep as the pattern has brackets.
+    // The program ends next. Dropping the matcher would recurse as deep as the pattern nests.
     mem::forget(matcher);
     MatchEnding::Ended(end)
 }
 
-/// How the input is cut into bundles: whether it is one.
+/// How the input is split into bundles.
 fn mode_of(whole: bool) -> Mode
     ensures { result ≡ mode_of whole }
 {
@@ -116,9 +118,11 @@ pub fn match_bindings<I: Source, O: Sink>(
     input: &mut I,
     output: &mut O,
 ) -> MatchEnding
-    ensures end { EndsMatch (request_of request.entry) (streams (I.left input.old) (I.began input.old) (O.written output.old))
+    ensures end { EndsMatch (request_of request.entry)
+        (streams (I.left input.old) (I.began input.old) (O.written output.old))
         (streams (I.left input.new) (I.began input.new) (O.written output.new)) result }
-    ensures untouched { match_status result ≡ 3 → (input.new ≡ input.old) × (output.new ≡ output.old) }
+    ensures untouched { match_status result ≡ 3
+        → (input.new ≡ input.old) × (output.new ≡ output.old) }
     ensures input { Counted (match_status result ≡ 5) (I.faults input.old) (I.faults input.new) }
     ensures output { Counted (match_status result ≡ 6) (O.faults output.old) (O.faults output.new) }
 {

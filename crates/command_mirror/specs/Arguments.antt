@@ -1,4 +1,4 @@
--- What arguments ask for: HOST PORT ROOT COLLECTION FILE TRIES, and perhaps `--since TIME` behind them.
+-- The arguments HOST PORT ROOT COLLECTION FILE TRIES, optionally with `--since TIME` after them.
 use Rattle.std.specs.Prelude.{◌≡◌, ◌≢◌, ℕ, ℤ, List, [], ◌∷◌, Option, Some, None, option_map, codes}
 use Rattle.stix_times.specs.Reading.{IsTextOf}
 use Rattle.command_line.specs.CommandLines.{IsNumberIn}
@@ -18,13 +18,15 @@ IsSinceOf (flag ∷ []) since = ⊥
 IsSinceOf (flag ∷ time ∷ []) since = (flag ≡ codes "--since") × IsTimestamp time × (since ≡ Some time)
 IsSinceOf (flag ∷ time ∷ other ∷ more) since = ⊥
 
--- the fifth argument is the file, which has a name, the sixth the number of tries, and then may come since when
+-- the fifth argument is the file, whose name is not empty, the sixth the number of tries, and then
+-- the optional start time
 abbrev pub AreStoreArguments : List (List ℕ) → List ℕ → ℕ → Option (List ℕ) → Type 0
 AreStoreArguments [] file tries since = ⊥
 AreStoreArguments (name ∷ []) file tries since = ⊥
 AreStoreArguments (name ∷ number ∷ last) file tries since = (file ≡ name) × (name ≢ []) × IsNumberIn 1 MAX_TRIES number tries × IsSinceOf last since
 
--- the arguments are HOST PORT ROOT COLLECTION FILE TRIES [--since TIME]; a page has 100 objects at most
+-- the arguments are HOST PORT ROOT COLLECTION FILE TRIES [--since TIME]; a page has 100 objects at
+-- most
 pub record AskFor (arguments : List (List ℕ)) (asked : Copying) : Type 0 where
   pub host : List ℕ
   pub port : List ℕ
@@ -36,7 +38,7 @@ pub record AskFor (arguments : List (List ℕ)) (asked : Copying) : Type 0 where
   pub limit_is : asked.target.limit ≡ LIMIT
   pub more_are : AreStoreArguments more asked.file asked.tries asked.target.since
 
--- they aren't that
+-- the arguments are nothing of the kind
 abbrev pub AskForNothing : List (List ℕ) → Type 0
 AskForNothing arguments = (asked : Copying) → ¬ AskFor arguments asked
 

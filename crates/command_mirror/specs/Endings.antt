@@ -1,4 +1,4 @@
--- What an ending says of what was asked for and of the environment; its status, and its reason.
+-- What an ending implies for the request and the environment; its exit status, and its message.
 use Rattle.std.specs.Prelude.{◌≡◌, ◌⊎◌, ℕ, List, [], codes, Option}
 use Rattle.flow_edges.specs.Flow.{written_with, WritesPart}
 use Rattle.taxii_client.specs.Environment.{LinkView}
@@ -21,7 +21,7 @@ use Rattle.command_mirror.specs.declared.ending.MirrorEnding.TheVariants.{Usage,
 use Rattle.command_mirror.specs.Arguments.{AskFor, AskForNothing}
 use Rattle.command_mirror.specs.Summary.{summary_text}
 
--- what an ending says of a copy, and of what was written
+-- what an ending implies for a copy, and for what was written
 abbrev pub EndsMirror : {L : Type 0} → (L → LinkView) → Copying → Environment L → Environment L → Option (List ℕ) → Option (List ℕ) → MirrorEnding → Type 0
 EndsMirror view asked before now written written_now Usage = ⊥
 EndsMirror view asked before now written written_now Done =
@@ -31,13 +31,14 @@ EndsMirror view asked before now written written_now WriteFault =
 EndsMirror view asked before now written written_now (Stopped stop) = EndsCopy view asked before now stop × (written_now ≡ written)
 EndsMirror view asked before now written written_now NoMemory = (now ≡ before) × (written_now ≡ written)
 
--- the arguments ask for a copy, of which that holds
+-- the arguments request a copy, for which this holds
 pub record AskSo (arguments : List (List ℕ)) (Holds : Copying → Type 0) : Type 0 where
   pub asked : Copying
   pub arguments_ask : AskFor arguments asked
   pub holds : Holds asked
 
--- the arguments ask for nothing, and that is the ending; or they ask for a copy, of which it says that
+-- the arguments are no command line, and that is the ending; or they request a copy, for which the
+-- ending implies this
 abbrev pub EndsArguments : {L : Type 0} → (L → LinkView) → List (List ℕ) → Environment L → Environment L → Option (List ℕ) → Option (List ℕ) → MirrorEnding → Type 0
 EndsArguments view arguments before now written written_now ending =
     (AskForNothing arguments × (ending ≡ Usage) × (now ≡ before) × (written_now ≡ written))
@@ -64,7 +65,7 @@ mirror_status Usage = 2
 mirror_status WriteFault = 6
 mirror_status (Stopped stop) = stop_status stop
 
--- `cause` is why the keeper failed, if it did
+-- `cause` is the cause of the keeper's last fault, if any
 abbrev pub stop_reason : FaultCause → CopyStop → List ℕ
 stop_reason cause (NotLoaded Load.NoMemory) = codes "out of memory\n"
 stop_reason cause (NotFetched Stop.NoMemory) = codes "out of memory\n"

@@ -1,4 +1,4 @@
--- What stands when the program ended, by its status.
+-- What holds when the program has ended, by its status.
 use Rattle.std.specs.Prelude.{◌≡◌, ◌≢◌, ◌⊎◌, ℕ, ◌+◌, ◌-◌, ◌^◌, ◌≤◌, List, [], ◌++◌, length, map, All, Option, IfSome}
 use Rattle.flow_edges.specs.Flow.{written_with}
 use Rattle.stix_json.specs.declared.entry.Entry.{Entry}
@@ -18,7 +18,8 @@ use Rattle.taxii_client.specs.Totals.{totals_of}
 use Rattle.command_mirror.specs.Summary.{summary_text}
 use Rattle.command_mirror.specs.Endings.{EndsArguments, mirror_status, reason_of}
 
--- the program ended in one of its ways, with that status and that reason; `cause` is why the keeper failed, if it did
+-- the program ended with one of the endings, with its exit status and its message; `cause` is why
+-- the keeper failed, if it did
 pub record Ends {L : Type 0} (view : L → LinkView) (arguments : List (List ℕ)) (before now : Environment L) (written written_now : Option (List ℕ)) (status : ℕ)
     (cause : FaultCause) (Writes : List ℕ → Type 0) : Type 0 where
   pub ending : MirrorEnding
@@ -26,7 +27,8 @@ pub record Ends {L : Type 0} (view : L → LinkView) (arguments : List (List ℕ
   pub stands : EndsArguments view arguments before now written written_now ending
   pub reason : Writes (reason_of cause ending)
 
--- the pages that came are a pull of all that was asked for, all were absorbed, and the summary of that was written
+-- the pages received are a complete pull of the request, all were absorbed, and their summary was
+-- written
 pub record CopiesAll {L : Type 0} (view : L → LinkView) (before now : Environment L) (written written_now : Option (List ℕ)) (asked : Copying) : Type 0 where
   pub pages : List (Page L)
   pub pull : IsPull view asked.target pages Over
@@ -34,8 +36,9 @@ pub record CopiesAll {L : Type 0} (view : L → LinkView) (before now : Environm
   pub fills : Fills asked before now (entries_of pages) [] absorbed
   pub summary : written_now ≡ written_with (summary_text (totals_of absorbed)) written
 
--- as many attempts were lost as may be: by a link of this run that failed or whose bytes ended inside its reply, or by the dial, whose
--- count rose by as many as the others are. That is known of a count only before it ends
+-- the allowed number of attempts were lost. Each was lost by a link that failed or whose bytes
+-- ended inside its response, or by the dial, whose count increased by the number of those. That is
+-- known of a count only below its maximum
 pub record LosesAll {L : Type 0} (view : L → LinkView) (before now : Environment L) (asked : Copying) : Type 0 where
   pub attempts : List (Attempt L)
   pub through : PassThrough asked.target (links_of attempts) before.dial.observable now.dial.observable
@@ -43,8 +46,8 @@ pub record LosesAll {L : Type 0} (view : L → LinkView) (before now : Environme
   pub all : losses attempts ≡ asked.tries
   pub bound : (2 ^ 64 - 1 ≤ now.dial.faults) ⊎ (before.dial.faults + asked.tries ≤ now.dial.faults + length (lost_links attempts))
 
--- the keeper has what the pages of all replies, in order, make of the rows that it had; at 9 and 14 perhaps without the last page, and at 1
--- with it or without it
+-- the keeper's rows are what the pages of all responses, in order, make of its earlier rows; with
+-- status 9 or 14 perhaps without the last page, and with 1 with it or without it
 pub record HoldsMirrored {L : Type 0} (view : L → LinkView) (before now : Environment L) (status : ℕ) (asked : Copying) : Type 0 where
   pub attempts : List (Attempt L)
   pub cursor : Cursor

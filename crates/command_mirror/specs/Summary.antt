@@ -1,4 +1,4 @@
--- What is told of the pages that were absorbed.
+-- The summary of the absorbed pages.
 use Rattle.std.specs.Prelude.{ℕ, List, ◌++◌, codes, decimal}
 use Rattle.taxii_client.specs.declared.totals.Totals.{Totals}
 

@@ -1,4 +1,4 @@
-//! The arguments of the program: `HOST PORT ROOT COLLECTION FILE TRIES [--since TIME]`.
+//! The arguments `HOST PORT ROOT COLLECTION FILE TRIES [--since TIME]`.
 
 ghost use Rattle.std.specs.Prelude.{◌≡◌, ◌≢◌, ◌↔◌, ℕ, List, Option, [], ◌∷◌, option_map, IfNone, IfOk, IfSome, IsTrue};
 ghost use Rattle.command_line.specs.CommandLines.{texts};
@@ -10,22 +10,22 @@ use std::alloc::Global;
 use stix_times::read;
 use taxii_client::Target;
 
-/// How many objects a page is asked to have at most.
+/// The page size that is requested.
 pub const LIMIT: u64 = 100;
 
-/// The most fetches that may be lost before the program ends.
+/// The largest number of lost fetches that may be allowed.
 pub const MAX_TRIES: u32 = 100;
 
-/// What is asked for: a copy of a collection of a peer, or of what was added to it after a time, in the store of a
-/// file. The program ends when so many fetches were lost.
+/// The request: a copy of a peer's collection, or of what was added to it after a time, into the
+/// store of a file. It ends after this many lost fetches.
 #[derive(Clone, Copy)]
 pub(crate) struct MirrorRequest<'a> {
     pub(crate) peer: PeerArguments<'a>,
     pub(crate) store: StoreArguments<'a>,
 }
 
-/// The store that a collection is copied to, how often a page may be tried for, and the timestamp behind which all is
-/// copied, where there is one.
+/// The store to copy to, the number of lost fetches that ends the copy, and the optional start
+/// time.
 #[derive(Clone, Copy)]
 pub(crate) struct StoreArguments<'a> {
     pub(crate) file: &'a str,
@@ -34,7 +34,7 @@ pub(crate) struct StoreArguments<'a> {
 }
 
 impl<'a> MirrorRequest<'a> {
-    /// What is copied.
+    /// The target of the pull.
     pub(crate) fn target(&self, alloc: Global) -> Result<Target, NoMemory>
         ensures { IfOk result (λ target. target ≡ (copying_of self.now).target) }
     {
@@ -42,9 +42,10 @@ impl<'a> MirrorRequest<'a> {
     }
 }
 
-/// What the arguments after the program's name ask for, if anything.
+/// Parses the arguments after the program's name; `None` if they are no command line.
 pub(crate) fn read_request<'a>(arguments: &'a [String]) -> Option<MirrorRequest<'a>>
-    ensures some { IfSome result (λ request. AskFor (texts arguments.entry.now) (copying_of request)) }
+    ensures some { IfSome result
+        (λ request. AskFor (texts arguments.entry.now) (copying_of request)) }
     ensures none { IfNone result (AskForNothing (texts arguments.entry.now)) }
 {
     let [host, port, root, collection, more @ ..] = arguments else {
@@ -60,10 +61,13 @@ pub(crate) fn read_request<'a>(arguments: &'a [String]) -> Option<MirrorRequest<
     Some(MirrorRequest { peer, store })
 }
 
-/// What the arguments behind the first four say.
+/// Parses the arguments after the first four.
 fn store_of<'a>(more: &'a [String]) -> Option<StoreArguments<'a>>
-    ensures some { IfSome result (λ store. AreStoreArguments (texts more.entry.now) store.file.now store.tries (option_map (λ time. time.now) store.since)) }
-    ensures none { IfNone result ((file : List ℕ) (tries : ℕ) (since : Option (List ℕ)) → ¬ AreStoreArguments (texts more.entry.now) file tries since) }
+    ensures some { IfSome result
+        (λ store. AreStoreArguments (texts more.entry.now) store.file.now store.tries
+        (option_map (λ time. time.now) store.since)) }
+    ensures none { IfNone result ((file : List ℕ) (tries : ℕ) (since : Option (List ℕ))
+        → ¬ AreStoreArguments (texts more.entry.now) file tries since) }
 {
     let [file, tries, last @ ..] = more else {
         return None;
@@ -74,7 +78,7 @@ fn store_of<'a>(more: &'a [String]) -> Option<StoreArguments<'a>>
     Some(StoreArguments { file, tries, since })
 }
 
-/// The file of that name.
+/// Checks a file name, which must not be empty.
 fn file_of<'a>(text: &'a str) -> Option<&'a str>
     ensures some { IfSome result (λ file. (file.now ≡ text.entry.now) × (text.entry.now ≢ [])) }
     ensures none { IfNone result (text.entry.now ≡ []) }
@@ -82,10 +86,12 @@ fn file_of<'a>(text: &'a str) -> Option<&'a str>
     if text.is_empty() { None } else { Some(text) }
 }
 
-/// The timestamp that the last arguments say, or that they say none.
+/// Parses the optional `--since TIME`.
 fn since_of<'a>(last: &'a [String]) -> Option<Option<&'a str>>
-    ensures some { IfSome result (λ since. IsSinceOf (texts last.entry.now) (option_map (λ time. time.now) since)) }
-    ensures none { IfNone result ((since : Option (List ℕ)) → ¬ IsSinceOf (texts last.entry.now) since) }
+    ensures some { IfSome result
+        (λ since. IsSinceOf (texts last.entry.now) (option_map (λ time. time.now) since)) }
+    ensures none { IfNone result ((since : Option (List ℕ))
+        → ¬ IsSinceOf (texts last.entry.now) since) }
 {
     match last {
         [] => Some(None),
@@ -94,10 +100,13 @@ fn since_of<'a>(last: &'a [String]) -> Option<Option<&'a str>>
     }
 }
 
-/// The timestamp behind its flag.
+/// Parses the flag and its timestamp.
 fn time_behind<'a>(flag: &str, time: &'a str) -> Option<Option<&'a str>>
-    ensures some { IfSome result (λ since. IsSinceOf (flag.entry.now ∷ time.entry.now ∷ []) (option_map (λ time. time.now) since)) }
-    ensures none { IfNone result ((since : Option (List ℕ)) → ¬ IsSinceOf (flag.entry.now ∷ time.entry.now ∷ []) since) }
+    ensures some { IfSome result
+        (λ since. IsSinceOf (flag.entry.now ∷ time.entry.now ∷ [])
+        (option_map (λ time. time.now) since)) }
+    ensures none { IfNone result ((since : Option (List ℕ))
+        → ¬ IsSinceOf (flag.entry.now ∷ time.entry.now ∷ []) since) }
 {
     if flag == "--since" && is_timestamp(time) {
         Some(Some(time))

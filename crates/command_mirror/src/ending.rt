@@ -14,11 +14,11 @@ use taxii_store::LoadRefusal;
 /// How the program ends.
 #[derive(Debug, Drop)]
 pub enum MirrorEnding {
-    /// The arguments ask for nothing.
+    /// The arguments are no command line.
     Usage,
-    /// All pages were absorbed, and that was told.
+    /// All pages were absorbed, and the summary was written.
     Done,
-    /// All pages were absorbed, and that wasn't told whole.
+    /// All pages were absorbed, but writing the summary failed.
     WriteFault,
     Stopped(CopyStop),
     /// Memory ran out before the store was read.
@@ -28,7 +28,7 @@ pub enum MirrorEnding {
 impl MirrorEnding {
     ghost use Rattle.command_mirror.specs.Endings.{mirror_status, reason_of};
 
-    /// The status that the program ends with.
+    /// The program's exit status.
     pub fn status(&self) -> u8
         ensures { result ≡ mirror_status self.now }
     {
@@ -41,10 +41,11 @@ impl MirrorEnding {
         }
     }
 
-    /// Writes why the program ends so, in one line, or nothing where all was done; `cause` is why the keeper failed, if it did.
-    /// Takes no memory.
+    /// Writes why the program ends, in one line, or nothing after success; `cause` is that of the
+    /// keeper's last fault. Allocates nothing.
     pub fn write_reason<S: Sink>(&self, cause: FaultCause, reasons: &mut S) -> Result<(), Fault>
-        ensures text { WritesWhole (reason_of cause self.now) (S.written reasons.old) (S.written reasons.new) result }
+        ensures text { WritesWhole (reason_of cause self.now) (S.written reasons.old)
+            (S.written reasons.new) result }
         ensures causes { Counted (IsErr result) (S.faults reasons.old) (S.faults reasons.new) }
     {
         match self {
@@ -57,7 +58,7 @@ impl MirrorEnding {
     }
 }
 
-/// The status of a copy that stopped so.
+/// The exit status for a stopped copy.
 fn status_of(stop: &CopyStop) -> u8
     ensures { result ≡ stop_status stop.now }
 {
@@ -77,7 +78,8 @@ fn status_of(stop: &CopyStop) -> u8
 
 /// Writes why a copy stopped.
 fn write_stop<S: Sink>(stop: &CopyStop, cause: FaultCause, reasons: &mut S) -> Result<(), Fault>
-    ensures text { WritesWhole (stop_reason cause stop.now) (S.written reasons.old) (S.written reasons.new) result }
+    ensures text { WritesWhole (stop_reason cause stop.now) (S.written reasons.old)
+        (S.written reasons.new) result }
     ensures causes { Counted (IsErr result) (S.faults reasons.old) (S.faults reasons.new) }
 {
     match stop {
@@ -96,9 +98,11 @@ fn write_stop<S: Sink>(stop: &CopyStop, cause: FaultCause, reasons: &mut S) -> R
     }
 }
 
-/// Writes what the arguments are.
+/// Writes the usage.
 fn write_usage<S: Sink>(reasons: &mut S) -> Result<(), Fault>
-    ensures text { WritesWhole (codes "usage: stix_mirror HOST PORT ROOT COLLECTION FILE TRIES [--since TIME]\n") (S.written reasons.old) (S.written reasons.new) result }
+    ensures text { WritesWhole
+        (codes "usage: stix_mirror HOST PORT ROOT COLLECTION FILE TRIES [--since TIME]\n")
+        (S.written reasons.old) (S.written reasons.new) result }
     ensures causes { Counted (IsErr result) (S.faults reasons.old) (S.faults reasons.new) }
 {
     write_whole(

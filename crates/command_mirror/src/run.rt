@@ -20,10 +20,11 @@ use taxii_client::pull_laws::pulls_continue;
 use taxii_client::{Totals, copy};
 use taxii_rows::{FaultCause, Keeper};
 
-/// Tells what was absorbed.
+/// Writes the summary.
 fn conclude<O: Sink>(totals: &Totals, output: &mut O) -> MirrorEnding
     ensures concludes { Concludes totals.now (O.written output.old) (O.written output.new) result }
-    ensures output { Counted (mirror_status result ≡ 6) (O.faults output.old) (O.faults output.new) }
+    ensures output { Counted (mirror_status result ≡ 6) (O.faults output.old)
+        (O.faults output.new) }
 {
     match write_summary(totals, output) {
         Ok(()) => MirrorEnding::Done,
@@ -31,7 +32,7 @@ fn conclude<O: Sink>(totals: &Totals, output: &mut O) -> MirrorEnding
     }
 }
 
-/// Copies what is asked for, and tells what was absorbed.
+/// Copies the requested collection, and writes the summary.
 fn answer<D: Dial, K: Keeper, C: Clock, O: Sink>(
     alloc: Global,
     request: &MirrorRequest<'_>,
@@ -42,11 +43,16 @@ fn answer<D: Dial, K: Keeper, C: Clock, O: Sink>(
 ) -> MirrorEnding
     requires host { IsHost request.now.peer.host.now }
     requires tries { 1 ≤ request.now.store.tries }
-    ensures ends { EndsMirror (link_view D.Link.left D.Link.written D.Link.Source.faults D.Link.Sink.faults) (copying_of request.now)
-        (environment (D.observable dial.old) (D.faults dial.old) (K.kept keeper.old) (C.moments clock.old))
-        (environment (D.observable dial.new) (D.faults dial.new) (K.kept keeper.new) (C.moments clock.new)) (O.written output.old) (O.written output.new) result }
+    ensures ends { EndsMirror
+        (link_view D.Link.left D.Link.written D.Link.Source.faults D.Link.Sink.faults)
+        (copying_of request.now)
+        (environment (D.observable dial.old) (D.faults dial.old) (K.kept keeper.old)
+        (C.moments clock.old))
+        (environment (D.observable dial.new) (D.faults dial.new) (K.kept keeper.new)
+        (C.moments clock.new)) (O.written output.old) (O.written output.new) result }
     ensures store { Counted (mirror_status result ≡ 9) (K.faults keeper.old) (K.faults keeper.new) }
-    ensures output { Counted (mirror_status result ≡ 6) (O.faults output.old) (O.faults output.new) }
+    ensures output { Counted (mirror_status result ≡ 6) (O.faults output.old)
+        (O.faults output.new) }
 {
     let target = match request.target(alloc) {
         Ok(target) => target,
@@ -66,7 +72,7 @@ fn answer<D: Dial, K: Keeper, C: Clock, O: Sink>(
     }
 }
 
-/// Does what the arguments ask for.
+/// Executes the command line.
 fn execute<D: Dial, K: Keeper, C: Clock, O: Sink>(
     alloc: Global,
     arguments: &[String],
@@ -75,12 +81,19 @@ fn execute<D: Dial, K: Keeper, C: Clock, O: Sink>(
     clock: &mut C,
     output: &mut O,
 ) -> MirrorEnding
-    ensures ends { EndsArguments (link_view D.Link.left D.Link.written D.Link.Source.faults D.Link.Sink.faults) (texts arguments.now)
-        (environment (D.observable dial.old) (D.faults dial.old) (K.kept keeper.old) (C.moments clock.old))
-        (environment (D.observable dial.new) (D.faults dial.new) (K.kept keeper.new) (C.moments clock.new)) (O.written output.old) (O.written output.new) result }
-    ensures untouched { mirror_status result ≡ 2 → (dial.new ≡ dial.old) × (keeper.new ≡ keeper.old) × (clock.new ≡ clock.old) × (output.new ≡ output.old) }
+    ensures ends { EndsArguments
+        (link_view D.Link.left D.Link.written D.Link.Source.faults D.Link.Sink.faults)
+        (texts arguments.now)
+        (environment (D.observable dial.old) (D.faults dial.old) (K.kept keeper.old)
+        (C.moments clock.old))
+        (environment (D.observable dial.new) (D.faults dial.new) (K.kept keeper.new)
+        (C.moments clock.new)) (O.written output.old) (O.written output.new) result }
+    ensures untouched { mirror_status result ≡ 2
+        → (dial.new ≡ dial.old) × (keeper.new ≡ keeper.old) × (clock.new ≡ clock.old)
+        × (output.new ≡ output.old) }
     ensures store { Counted (mirror_status result ≡ 9) (K.faults keeper.old) (K.faults keeper.new) }
-    ensures output { Counted (mirror_status result ≡ 6) (O.faults output.old) (O.faults output.new) }
+    ensures output { Counted (mirror_status result ≡ 6) (O.faults output.old)
+        (O.faults output.new) }
 {
     match read_request(arguments) {
         Some(request) => answer(alloc, &request, dial, keeper, clock, output),
@@ -88,24 +101,24 @@ fn execute<D: Dial, K: Keeper, C: Clock, O: Sink>(
     }
 }
 
-/// The program: copies the collection that the arguments after its name ask for into the store of a file, page by page,
-/// and answers its status.
+/// Copies the collection that the arguments name into the store of a file, page by page, and
+/// returns the exit status.
 ///
-/// | Status | Comes |
+/// | Exit status | Condition |
 /// |---|---|
-/// | 0 | the last page came, all were absorbed, and that was told |
+/// | 0 | all pages were absorbed, and the summary was written |
 /// | 1 | memory ran out |
-/// | 2 | exactly where the arguments ask for nothing |
-/// | 5 | exactly where as many fetches were lost as the arguments say |
-/// | 6 | only where the output counted a fault, and at each fault of it |
-/// | 9 | only where the keeper counted a fault, and at each fault of it |
-/// | 10 | exactly where a row of the file is bad |
-/// | 11 | exactly where a reply is refused |
-/// | 13 | exactly where 1,000,000 pages came, and the last has more behind it |
-/// | 14 | exactly where fewer dates are left than a page has new objects |
+/// | 2 | if and only if the arguments are no command line |
+/// | 5 | if and only if the allowed number of fetches were lost |
+/// | 6 | if and only if the output counted a fault |
+/// | 9 | if and only if the keeper counted a fault |
+/// | 10 | if and only if a row of the file is bad |
+/// | 11 | if and only if a response is refused |
+/// | 13 | if and only if 1,000,000 pages were received, and more follow |
+/// | 14 | if and only if fewer dates are left than a page has new objects |
 ///
-/// A fetch is lost where the dial gives no link, where the link fails, and where its bytes end inside the reply. The
-/// reason is told on `faults`; a failing write there changes nothing else.
+/// A fetch is lost if the dial gives no link, the link fails, or its bytes end inside the response.
+/// The reason is written to `faults`; a failing write there changes nothing else.
 pub fn run_mirror<D: Dial, K: Keeper, C: Clock, O: Sink, E: Sink>(
     alloc: Global,
     arguments: &[String],
@@ -115,21 +128,45 @@ pub fn run_mirror<D: Dial, K: Keeper, C: Clock, O: Sink, E: Sink>(
     output: &mut O,
     faults: &mut E,
 ) -> u8
-    ensures ends { Ends (link_view D.Link.left D.Link.written D.Link.Source.faults D.Link.Sink.faults) (texts arguments.now)
-        (environment (D.observable dial.old) (D.faults dial.old) (K.kept keeper.old) (C.moments clock.old))
-        (environment (D.observable dial.new) (D.faults dial.new) (K.kept keeper.new) (C.moments clock.new)) (O.written output.old) (O.written output.new) result (K.last_cause keeper.new)
-        (λ reason. WritesReason reason (E.written faults.old) (E.written faults.new) (E.faults faults.old) (E.faults faults.new)) }
+    ensures ends { Ends
+        (link_view D.Link.left D.Link.written D.Link.Source.faults D.Link.Sink.faults)
+        (texts arguments.now)
+        (environment (D.observable dial.old) (D.faults dial.old) (K.kept keeper.old)
+        (C.moments clock.old))
+        (environment (D.observable dial.new) (D.faults dial.new) (K.kept keeper.new)
+        (C.moments clock.new)) (O.written output.old) (O.written output.new) result
+        (K.last_cause keeper.new)
+        (λ reason. WritesReason reason (E.written faults.old) (E.written faults.new)
+        (E.faults faults.old) (E.faults faults.new)) }
+    // status 2 if and only if the arguments are no command line
     ensures refusals { (result ≡ 2) ↔ AskForNothing (texts arguments.now) }
-    ensures untouched { result ≡ 2 → (dial.new ≡ dial.old) × (keeper.new ≡ keeper.old) × (clock.new ≡ clock.old) × (output.new ≡ output.old) }
-    ensures all { result ≡ 0 → AskSo (texts arguments.now) (CopiesAll (link_view D.Link.left D.Link.written D.Link.Source.faults D.Link.Sink.faults)
-        (environment (D.observable dial.old) (D.faults dial.old) (K.kept keeper.old) (C.moments clock.old))
-        (environment (D.observable dial.new) (D.faults dial.new) (K.kept keeper.new) (C.moments clock.new)) (O.written output.old) (O.written output.new)) }
-    ensures lost { result ≡ 5 → AskSo (texts arguments.now) (LosesAll (link_view D.Link.left D.Link.written D.Link.Source.faults D.Link.Sink.faults)
-        (environment (D.observable dial.old) (D.faults dial.old) (K.kept keeper.old) (C.moments clock.old))
-        (environment (D.observable dial.new) (D.faults dial.new) (K.kept keeper.new) (C.moments clock.new))) }
-    ensures mirrored { ¬ (result ≡ 2) → AskSo (texts arguments.now) (HoldsMirrored (link_view D.Link.left D.Link.written D.Link.Source.faults D.Link.Sink.faults)
-        (environment (D.observable dial.old) (D.faults dial.old) (K.kept keeper.old) (C.moments clock.old))
-        (environment (D.observable dial.new) (D.faults dial.new) (K.kept keeper.new) (C.moments clock.new)) result) }
+    ensures untouched { result ≡ 2
+        → (dial.new ≡ dial.old) × (keeper.new ≡ keeper.old) × (clock.new ≡ clock.old)
+        × (output.new ≡ output.old) }
+    ensures all { result ≡ 0
+        → AskSo (texts arguments.now)
+        (CopiesAll (link_view D.Link.left D.Link.written D.Link.Source.faults D.Link.Sink.faults)
+        (environment (D.observable dial.old) (D.faults dial.old) (K.kept keeper.old)
+        (C.moments clock.old))
+        (environment (D.observable dial.new) (D.faults dial.new) (K.kept keeper.new)
+        (C.moments clock.new)) (O.written output.old) (O.written output.new)) }
+    // with status 5 the allowed number of fetches were lost, and the page was to be requested again
+    ensures lost { result ≡ 5
+        → AskSo (texts arguments.now)
+        (LosesAll (link_view D.Link.left D.Link.written D.Link.Source.faults D.Link.Sink.faults)
+        (environment (D.observable dial.old) (D.faults dial.old) (K.kept keeper.old)
+        (C.moments clock.old))
+        (environment (D.observable dial.new) (D.faults dial.new) (K.kept keeper.new)
+        (C.moments clock.new))) }
+    // whatever the status, the store is what the absorbed pages make of it
+    ensures mirrored { ¬ (result ≡ 2)
+        → AskSo (texts arguments.now)
+        (HoldsMirrored (link_view D.Link.left D.Link.written D.Link.Source.faults
+        D.Link.Sink.faults)
+        (environment (D.observable dial.old) (D.faults dial.old) (K.kept keeper.old)
+        (C.moments clock.old))
+        (environment (D.observable dial.new) (D.faults dial.new) (K.kept keeper.new)
+        (C.moments clock.new)) result) }
     ensures store { Counted (result ≡ 9) (K.faults keeper.old) (K.faults keeper.new) }
     ensures output { Counted (result ≡ 6) (O.faults output.old) (O.faults output.new) }
 {
@@ -138,10 +175,12 @@ pub fn run_mirror<D: Dial, K: Keeper, C: Clock, O: Sink, E: Sink>(
     finish(&ending, keeper.cause(), faults)
 }
 
-/// Tells why the program ends so, and answers its status; `cause` is why the keeper failed, if it did.
+/// Writes why the program ends, and returns its exit status; `cause` is that of the keeper's last
+/// fault.
 fn finish<E: Sink>(ending: &MirrorEnding, cause: FaultCause, faults: &mut E) -> u8
     ensures status { result ≡ mirror_status ending.now }
-    ensures reason { WritesReason (reason_of cause ending.now) (E.written faults.old) (E.written faults.new) (E.faults faults.old) (E.faults faults.new) }
+    ensures reason { WritesReason (reason_of cause ending.now) (E.written faults.old)
+        (E.written faults.new) (E.faults faults.old) (E.faults faults.new) }
 {
     let _ = ending.write_reason(cause, faults);
     ending.status()

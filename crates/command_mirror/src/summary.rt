@@ -8,10 +8,12 @@ use flow_values::Fault;
 use itoa::Buffer;
 use taxii_client::Totals;
 
-/// Writes what was absorbed, as `pages 1 added 3 present 0 skipped 0` and a line feed. Takes no memory.
+/// Writes the summary, as `pages 1 added 3 present 0 skipped 0` and a line feed. Allocates nothing.
 pub(crate) fn write_summary<O: Sink>(totals: &Totals, output: &mut O) -> Result<(), Fault>
-    ensures text { WritesWhole (summary_text totals.now) (O.written output.old) (O.written output.new) result }
-    ensures part { OnErr result (WritesPart (summary_text totals.now) (O.written output.old) (O.written output.new)) }
+    ensures text { WritesWhole (summary_text totals.now) (O.written output.old)
+        (O.written output.new) result }
+    ensures part { OnErr result
+        (WritesPart (summary_text totals.now) (O.written output.old) (O.written output.new)) }
     ensures causes { Counted (IsErr result) (O.faults output.old) (O.faults output.new) }
 {
     let mut buffer = Buffer::new();
@@ -25,7 +27,7 @@ pub(crate) fn write_summary<O: Sink>(totals: &Totals, output: &mut O) -> Result<
     write_counts(pages, added, present, skipped, output)
 }
 
-/// The same, of the texts of the counts.
+/// Writes the summary with the formatted counts.
 fn write_counts<O: Sink>(
     pages: &str,
     added: &str,
@@ -33,8 +35,11 @@ fn write_counts<O: Sink>(
     skipped: &str,
     output: &mut O,
 ) -> Result<(), Fault>
-    ensures text { WritesWhole (counts_text pages.now added.now present.now skipped.now) (O.written output.old) (O.written output.new) result }
-    ensures part { OnErr result (WritesPart (counts_text pages.now added.now present.now skipped.now) (O.written output.old) (O.written output.new)) }
+    ensures text { WritesWhole (counts_text pages.now added.now present.now skipped.now)
+        (O.written output.old) (O.written output.new) result }
+    ensures part { OnErr result
+        (WritesPart (counts_text pages.now added.now present.now skipped.now)
+        (O.written output.old) (O.written output.new)) }
     ensures causes { Counted (IsErr result) (O.faults output.old) (O.faults output.new) }
 {
     write_all_vectored(

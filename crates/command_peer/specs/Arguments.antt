@@ -30,7 +30,7 @@ pub record IsRoot (text : List ℕ) : Type 0 where
   pub short : length text ≤ MAX_ROOT
   pub bytes : All IsRootByte text
 
--- the four arguments say where the target's collection is
+-- the four arguments name the target's collection
 pub record IsTargetOf (host port root collection : List ℕ) (target : Target) : Type 0 where
   pub host_is : target.host ≡ host
   pub host_form : IsHost host
@@ -39,7 +39,7 @@ pub record IsTargetOf (host port root collection : List ℕ) (target : Target) :
   pub root_form : IsRoot root
   pub collection_is : IsUuidOf collection target.collection
 
--- the collection of the arguments, so many objects a page, and only what was added after a time, where there is one
+-- the collection of the arguments with a page size, and only what was added after a time, if given
 abbrev pub target_of : PeerArguments → ℕ → Option (List ℕ) → Target
 target_of peer limit since = record {
   host = peer.host.now;

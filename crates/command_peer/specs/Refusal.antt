@@ -1,4 +1,4 @@
--- What is told of a reply that is refused.
+-- The message for a refused response.
 use Rattle.std.specs.Prelude.{ℕ, List, ◌++◌, codes}
 use Rattle.taxii_client.specs.ReplyRefusals.{refusal_text}
 use Rattle.taxii_client.specs.declared.reply_refusal.ReplyRefusal.{ReplyRefusal}

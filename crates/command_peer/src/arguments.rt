@@ -13,20 +13,20 @@ use std::alloc::Global;
 use stix_ids::read_uuid;
 use taxii_client::Target;
 
-/// A collection of a peer, as arguments name it.
+/// A collection of a peer, borrowed from the arguments.
 #[derive(Clone, Copy)]
 pub struct PeerArguments<'a> {
-    /// The peer's name or address.
+    /// The peer's host name or address.
     pub host: &'a str,
     pub port: u16,
     /// The path of the API root, with a slash at both ends.
     pub root: &'a str,
-    /// The number of the collection's UUID.
+    /// The collection's UUID as a number.
     pub collection: u128,
 }
 
 impl<'a> PeerArguments<'a> {
-    /// The collection that the four arguments name, if they name one.
+    /// Parses the four arguments; `None` if one is malformed.
     pub fn read(
         host: &'a str,
         port: &'a str,
@@ -34,8 +34,11 @@ impl<'a> PeerArguments<'a> {
         collection: &'a str,
     ) -> Option<PeerArguments<'a>>
         ensures some { IfSome result (λ peer. (limit : ℕ) (since : Option (List ℕ))
-            → IsTargetOf host.entry.now port.entry.now root.entry.now collection.entry.now (target_of peer limit since)) }
-        ensures none { IfNone result ((target : Target) → ¬ IsTargetOf host.entry.now port.entry.now root.entry.now collection.entry.now target) }
+            → IsTargetOf host.entry.now port.entry.now root.entry.now collection.entry.now
+            (target_of peer limit since)) }
+        ensures none { IfNone result ((target : Target)
+            → ¬ IsTargetOf host.entry.now port.entry.now root.entry.now collection.entry.now
+            target) }
     {
         if !is_host(host) || !is_root(root) {
             return None;
@@ -50,10 +53,12 @@ impl<'a> PeerArguments<'a> {
         })
     }
 
-    /// What is asked of the peer: that collection, so many objects a page, and only what was added after that timestamp, where
-    /// there is one.
+    /// The target of a pull: this collection with `limit` objects per page, and only objects added
+    /// after `since`, if given.
     pub fn target(&self, alloc: Global, limit: u64, since: Option<&str>) -> Result<Target, NoMemory>
-        ensures { IfOk result (λ target. target ≡ target_of self.now limit (option_map (λ time. time.now) since.entry)) }
+        ensures { IfOk result
+            (λ target. target
+            ≡ target_of self.now limit (option_map (λ time. time.now) since.entry)) }
     {
         Ok(Target {
             host: Text::from_text(alloc, self.host)?,
@@ -66,7 +71,7 @@ impl<'a> PeerArguments<'a> {
     }
 }
 
-/// A text of its own, where there is one.
+/// An owned copy of the text, if any.
 fn owned(alloc: Global, text: Option<&str>) -> Result<Option<Text>, NoMemory>
     ensures { IfOk result (λ own. own ≡ option_map (λ text. text.now) text.entry) }
 {
@@ -76,7 +81,7 @@ fn owned(alloc: Global, text: Option<&str>) -> Result<Option<Text>, NoMemory>
     }
 }
 
-/// The port that a argument is.
+/// Parses a port.
 fn port_of(text: &str) -> Option<u16>
     ensures some { IfSome result (IsNumberIn 1 MAX_PORT text.now) }
     ensures none { IfNone result ((port : ℕ) → ¬ IsNumberIn 1 MAX_PORT text.now port) }
@@ -85,7 +90,7 @@ fn port_of(text: &str) -> Option<u16>
     Some(number as u16)
 }
 
-/// The number from 1 to `most` that a argument is.
+/// Parses a number from 1 to `most`.
 pub fn number_to(text: &str, most: u32) -> Option<u32>
     ensures some { IfSome result (IsNumberIn 1 most text.now) }
     ensures none { IfNone result ((number : ℕ) → ¬ IsNumberIn 1 most text.now number) }

@@ -1,14 +1,14 @@
-//! The forms of a host and of a root.
+//! The syntax of a host and of an API root.
 
 ghost use Rattle.std.specs.Prelude.{◌≡◌, ◌↔◌, ◌++◌, List, ℕ, All, IsTrue, codes};
 ghost use Rattle.command_peer.specs.Arguments.{IsHost, IsHostByte, IsRoot, IsRootByte};
 
 use flow_links::MAX_HOST;
 
-/// How many bytes a root has at most.
+/// The maximum length of a root in bytes.
 pub const MAX_ROOT: usize = 256;
 
-/// Whether the text is a host's name or address.
+/// Whether the text is a host name or address.
 pub(crate) fn is_host(text: &str) -> bool
     ensures { IsTrue result ↔ IsHost text.now }
 {

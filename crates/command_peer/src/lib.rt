@@ -1,5 +1,10 @@
-//! What the programs that are clients of a peer have in common: the arguments that name a collection of the peer, and what is
-//! told of a reply that is refused.
+//! The common parts of the client programs: the arguments `HOST PORT ROOT COLLECTION`, which name a
+//! collection of a peer, and the message for a refused response.
+//!
+//! ```text
+//! let peer = PeerArguments::read("example.org", "80", "/api/", uuid)?; // None if malformed
+//! let target = peer.target(alloc, 100, None)?;
+//! ```
 #![tactic(auto)]
 
 mod arguments;

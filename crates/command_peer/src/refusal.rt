@@ -9,9 +9,11 @@ use flow_values::Fault;
 use itoa::Buffer;
 use taxii_client::ReplyRefusal;
 
-/// Writes why a reply is refused, as `peer refused: Status 404` and a line feed. Takes no memory.
+/// Writes why a response is refused, as `peer refused: Status 404` and a line feed. Allocates
+/// nothing.
 pub fn write_refusal<S: Sink>(refusal: &ReplyRefusal, reasons: &mut S) -> Result<(), Fault>
-    ensures text { WritesWhole (peer_reason refusal.now) (S.written reasons.old) (S.written reasons.new) result }
+    ensures text { WritesWhole (peer_reason refusal.now) (S.written reasons.old)
+        (S.written reasons.new) result }
     ensures causes { Counted (IsErr result) (S.faults reasons.old) (S.faults reasons.new) }
 {
     match refusal {
@@ -24,9 +26,10 @@ pub fn write_refusal<S: Sink>(refusal: &ReplyRefusal, reasons: &mut S) -> Result
     }
 }
 
-/// The same for a status.
+/// Writes the message for a status code.
 fn write_status<S: Sink>(code: u16, reasons: &mut S) -> Result<(), Fault>
-    ensures text { WritesWhole (peer_reason (Status code)) (S.written reasons.old) (S.written reasons.new) result }
+    ensures text { WritesWhole (peer_reason (Status code)) (S.written reasons.old)
+        (S.written reasons.new) result }
     ensures causes { Counted (IsErr result) (S.faults reasons.old) (S.faults reasons.new) }
 {
     let mut buffer = Buffer::new();

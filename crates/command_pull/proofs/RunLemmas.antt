@@ -24,7 +24,7 @@ use Rattle.command_pull.specs.Pulling.{Environment, links_of, Pulls, WritesPages
 use Rattle.command_pull.specs.Endings.{EndsPull, AreTooFew}
 use Rattle.command_pull.proofs.WritingLemmas.{all-writable, written-none, written-more}
 
--- these pages came, all were written, and the walk stands behind them
+-- these pages came, all were written, and the walk stands after them
 pub record RunsSo {L : Type 0} (view : L → LinkView) (target : Target) (before now : Environment L) (state : PullState) (skipped : ℕ) : Type 0 where
   pub pages : List (Page L)
   pub pulls : Pulls view target before now pages state.cursor [] skipped

@@ -1,4 +1,4 @@
--- What an ending says of what was asked for and of the environment; its status, and its reason.
+-- What an ending implies for the request and the environment; its exit status, and its message.
 use Rattle.std.specs.Prelude.{◌≡◌, ◌≢◌, ◌⊎◌, ℕ, zero, suc, List, [], ◌++◌, codes, decimal, length}
 use Rattle.match_run.specs.declared.cut_short.CutShort.TheVariants as Cut
 use Rattle.taxii_client.specs.Environment.{LinkView}
@@ -16,15 +16,15 @@ use Rattle.command_pull.specs.declared.ending.PullEnd.{PullEnd}
 use Rattle.command_pull.specs.Arguments.{AskFor, AskForNothing}
 use Rattle.command_pull.specs.Pulling.{Environment, StopsAsking, StopsBehind, StopsWriting}
 
--- the last page had no more behind it
+-- the last page had no more after it
 abbrev pub AreAll : {L : Type 0} → List (Page L) → Cursor → Type 0
 AreAll pages cursor = cursor ≡ Over
 
--- as many pages came as a walk may have, and the last had more behind it
+-- as many pages arrived as a walk may have, and the last had more after it
 abbrev pub AreTooFew : {L : Type 0} → List (Page L) → Cursor → Type 0
 AreTooFew pages cursor = (length pages ≡ MAX_PAGES) × (cursor ≢ Over)
 
--- what an ending says of the pages of a target
+-- what an ending implies for the pages of a target
 abbrev pub EndsPull : {L : Type 0} → (L → LinkView) → Target → Environment L → Environment L → ℕ → PullEnding → Type 0
 EndsPull view target before now skipped Usage = ⊥
 EndsPull view target before now skipped Done = StopsBehind view target before now AreAll skipped
@@ -36,13 +36,14 @@ EndsPull view target before now skipped (Lost End.NoMemory) = StopsAsking view t
 EndsPull view target before now skipped (CutShort short) = StopsWriting view target before now skipped
 EndsPull view target before now skipped NoMemory = (skipped ≡ 0) × (now ≡ before)
 
--- the arguments ask for a collection of a target, of whose pages that holds
+-- the arguments request a collection of a target, for whose pages this holds
 pub record AskSo (arguments : List (List ℕ)) (Holds : Target → Type 0) : Type 0 where
   pub target : Target
   pub asked : AskFor arguments target
   pub holds : Holds target
 
--- the arguments ask for nothing, and that is the ending; or they ask for a collection, of which it says that
+-- the arguments are no command line, and that is the ending; or they request a collection, for
+-- which the ending implies this
 abbrev pub EndsArguments : {L : Type 0} → (L → LinkView) → List (List ℕ) → Environment L → Environment L → PullEnd → Type 0
 EndsArguments view arguments before now end =
     (AskForNothing arguments × (end ≡ record { skipped = 0; ending = Usage }) × (now ≡ before))

@@ -1,4 +1,5 @@
--- What a run did environment: the pages that came, the link over which the next one didn't, and what was written.
+-- The effects of a run: the pages received, the link over which the next one did not arrive, and
+-- the output.
 use Rattle.std.specs.Prelude.{◌≡◌, ℕ, ◌≤◌, List, [], ◌∷◌, ◌++◌, map, Option, Err}
 use Rattle.flow_edges.specs.Faults.{HasIncreased}
 use Rattle.flow_edges.specs.Flow.{written_with, WritesPrefix}
@@ -12,27 +13,27 @@ use Rattle.taxii_client.specs.declared.target.Target.{Target}
 use Rattle.taxii_client.specs.declared.cursor.Cursor.{Cursor}
 use Rattle.taxii_client.specs.Telling.{told_of_pages, bad_in_pages}
 
--- the environment of a run: its dial, and what is written on its output
+-- the environment of a run: its dial, and its output
 pub record Environment (L : Type 0) : Type 0 where
   pub dial : DialView L
   pub written : Option (List ℕ)
 
--- the same, from what each tells
+-- the environment, from its observable parts
 abbrev pub environment : {L : Type 0} → Option (DialState L) → ℕ → Option (List ℕ) → Environment L
 environment observable faults written = record { dial = record { observable = observable; faults = faults }; written = written }
 
 abbrev pub links_of : {L : Type 0} → List (Page L) → List (Lent L)
 links_of pages = map (λ page. page.link) pages
 
--- these pages of a pull came, so that this turn is next and so many entries were skipped; their links and these more were dialled
--- and handed back
+-- these pages of a pull were received, so that this cursor is next and this many entries were
+-- skipped; their links and these further ones were dialled and returned
 pub record Pulls {L : Type 0} (view : L → LinkView) (target : Target) (before now : Environment L) (pages : List (Page L)) (cursor : Cursor)
     (more : List (Lent L)) (skipped : ℕ) : Type 0 where
   pub pull : IsPull view target pages cursor
   pub through : PassThrough target (links_of pages ++ more) before.dial.observable now.dial.observable
   pub skipped_is : skipped ≡ bad_in_pages pages
 
--- the good entries of the pages were written
+-- the valid entries of the pages were written
 abbrev pub WritesPages : {L : Type 0} → List (Page L) → Environment L → Environment L → Type 0
 WritesPages pages before now = now.written ≡ written_with (told_of_pages pages) before.written
 
@@ -40,14 +41,15 @@ WritesPages pages before now = now.written ≡ written_with (told_of_pages pages
 abbrev pub DialIsQuiet : {L : Type 0} → Environment L → Environment L → Type 0
 DialIsQuiet before now = now.dial.faults ≡ before.dial.faults
 
--- the page of this turn didn't come: the dial gave no link and counted that, or the fetch over one link ended so
+-- the page at this cursor did not arrive: the dial gave no link and counted that, or the fetch over
+-- one link ended this way
 abbrev pub LosesPage : {L : Type 0} → (L → LinkView) → Target → Environment L → Environment L → Cursor → FetchEnd → List (Lent L) → Type 0
 LosesPage view target before now cursor end [] = (end ≡ Fetch.Fault) × (before.dial.faults ≤ now.dial.faults) × HasIncreased before.dial.faults now.dial.faults
 LosesPage view target before now cursor end (link ∷ []) = DialIsQuiet before now
     × (next : Option (List ℕ)) × Asks cursor next × Fetched target next (view link.given) (view link.finished) (Err end)
 LosesPage view target before now cursor end (link ∷ other ∷ links) = ⊥
 
--- pages came and were written, up to one that didn't come
+-- pages arrived and were written, up to one that did not arrive
 pub record StopsAsking {L : Type 0} (view : L → LinkView) (target : Target) (before now : Environment L) (end : FetchEnd) (skipped : ℕ) : Type 0 where
   pub pages : List (Page L)
   pub cursor : Cursor
@@ -56,7 +58,7 @@ pub record StopsAsking {L : Type 0} (view : L → LinkView) (target : Target) (b
   pub loses : LosesPage view target before now cursor end lost
   pub writes : WritesPages pages before now
 
--- pages came and were written, and then no page was asked for
+-- pages arrived and were written, and then no page was requested
 pub record StopsBehind {L : Type 0} (view : L → LinkView) (target : Target) (before now : Environment L) (AreLast : List (Page L) → Cursor → Type 0) (skipped : ℕ) : Type 0 where
   pub pages : List (Page L)
   pub cursor : Cursor
@@ -65,7 +67,7 @@ pub record StopsBehind {L : Type 0} (view : L → LinkView) (target : Target) (b
   pub quiet : DialIsQuiet before now
   pub writes : WritesPages pages before now
 
--- pages came, and of what is to be written of them a prefix was
+-- pages arrived, and of what is to be written of them a prefix was
 pub record StopsWriting {L : Type 0} (view : L → LinkView) (target : Target) (before now : Environment L) (skipped : ℕ) : Type 0 where
   pub pages : List (Page L)
   pub cursor : Cursor

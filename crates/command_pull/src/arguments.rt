@@ -1,4 +1,4 @@
-//! The arguments of the program: `HOST PORT ROOT COLLECTION [LIMIT]`.
+//! The arguments `HOST PORT ROOT COLLECTION [LIMIT]`.
 
 ghost use Rattle.std.specs.Prelude.{◌≡◌, ℕ, IfNone, IfOk, IfSome};
 ghost use Rattle.command_line.specs.CommandLines.{texts};
@@ -9,10 +9,10 @@ use flow_values::NoMemory;
 use std::alloc::Global;
 use taxii_client::Target;
 
-/// The greatest number of objects that a page may be asked to have, and the usual one.
+/// The largest page size that may be requested, and the default.
 pub const MAX_LIMIT: u32 = 100;
 
-/// What is asked for: the objects of a collection of a peer, so many at a time.
+/// The request: the objects of a peer's collection, with a page size.
 #[derive(Clone, Copy)]
 pub(crate) struct PullRequest<'a> {
     pub(crate) peer: PeerArguments<'a>,
@@ -20,7 +20,7 @@ pub(crate) struct PullRequest<'a> {
 }
 
 impl<'a> PullRequest<'a> {
-    /// The target of the request.
+    /// The target of the pull.
     pub(crate) fn target(&self, alloc: Global) -> Result<Target, NoMemory>
         ensures { IfOk result (λ target. target ≡ target_of self.now) }
     {
@@ -28,9 +28,10 @@ impl<'a> PullRequest<'a> {
     }
 }
 
-/// What the arguments after the program's name ask for, if anything.
+/// Parses the arguments after the program's name; `None` if they are no command line.
 pub(crate) fn read_request<'a>(arguments: &'a [String]) -> Option<PullRequest<'a>>
-    ensures some { IfSome result (λ request. AskFor (texts arguments.entry.now) (target_of request)) }
+    ensures some { IfSome result
+        (λ request. AskFor (texts arguments.entry.now) (target_of request)) }
     ensures none { IfNone result (AskForNothing (texts arguments.entry.now)) }
 {
     let [host, port, root, collection, more @ ..] = arguments else {
@@ -46,7 +47,7 @@ pub(crate) fn read_request<'a>(arguments: &'a [String]) -> Option<PullRequest<'a
     Some(PullRequest { peer, limit })
 }
 
-/// The limit that the arguments behind the first four say.
+/// Parses the optional LIMIT.
 fn limit_of(more: &[String]) -> Option<u32>
     ensures some { IfSome result (IsLimitOf (texts more.now)) }
     ensures none { IfNone result ((limit : ℕ) → ¬ IsLimitOf (texts more.now) limit) }

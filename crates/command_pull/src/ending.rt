@@ -14,19 +14,19 @@ use taxii_client::PageEnd;
 /// How the program ends.
 #[derive(Debug, Drop)]
 pub enum PullEnding {
-    /// The arguments ask for nothing.
+    /// The arguments are no command line.
     Usage,
-    /// The last page came, and all was written.
+    /// All pages were received and written.
     Done,
-    /// The next page didn't come.
+    /// The next page did not arrive.
     Lost(PageEnd),
-    /// The last page wasn't written whole.
+    /// The last page was not written completely.
     CutShort(CutShort),
-    /// Memory ran out before the first page was asked for.
+    /// Memory ran out before the first request.
     NoMemory,
 }
 
-/// How the program ends, and how many entries of the pages that came are bad.
+/// How the program ends, and how many entries of the received pages are invalid.
 #[derive(Debug, Drop)]
 pub struct PullEnd {
     pub skipped: u128,
@@ -34,16 +34,17 @@ pub struct PullEnd {
 }
 
 impl PullEnd {
-    /// An end before any page.
+    /// An end before the first page.
     pub(crate) fn before_pages(ending: PullEnding) -> PullEnd
         ensures { result ≡ record { skipped = 0; ending = ending } }
     {
         PullEnd { skipped: 0, ending }
     }
 
-    /// Writes how many entries were skipped, where some were, and why the program ends so. Takes no memory.
+    /// Writes how many entries were skipped, if any, and why the program ends. Allocates nothing.
     pub(crate) fn write_reason<S: Sink>(&self, reasons: &mut S) -> Result<(), Fault>
-        ensures text { WritesWhole (end_reason self.now) (S.written reasons.old) (S.written reasons.new) result }
+        ensures text { WritesWhole (end_reason self.now) (S.written reasons.old)
+            (S.written reasons.new) result }
         ensures causes { Counted (IsErr result) (S.faults reasons.old) (S.faults reasons.new) }
     {
         write_skipped(self.skipped, reasons)?;
@@ -54,7 +55,7 @@ impl PullEnd {
 impl PullEnding {
     ghost use Rattle.command_pull.specs.Endings.{pull_status, reason_of};
 
-    /// The status that the program ends with.
+    /// The program's exit status.
     pub fn status(&self) -> u8
         ensures { result ≡ pull_status self.now }
     {
@@ -72,9 +73,10 @@ impl PullEnding {
         }
     }
 
-    /// Writes why the program ends so, in one line, or nothing where all came. Takes no memory.
+    /// Writes why the program ends, in one line, or nothing after success. Allocates nothing.
     pub fn write_reason<S: Sink>(&self, reasons: &mut S) -> Result<(), Fault>
-        ensures text { WritesWhole (reason_of self.now) (S.written reasons.old) (S.written reasons.new) result }
+        ensures text { WritesWhole (reason_of self.now) (S.written reasons.old)
+            (S.written reasons.new) result }
         ensures causes { Counted (IsErr result) (S.faults reasons.old) (S.faults reasons.new) }
     {
         match self {
@@ -95,9 +97,10 @@ impl PullEnding {
     }
 }
 
-/// Writes how many entries were skipped, where some were.
+/// Writes how many entries were skipped, if any.
 fn write_skipped<S: Sink>(skipped: u128, reasons: &mut S) -> Result<(), Fault>
-    ensures text { WritesWhole (skipped_text skipped) (S.written reasons.old) (S.written reasons.new) result }
+    ensures text { WritesWhole (skipped_text skipped) (S.written reasons.old)
+        (S.written reasons.new) result }
     ensures causes { Counted (IsErr result) (S.faults reasons.old) (S.faults reasons.new) }
 {
     if skipped == 0 {

@@ -1,5 +1,10 @@
-//! The client: all objects of a collection of a TAXII 2.1 server, as arguments ask for it, fetched page by page and written as lines, each
-//! page before the next one is asked for.
+//! The program `stix_pull`: fetches all objects of a collection of a TAXII 2.1 server, and writes
+//! them as lines of JSON. Each page is written before the next one is requested.
+//!
+//! ```text
+//! // stix_pull HOST PORT ROOT COLLECTION [LIMIT]
+//! let status = run_pull(alloc, &arguments, &mut dial, &mut stdout, &mut stderr);
+//! ```
 #![tactic(auto)]
 
 mod arguments;

@@ -13,7 +13,8 @@ use std::alloc::Global;
 use taxii_client::pull_laws::pulls_continue;
 use taxii_client::{Pull, Target};
 
-/// Fetches the pages of a collection in turn, and writes what is good of each before the next one is asked for.
+/// Fetches the pages of a collection in order, and writes the valid entries of each before the next
+/// request.
 pub(crate) fn pull_all<D: Dial, O: Sink>(
     alloc: Global,
     target: &Target,
@@ -21,10 +22,13 @@ pub(crate) fn pull_all<D: Dial, O: Sink>(
     output: &mut O,
 ) -> PullEnd
     requires short { length target.now.host ≤ MAX_HOST }
-    ensures end { EndsPull (link_view D.Link.left D.Link.written D.Link.Source.faults D.Link.Sink.faults) target.now
-        (environment (D.observable dial.old) (D.faults dial.old) (O.written output.old)) (environment (D.observable dial.new) (D.faults dial.new) (O.written output.new))
+    ensures end { EndsPull
+        (link_view D.Link.left D.Link.written D.Link.Source.faults D.Link.Sink.faults) target.now
+        (environment (D.observable dial.old) (D.faults dial.old) (O.written output.old))
+        (environment (D.observable dial.new) (D.faults dial.new) (O.written output.new))
         result.skipped result.ending }
-    ensures output { Counted (pull_status result.ending ≡ 6) (O.faults output.old) (O.faults output.new) }
+    ensures output { Counted (pull_status result.ending ≡ 6) (O.faults output.old)
+        (O.faults output.new) }
 {
     pulls_continue::<D>();
     let mut pull = Pull::new(alloc, target);

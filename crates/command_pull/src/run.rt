@@ -17,7 +17,7 @@ use flow_links::Dial;
 use flow_values::NoMemory;
 use std::alloc::Global;
 
-/// Does what is asked for.
+/// Executes a request.
 fn answer<D: Dial, O: Sink>(
     alloc: Global,
     request: &PullRequest<'_>,
@@ -25,10 +25,14 @@ fn answer<D: Dial, O: Sink>(
     output: &mut O,
 ) -> PullEnd
     requires { IsHost request.now.peer.host.now }
-    ensures end { EndsPull (link_view D.Link.left D.Link.written D.Link.Source.faults D.Link.Sink.faults) (target_of request.now)
-        (environment (D.observable dial.old) (D.faults dial.old) (O.written output.old)) (environment (D.observable dial.new) (D.faults dial.new) (O.written output.new))
+    ensures end { EndsPull
+        (link_view D.Link.left D.Link.written D.Link.Source.faults D.Link.Sink.faults)
+        (target_of request.now)
+        (environment (D.observable dial.old) (D.faults dial.old) (O.written output.old))
+        (environment (D.observable dial.new) (D.faults dial.new) (O.written output.new))
         result.skipped result.ending }
-    ensures output { Counted (pull_status result.ending ≡ 6) (O.faults output.old) (O.faults output.new) }
+    ensures output { Counted (pull_status result.ending ≡ 6) (O.faults output.old)
+        (O.faults output.new) }
 {
     match request.target(alloc) {
         Ok(target) => pull_all(alloc, &target, dial, output),
@@ -36,17 +40,22 @@ fn answer<D: Dial, O: Sink>(
     }
 }
 
-/// Does what the arguments ask for.
+/// Executes the command line.
 fn execute<D: Dial, O: Sink>(
     alloc: Global,
     arguments: &[String],
     dial: &mut D,
     output: &mut O,
 ) -> PullEnd
-    ensures end { EndsArguments (link_view D.Link.left D.Link.written D.Link.Source.faults D.Link.Sink.faults) (texts arguments.now)
-        (environment (D.observable dial.old) (D.faults dial.old) (O.written output.old)) (environment (D.observable dial.new) (D.faults dial.new) (O.written output.new)) result }
-    ensures untouched { pull_status result.ending ≡ 2 → (dial.new ≡ dial.old) × (output.new ≡ output.old) }
-    ensures output { Counted (pull_status result.ending ≡ 6) (O.faults output.old) (O.faults output.new) }
+    ensures end { EndsArguments
+        (link_view D.Link.left D.Link.written D.Link.Source.faults D.Link.Sink.faults)
+        (texts arguments.now)
+        (environment (D.observable dial.old) (D.faults dial.old) (O.written output.old))
+        (environment (D.observable dial.new) (D.faults dial.new) (O.written output.new)) result }
+    ensures untouched { pull_status result.ending ≡ 2
+        → (dial.new ≡ dial.old) × (output.new ≡ output.old) }
+    ensures output { Counted (pull_status result.ending ≡ 6) (O.faults output.old)
+        (O.faults output.new) }
 {
     match read_request(arguments) {
         Some(request) => answer(alloc, &request, dial, output),
@@ -54,22 +63,22 @@ fn execute<D: Dial, O: Sink>(
     }
 }
 
-/// The program: writes all objects of the collection that the arguments after its name ask for, a line each, page by page,
-/// and answers its status.
+/// Writes all objects of the collection that the arguments name, one per line, page by page, and
+/// returns the exit status.
 ///
-/// | Status | Comes |
+/// | Exit status | Condition |
 /// |---|---|
-/// | 0 | the last page came, and all good entries were written |
+/// | 0 | all pages were received, and all valid entries were written |
 /// | 1 | memory ran out |
-/// | 2 | exactly where the arguments ask for nothing |
-/// | 5 | only where the dial or a link that it gave counted a fault |
-/// | 6 | only where the output counted a fault, and at each fault of it |
-/// | 11 | exactly where a reply is refused |
-/// | 12 | exactly where a link's bytes end inside a reply |
-/// | 13 | exactly where 1,000,000 pages came, and the last has more behind it |
+/// | 2 | if and only if the arguments are no command line |
+/// | 5 | only if the dial or one of its links counted a fault |
+/// | 6 | if and only if the output counted a fault |
+/// | 11 | if and only if a response is refused |
+/// | 12 | if and only if a link's bytes end inside a response |
+/// | 13 | if and only if 1,000,000 pages were received, and more follow |
 ///
-/// On `faults` the number of the bad entries that were skipped is told in a line, where some were, and then the reason.
-/// A failing write there changes nothing else.
+/// On `faults`, the number of skipped entries is written, if any, and then the reason. A failing
+/// write there changes nothing else.
 pub fn run_pull<D: Dial, O: Sink, E: Sink>(
     alloc: Global,
     arguments: &[String],
@@ -77,25 +86,39 @@ pub fn run_pull<D: Dial, O: Sink, E: Sink>(
     output: &mut O,
     faults: &mut E,
 ) -> u8
-    ensures ends { Ends (link_view D.Link.left D.Link.written D.Link.Source.faults D.Link.Sink.faults) (texts arguments.now)
-        (environment (D.observable dial.old) (D.faults dial.old) (O.written output.old)) (environment (D.observable dial.new) (D.faults dial.new) (O.written output.new)) result
-        (λ reason. WritesReason reason (E.written faults.old) (E.written faults.new) (E.faults faults.old) (E.faults faults.new)) }
+    ensures ends { Ends
+        (link_view D.Link.left D.Link.written D.Link.Source.faults D.Link.Sink.faults)
+        (texts arguments.now)
+        (environment (D.observable dial.old) (D.faults dial.old) (O.written output.old))
+        (environment (D.observable dial.new) (D.faults dial.new) (O.written output.new)) result
+        (λ reason. WritesReason reason (E.written faults.old) (E.written faults.new)
+        (E.faults faults.old) (E.faults faults.new)) }
+    // status 2 if and only if the arguments are no command line
     ensures refusals { (result ≡ 2) ↔ AskForNothing (texts arguments.now) }
     ensures untouched { result ≡ 2 → (dial.new ≡ dial.old) × (output.new ≡ output.old) }
-    ensures all { result ≡ 0 → PullsAll (link_view D.Link.left D.Link.written D.Link.Source.faults D.Link.Sink.faults) (texts arguments.now)
-        (environment (D.observable dial.old) (D.faults dial.old) (O.written output.old)) (environment (D.observable dial.new) (D.faults dial.new) (O.written output.new)) }
-    ensures dial { CountsDial (link_view D.Link.left D.Link.written D.Link.Source.faults D.Link.Sink.faults) (texts arguments.now)
-        (environment (D.observable dial.old) (D.faults dial.old) (O.written output.old)) (environment (D.observable dial.new) (D.faults dial.new) (O.written output.new)) result }
+    // with status 0 all pages were received and written
+    ensures all { result ≡ 0
+        → PullsAll (link_view D.Link.left D.Link.written D.Link.Source.faults D.Link.Sink.faults)
+        (texts arguments.now)
+        (environment (D.observable dial.old) (D.faults dial.old) (O.written output.old))
+        (environment (D.observable dial.new) (D.faults dial.new) (O.written output.new)) }
+    // which statuses a fault of the dial or a link may have, and which imply one
+    ensures dial { CountsDial
+        (link_view D.Link.left D.Link.written D.Link.Source.faults D.Link.Sink.faults)
+        (texts arguments.now)
+        (environment (D.observable dial.old) (D.faults dial.old) (O.written output.old))
+        (environment (D.observable dial.new) (D.faults dial.new) (O.written output.new)) result }
     ensures output { Counted (result ≡ 6) (O.faults output.old) (O.faults output.new) }
 {
     let end = execute(alloc, arguments, dial, output);
     finish(&end, faults)
 }
 
-/// Tells why the program ends so, and answers its status.
+/// Writes why the program ends, and returns its exit status.
 fn finish<E: Sink>(end: &PullEnd, faults: &mut E) -> u8
     ensures status { result ≡ pull_status end.now.ending }
-    ensures reason { WritesReason (end_reason end.now) (E.written faults.old) (E.written faults.new) (E.faults faults.old) (E.faults faults.new) }
+    ensures reason { WritesReason (end_reason end.now) (E.written faults.old)
+        (E.written faults.new) (E.faults faults.old) (E.faults faults.new) }
 {
     let _ = end.write_reason(faults);
     end.ending.status()

@@ -11,7 +11,7 @@ use match_run::{CutShort, Pending};
 use std::alloc::Global;
 use stix_json::{Entry, write_json};
 
-/// How many of a page's entries are bad.
+/// The number of invalid entries of a page.
 pub(crate) fn count_bad(entries: &[Entry]) -> usize
     ensures { result ≡ bad_in entries.now }
 {
@@ -21,16 +21,19 @@ pub(crate) fn count_bad(entries: &[Entry]) -> usize
         .count()
 }
 
-/// Writes a line for each good entry of a page.
+/// Writes a line for each valid entry of a page.
 pub(crate) fn write_page<O: Sink>(
     alloc: Global,
     entries: &[Entry],
     output: &mut O,
 ) -> Result<(), CutShort>
     requires { All IsWritable entries.now }
-    ensures ok { OnOk result (O.written output.new ≡ written_with (told_of entries.now) (O.written output.old)) }
-    ensures err { OnErr result (WritesPrefix (told_of entries.now) (O.written output.old) (O.written output.new)) }
-    ensures causes { Counted (result ≡ Err CutShort.WriteFault) (O.faults output.old) (O.faults output.new) }
+    ensures ok { OnOk result
+        (O.written output.new ≡ written_with (told_of entries.now) (O.written output.old)) }
+    ensures err { OnErr result
+        (WritesPrefix (told_of entries.now) (O.written output.old) (O.written output.new)) }
+    ensures causes { Counted (result ≡ Err CutShort.WriteFault) (O.faults output.old)
+        (O.faults output.new) }
 {
     let mut pending = Pending::new(alloc);
     add_page(alloc, entries, &mut pending, output)?;
@@ -38,7 +41,7 @@ pub(crate) fn write_page<O: Sink>(
     Ok(())
 }
 
-/// Puts a line for each good entry of a page behind what is pending.
+/// Appends a line for each valid entry of a page to the pending output.
 fn add_page<O: Sink>(
     alloc: Global,
     entries: &[Entry],
@@ -47,9 +50,13 @@ fn add_page<O: Sink>(
 ) -> Result<(), CutShort>
     requires ordered { All IsWritable entries.now }
     requires empty { pending.old ≡ [] }
-    ensures ok { OnOk result (IsBuffered (told_of entries.now) pending.new (O.written output.old) (O.written output.new)) }
-    ensures err { OnErr result (WritesPrefix (told_of entries.now) (O.written output.old) (O.written output.new)) }
-    ensures causes { Counted (result ≡ Err CutShort.WriteFault) (O.faults output.old) (O.faults output.new) }
+    ensures ok { OnOk result
+        (IsBuffered (told_of entries.now) pending.new (O.written output.old)
+        (O.written output.new)) }
+    ensures err { OnErr result
+        (WritesPrefix (told_of entries.now) (O.written output.old) (O.written output.new)) }
+    ensures causes { Counted (result ≡ Err CutShort.WriteFault) (O.faults output.old)
+        (O.faults output.new) }
 {
     parts_are_buffered();
     for entry in entries {
@@ -58,7 +65,7 @@ fn add_page<O: Sink>(
     Ok(())
 }
 
-/// Puts the line of an entry behind what is pending.
+/// Appends the line of an entry to the pending output.
 fn add_entry<O: Sink>(
     alloc: Global,
     entry: &Entry,
@@ -66,18 +73,22 @@ fn add_entry<O: Sink>(
     output: &mut O,
 ) -> Result<(), CutShort>
     requires { IsWritable entry.now }
-    ensures ok { (before : List ℕ) (first : Option (List ℕ)) → IsBuffered before pending.old first (O.written output.old)
-        → OnOk result (IsBuffered (before ++ line_of entry.now) pending.new first (O.written output.new)) }
-    ensures err { (before : List ℕ) (first : Option (List ℕ)) → IsBuffered before pending.old first (O.written output.old)
+    ensures ok { (before : List ℕ) (first : Option (List ℕ))
+        → IsBuffered before pending.old first (O.written output.old)
+        → OnOk result (IsBuffered (before ++ line_of entry.now) pending.new first
+        (O.written output.new)) }
+    ensures err { (before : List ℕ) (first : Option (List ℕ))
+        → IsBuffered before pending.old first (O.written output.old)
         → OnErr result (WritesPrefix (before ++ line_of entry.now) first (O.written output.new)) }
-    ensures causes { Counted (result ≡ Err CutShort.WriteFault) (O.faults output.old) (O.faults output.new) }
+    ensures causes { Counted (result ≡ Err CutShort.WriteFault) (O.faults output.old)
+        (O.faults output.new) }
 {
     parts_are_buffered();
     let line = text_of(alloc, entry)?;
     pending.add(line.as_str().as_bytes(), output)
 }
 
-/// The line of a good entry, or nothing.
+/// The line of a valid entry, or an empty text.
 fn text_of(alloc: Global, entry: &Entry) -> Result<Text, NoMemory>
     requires { IsWritable entry.now }
     ensures { IfOk result (λ line. line ≡ line_of entry.now) }

@@ -1,4 +1,4 @@
--- What is told of why a command ended.
+-- The messages that state why a command ended.
 use Rattle.std.specs.Prelude.{◌≡◌, ◌⊎◌, ℕ, List, ◌++◌, Option, codes, decimal}
 use Rattle.flow_edges.specs.Faults.{HasIncreased}
 use Rattle.flow_edges.specs.Flow.{written_with, WritesPrefix}
@@ -11,7 +11,7 @@ use Rattle.pattern_reader.specs.Read.{IsReadAs, IsRefusedAs}
 abbrev pub IsUnread : List ℕ → Type 0
 IsUnread text = (pattern : Pattern) → ¬ IsReadAs text pattern
 
--- it is refused as a pattern, and that is why
+-- it is refused as a pattern for this reason
 pub record IsRefusedPattern (text : List ℕ) (refusal : PatternRefusal) : Type 0 where
   pub unread : IsUnread text
   pub why : IsRefusedAs text refusal
@@ -20,7 +20,7 @@ pub record IsRefusedPattern (text : List ℕ) (refusal : PatternRefusal) : Type 
 abbrev pub pattern_reason : PatternRefusal → List ℕ
 pattern_reason refusal = codes "pattern refused: " ++ (refusal_text refusal ++ codes "\n")
 
--- over limit at observation N: retained limit N
+-- the message for an exceeded limit on retained partial matches
 abbrev pub over_limit_reason : ℕ → ℕ → List ℕ
 over_limit_reason number retained_limit = codes "crowded at observation " ++ (decimal number ++ (codes ": cap " ++ (decimal retained_limit ++ codes "\n")))
 

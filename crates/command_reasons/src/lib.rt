@@ -1,4 +1,9 @@
-//! Why a command ended, in one line on standard error: the reasons that several commands tell.
+//! Error messages on standard error that several commands share. Each is one line, states why a
+//! command ended, and is written without allocating.
+//!
+//! ```text
+//! write_bad_row(7, &mut stderr)?; // "store refused: row after 7\n"
+//! ```
 #![tactic(auto)]
 
 mod bad_row;

@@ -7,13 +7,15 @@ use flow_edges::{Sink, write_all_vectored};
 use flow_values::Fault;
 use itoa::Buffer;
 
-/// Writes at which observation more was live than the retained limit allows, as `over_limit at observation 7: retained_limit 9` and a line feed.
+/// Writes at which observation the limit on retained partial matches was exceeded, as `crowded at
+/// observation 7: cap 9` and a line feed.
 pub fn write_over_limit<S: Sink>(
     number: u64,
     retained_limit: u64,
     reasons: &mut S,
 ) -> Result<(), Fault>
-    ensures text { WritesWhole (over_limit_reason number retained_limit) (S.written reasons.old) (S.written reasons.new) result }
+    ensures text { WritesWhole (over_limit_reason number retained_limit) (S.written reasons.old)
+        (S.written reasons.new) result }
     ensures causes { Counted (IsErr result) (S.faults reasons.old) (S.faults reasons.new) }
 {
     let mut buffer = Buffer::new();
@@ -23,13 +25,15 @@ pub fn write_over_limit<S: Sink>(
     write_numbers(number, retained_limit, reasons)
 }
 
-/// The same, of the texts of both numbers.
+/// Writes the message with both numbers formatted.
 fn write_numbers<'a, S: Sink>(
     number: &'a str,
     retained_limit: &'a str,
     reasons: &mut S,
 ) -> Result<(), Fault>
-    ensures text { WritesWhole (codes "crowded at observation " ++ (number.now ++ (codes ": cap " ++ (retained_limit.now ++ codes "\n"))))
+    ensures text { WritesWhole
+        (codes "crowded at observation "
+        ++ (number.now ++ (codes ": cap " ++ (retained_limit.now ++ codes "\n"))))
         (S.written reasons.old) (S.written reasons.new) result }
     ensures causes { Counted (IsErr result) (S.faults reasons.old) (S.faults reasons.new) }
 {

@@ -10,7 +10,8 @@ use pattern_reader::PatternRefusal;
 
 /// Writes that memory ran out.
 pub fn write_no_memory<S: Sink>(reasons: &mut S) -> Result<(), Fault>
-    ensures text { WritesWhole (codes "out of memory\n") (S.written reasons.old) (S.written reasons.new) result }
+    ensures text { WritesWhole (codes "out of memory\n") (S.written reasons.old)
+        (S.written reasons.new) result }
     ensures causes { Counted (IsErr result) (S.faults reasons.old) (S.faults reasons.new) }
 {
     write_whole(reasons, b"out of memory\n")
@@ -18,7 +19,8 @@ pub fn write_no_memory<S: Sink>(reasons: &mut S) -> Result<(), Fault>
 
 /// Writes that the input failed.
 pub fn write_read_fault<S: Sink>(reasons: &mut S) -> Result<(), Fault>
-    ensures text { WritesWhole (codes "read fault\n") (S.written reasons.old) (S.written reasons.new) result }
+    ensures text { WritesWhole (codes "read fault\n") (S.written reasons.old)
+        (S.written reasons.new) result }
     ensures causes { Counted (IsErr result) (S.faults reasons.old) (S.faults reasons.new) }
 {
     write_whole(reasons, b"read fault\n")
@@ -26,7 +28,8 @@ pub fn write_read_fault<S: Sink>(reasons: &mut S) -> Result<(), Fault>
 
 /// Writes that the output failed.
 pub fn write_write_fault<S: Sink>(reasons: &mut S) -> Result<(), Fault>
-    ensures text { WritesWhole (codes "write fault\n") (S.written reasons.old) (S.written reasons.new) result }
+    ensures text { WritesWhole (codes "write fault\n") (S.written reasons.old)
+        (S.written reasons.new) result }
     ensures causes { Counted (IsErr result) (S.faults reasons.old) (S.faults reasons.new) }
 {
     write_whole(reasons, b"write fault\n")
@@ -34,7 +37,8 @@ pub fn write_write_fault<S: Sink>(reasons: &mut S) -> Result<(), Fault>
 
 /// Writes why a pattern is refused, as `pattern refused: Syntax at 5` and a line feed.
 pub fn write_pattern_reason<S: Sink>(refusal: &PatternRefusal, reasons: &mut S) -> Result<(), Fault>
-    ensures text { WritesWhole (pattern_reason refusal.now) (S.written reasons.old) (S.written reasons.new) result }
+    ensures text { WritesWhole (pattern_reason refusal.now) (S.written reasons.old)
+        (S.written reasons.new) result }
     ensures causes { Counted (IsErr result) (S.faults reasons.old) (S.faults reasons.new) }
 {
     write_whole(reasons, b"pattern refused: ")?;

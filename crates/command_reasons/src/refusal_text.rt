@@ -8,9 +8,10 @@ use flow_values::Fault;
 use itoa::Buffer;
 use pattern_reader::PatternRefusal;
 
-/// Writes why a pattern is refused, as `BadToken at 5`. Takes no memory.
+/// Writes why a pattern is refused, as `BadToken at 5`. Allocates nothing.
 pub(crate) fn write_refusal<S: Sink>(refusal: &PatternRefusal, sink: &mut S) -> Result<(), Fault>
-    ensures text { WritesWhole (refusal_text refusal.now) (S.written sink.old) (S.written sink.new) result }
+    ensures text { WritesWhole (refusal_text refusal.now) (S.written sink.old)
+        (S.written sink.new) result }
     ensures causes { Counted (IsErr result) (S.faults sink.old) (S.faults sink.new) }
 {
     let name = refusal.name();
@@ -24,9 +25,10 @@ pub(crate) fn write_refusal<S: Sink>(refusal: &PatternRefusal, sink: &mut S) -> 
     }
 }
 
-/// Writes a name and a place.
+/// Writes a name and an offset.
 fn write_placed<'a, S: Sink>(name: &'a str, place: &'a str, sink: &mut S) -> Result<(), Fault>
-    ensures text { WritesWhole (name.now ++ (codes " at " ++ place.now)) (S.written sink.old) (S.written sink.new) result }
+    ensures text { WritesWhole (name.now ++ (codes " at " ++ place.now)) (S.written sink.old)
+        (S.written sink.new) result }
     ensures causes { Counted (IsErr result) (S.faults sink.old) (S.faults sink.new) }
 {
     write_all_vectored(sink, &[name.as_bytes(), b" at ", place.as_bytes()])

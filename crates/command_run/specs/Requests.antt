@@ -1,9 +1,9 @@
--- What the arguments ask for, by command.
+-- The request of the arguments, by command.
 use Rattle.std.specs.Prelude.{◌≡◌, ◌⊎◌, ℕ, List, Bool}
 use Rattle.command_match.specs.Tasks.{MatchTask, mode_of}
 use Rattle.command_line.specs.CommandLines.{PlainService, Match, Check, Show, Make, Serve, IsCommandLine}
 
--- match [--whole] [--retained limit N] PATTERN
+-- match [--whole] [--cap N] PATTERN
 pub record IsMatchLine (arguments : List (List ℕ)) (request : MatchTask) : Type 0 where
   pub whole : Bool
   pub mode_is : request.mode ≡ mode_of whole
@@ -25,7 +25,7 @@ IsMakeLine arguments seed count = IsCommandLine arguments (Make seed count)
 abbrev pub IsServeLine : List (List ℕ) → PlainService → Type 0
 IsServeLine arguments service = IsCommandLine arguments (Serve service)
 
--- the arguments ask for clients to be served
+-- the arguments request a server
 abbrev pub AskToServe : List (List ℕ) → Type 0
 AskToServe arguments = (service : PlainService) × IsServeLine arguments service
 

@@ -1,4 +1,4 @@
--- What stands when the program ended, by the command that it ran and how that ended.
+-- What holds when the program has ended, by the command that it ran and how that ended.
 use Rattle.std.specs.Prelude.{◌≡◌, ◌≢◌, ◌⊎◌, ℕ, List, Option, codes}
 use Rattle.flow_edges.specs.Flow.{written_with}
 use Rattle.pattern_types.specs.declared.pattern.Pattern.{Pattern}
@@ -36,14 +36,14 @@ use Rattle.command_make.specs.MakeEndings.{IsTextOfLog, EndsMake, make_status, I
 abbrev pub IsNoCommand : List (List ℕ) → Type 0
 IsNoCommand arguments = (request : PlainRequest) → ¬ IsCommandLine arguments request
 
--- what stands environment at one moment of a run: what is left of the input, and was when its last read began, and the places around
--- a server, among them the output
+-- the environment at one moment of a run: what is left of the input, and was when its last read
+-- began, and the environment of the server, with the output
 pub record Environment (L : Type 0) : Type 0 where
   pub left : Option (List ℕ)
   pub began : Option (List ℕ)
   pub places : Places L
 
--- the same, from what each object tells
+-- the environment, from its observable parts
 abbrev pub environment : {L : Type 0} → Option (List ℕ) → Option (List ℕ) → Option (List ℕ) → Option (DoorState L) → Kept → (ℕ → Option ℕ) → ℕ → Environment L
 environment left began written door kept moments faults = record {
   left = left;
@@ -88,7 +88,7 @@ pub record RunsServe {L : Type 0} (view : L → LinkView) (arguments : List (Lis
   pub serve_ends : EndsServe view service before.places after.places ending
   pub unread : after.left ≡ before.left
 
--- what an ending says of the arguments and of what is environment
+-- what an ending implies for the arguments and the environment
 abbrev pub EndsRun : {L : Type 0} → (L → LinkView) → List (List ℕ) → Environment L → Environment L → Ending → Type 0
 EndsRun view arguments before after (Match ending) = RunsMatch arguments (streams_of before) (streams_of after) ending
 EndsRun view arguments before after (Check ending) = RunsCheck arguments (streams_of before) (streams_of after) ending
@@ -133,14 +133,15 @@ pub record RefusesShow (arguments : List (List ℕ)) : Type 0 where
 abbrev pub RefusesPattern : List (List ℕ) → Type 0
 RefusesPattern arguments = RefusesMatch arguments ⊎ RefusesShow arguments
 
--- the statuses 2 and 3 tell that the arguments are no command line, and that their pattern is refused; only want of memory comes instead
+-- status 2 means that the arguments are no command line, and 3 that the pattern is refused; only
+-- out of memory may replace them
 pub record TellsRefusals (arguments : List (List ℕ)) (status : ℕ) : Type 0 where
   pub usage : status ≡ 2 → IsNoCommand arguments
   pub no_line : IsNoCommand arguments → (status ≡ 2) ⊎ (status ≡ 1)
   pub pattern : status ≡ 3 → RefusesPattern arguments
   pub refused : RefusesPattern arguments → (status ≡ 3) ⊎ (status ≡ 1)
 
--- the program ended in one of its ways, with that status and that reason
+-- the program ended with one of the endings, with its exit status and its message
 pub record Ends {L : Type 0} (view : L → LinkView) (arguments : List (List ℕ)) (before after : Environment L) (status : ℕ) (Writes : List ℕ → Type 0) : Type 0 where
   pub ending : Ending
   pub status_is : status ≡ status_of ending
@@ -150,8 +151,8 @@ pub record Ends {L : Type 0} (view : L → LinkView) (arguments : List (List ℕ
   pub reason : Writes text
   pub refusals : TellsRefusals arguments status
 
--- the text is read as a pattern, the whole input as bundles, and these make a log for it: all bindings of the pattern over
--- that log are written, and nothing else
+-- the text is read as a pattern, the whole input as bundles, and these make a log for it: all
+-- bindings of the pattern over that log are written, and nothing else
 pub record ListsBindings (request : MatchTask) (before after : Streams) : Type 0 where
   pub pattern : Pattern
   pub read : IsReadAs request.pattern pattern
@@ -167,11 +168,11 @@ pub record ListsBindings (request : MatchTask) (before after : Streams) : Type 0
 abbrev pub TellsNumbers : ℕ → ℕ → Streams → Streams → Type 0
 TellsNumbers seed count before after = (text : List ℕ) × IsTextOfLog seed count text × (after.written ≡ written_with text before.written)
 
--- what was asked for was done: a `match` wrote the listing, a `make` the numbers
+-- what was requested was done: a `match` wrote the listing, a `make` the numbers
 pub record IsDone (arguments : List (List ℕ)) (before after : Streams) : Type 0 where
   pub listing : (task : MatchTask) → IsMatchLine arguments task → ListsBindings task before after
   pub numbers : (seed count : ℕ) → IsMakeLine arguments seed count → TellsNumbers seed count before after
 
--- a run with that status served no client
+-- a run with this status served no client
 abbrev pub ServesNone : ℕ → Type 0
 ServesNone status = (status ≢ 0) × (status ≢ 6) × (status ≢ 8)

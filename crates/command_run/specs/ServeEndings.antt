@@ -1,4 +1,5 @@
--- What an ending of `serve` says of the clients and of what is environment; its status, and its reason as a text.
+-- What an ending of `serve` implies for the clients and the environment; its exit status, and its
+-- message.
 use Rattle.std.specs.Prelude.{◌≡◌, ◌⊎◌, ⊤, ℕ, List, [], ◌++◌, Option, IfSome, codes, decimal}
 use Rattle.flow_edges.specs.Flow.{written_with, WritesPart}
 use Rattle.flow_links.specs.Doors.{Stays}
@@ -20,12 +21,12 @@ use Rattle.command_run.specs.Services.{Places, Serves}
 abbrev pub summary_text : Served → List ℕ
 summary_text served = codes "connections " ++ (decimal served.connections ++ (codes " requests " ++ (decimal served.requests ++ codes "\n")))
 
--- clients were served at the port, as many as were asked for or as come
+-- clients were served at the port, as many as requested or as arrived
 abbrev pub ServesAll : {L : Type 0} → (L → LinkView) → PlainService → Places L → Places L → Served → Type 0
 ServesAll {L} view service before after served = (clients : List (Client L)) × Serves view service before after clients
     × PassThrough service.port clients before.door after.door × IsWholeOf service.connections clients after.door served
 
--- clients were served at the port until the door failed, which it may do before it listens
+-- clients were served at the port until the door failed, which may happen before it listens
 abbrev pub ServesSome : {L : Type 0} → (L → LinkView) → PlainService → Places L → Places L → Type 0
 ServesSome {L} view service before after = (clients : List (Client L)) × Serves view service before after clients
     × (PassThrough service.port clients before.door after.door ⊎ ((clients ≡ []) × Stays before.door after.door))
@@ -76,7 +77,7 @@ serve_reason DoorFault = codes "door fault\n"
 serve_reason (StoreFault cause) = store_fault_reason (text_of cause)
 serve_reason (BadRow date) = bad_row_reason date
 
--- what a refusal to load the rows is to a service, where the keeper failed for that cause if it did
+-- the ending for rows that cannot be loaded; `cause` is that of the keeper's last fault
 abbrev pub load_ending : FaultCause → LoadRefusal → ServeEnding
 load_ending cause refused.KeeperFault = StoreFault cause
 load_ending cause (refused.BadRow after) = BadRow after

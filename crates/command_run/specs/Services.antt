@@ -1,4 +1,4 @@
--- What a server is that a command line asks for, and how clients are served by it.
+-- The server that a command line requests, and how it serves clients.
 use Rattle.std.specs.Prelude.{◌≡◌, ◌≤◌, ℕ, List, [], length, map, Option, Some, None, option_map, IfSome}
 use Rattle.flow_links.specs.Doors.{DoorState}
 use Rattle.taxii_rows.specs.StoreState.{StoreState}
@@ -17,37 +17,39 @@ use Rattle.taxii_server.specs.Connections.{Pass}
 use Rattle.taxii_server.specs.Serving.{Client, exchanges_of, HaveConnections}
 use Rattle.command_line.specs.CommandLines.{PlainCollection, PlainService}
 
--- what the server says of a collection that is asked for
+-- the description of a requested collection
 abbrev pub info_of : PlainCollection → CollectionInfo
 info_of asked = record { id = asked.id; title = asked.title; can_read = asked.can_read; can_write = asked.can_write }
 
--- the server serves what is asked for
+-- the server serves what is requested
 pub record IsConfigOf (service : PlainService) (config : Config) : Type 0 where
   pub base : config.base ≡ service.base
   pub collections : config.collections ≡ map info_of service.collections
 
--- the name under which a store is opened: nothing, where it is in memory
+-- the name under which a store is opened; empty if it is in memory
 abbrev pub store_name : Option (List ℕ) → List ℕ
 store_name None = []
 store_name (Some file) = file
 
--- the server that is asked for, as it begins: with the rows that the keeper has under the name of its store, and no statuses
+-- the server that is requested, as it begins: with the rows that the keeper has under the name of
+-- its store, and no statuses
 pub record Begins (service : PlainService) (kept : Kept) (server : Server) : Type 0 where
   pub config_is : IsConfigOf service server.config
   pub loaded : IsLoaded (store_name service.store) kept server.state.library
   pub statuses : server.state.statuses ≡ no_statuses
 
--- what stands around a server at one moment: its door, what contracts see of the keeper, what is written on the output, and the clock and
--- the keeper's count of faults
+-- the environment of a server at one moment: its door, the keeper's observable state, the output,
+-- and the clock with the keeper's count of faults
 pub record Places (L : Type 0) : Type 0 where
   pub door : Option (DoorState L)
   pub kept : Kept
   pub written : Option (List ℕ)
   pub around : Environment
 
--- these clients were served: the server that is asked for began with the keeper's rows and no statuses; each client had its connection, from
--- what the one before left, and no more were served than asked for; where the keeper told its rows, it tells those of the last state; and no
--- walk among the requests skips a row
+-- these clients were served. The server began with the keeper's rows and no statuses. Each client
+-- had its connection, from the state that the one before left, and no more were served than
+-- requested. If the keeper's rows are observable, they are those of the last state. No walk among
+-- the requests skips a row
 pub record Serves {L : Type 0} (view : L → LinkView) (service : PlainService) (before after : Places L) (clients : List (Client L)) : Type 0 where
   pub config : Config
   pub config_is : IsConfigOf service config

@@ -10,7 +10,7 @@ use command_show::ShowEnding;
 use flow_edges::{Sink, write_whole};
 use flow_values::Fault;
 
-/// How the program ends: how its command did, or that the arguments are none.
+/// How the program ends: the end of its command, or that the arguments are no command line.
 #[derive(Debug, Drop)]
 pub enum Ending {
     Match(MatchEnding),
@@ -20,7 +20,7 @@ pub enum Ending {
     Serve(ServeEnding),
     /// The arguments are no command line.
     Usage,
-    /// Memory ran out while the arguments were read.
+    /// Memory ran out while the arguments were parsed.
     NoMemory,
 }
 
@@ -28,7 +28,7 @@ impl Ending {
     ghost use Rattle.std.specs.Prelude.{◌≡◌, List, ℕ, IsErr};
     ghost use Rattle.command_run.specs.RunEndings.{status_of, IsReasonOf};
 
-    /// The status that the program ends with.
+    /// The program's exit status.
     pub fn status(&self) -> u8
         ensures { result ≡ status_of self.now }
     {
@@ -43,9 +43,10 @@ impl Ending {
         }
     }
 
-    /// Writes why the program ends so, in one line, or nothing where all was done. Takes no memory.
+    /// Writes why the program ends, in one line, or nothing after success. Allocates nothing.
     pub fn write_reason<S: Sink>(&self, reasons: &mut S) -> Result<(), Fault>
-        ensures text { (text : List ℕ) × IsReasonOf self.now text × WritesWhole text (S.written reasons.old) (S.written reasons.new) result }
+        ensures text { (text : List ℕ) × IsReasonOf self.now text
+            × WritesWhole text (S.written reasons.old) (S.written reasons.new) result }
         ensures causes { Counted (IsErr result) (S.faults reasons.old) (S.faults reasons.new) }
     {
         match self {

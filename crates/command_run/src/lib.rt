@@ -1,7 +1,11 @@
-//! The command `serve`: a TAXII 2.1 server over a store, behind a door, as a command line asks for it.
+//! The program `stix_command`: executes a command line. It matches STIX 2.1 patterns over observed
+//! data, validates bundles, and serves TAXII 2.1 over a store. [`run`] is what the program's `main`
+//! calls.
 //!
-//! What the arguments of `stix_command` ask for, done: patterns of STIX 2.1 matched against observed data, bundles checked, and a server of
-//! TAXII 2.1. `run` is the call that the program makes.
+//! ```text
+//! let status = run(alloc, &arguments, &mut stdin, &mut stdout, &mut stderr,
+//!     &mut door, &mut keeper, &mut clock);
+//! ```
 #![tactic(auto)]
 
 mod ending;

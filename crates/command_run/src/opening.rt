@@ -16,16 +16,19 @@ use taxii_server::Server;
 use taxii_service::State;
 use taxii_store::{Library, LoadRefusal};
 
-/// The server that is asked for, with the rows of the keeper. The keeper's rows and its watermark stay.
+/// Creates the requested server with the rows of the keeper. The keeper's rows and its watermark
+/// stay.
 pub(crate) fn open<K: Keeper>(
     alloc: Global,
     request: &ServeRequest<'_>,
     keeper: &mut K,
 ) -> Result<Server, LoadRefusal>
     ensures ok { IfOk result (Begins (plain_service request.now) (K.kept keeper.new)) }
-    ensures bad { IfErr result (λ refusal. (after : ℕ) → refusal ≡ Refused.BadRow after → IfSome (K.kept keeper.old).observable (λ state. IsBadAfter state after)) }
+    ensures bad { IfErr result (λ refusal. (after : ℕ) → refusal ≡ Refused.BadRow after
+        → IfSome (K.kept keeper.old).observable (λ state. IsBadAfter state after)) }
     ensures observable { (K.kept keeper.new).observable ≡ (K.kept keeper.old).observable }
-    ensures causes { Counted (result ≡ Err Refused.KeeperFault) (K.faults keeper.old) (K.faults keeper.new) }
+    ensures causes { Counted (result ≡ Err Refused.KeeperFault) (K.faults keeper.old)
+        (K.faults keeper.new) }
 {
     let config = config_of(alloc, request)?;
     let statuses = Statuses::new(alloc)?;
@@ -34,14 +37,14 @@ pub(crate) fn open<K: Keeper>(
     Ok(Server { config, state })
 }
 
-/// The name of the store: nothing, where it is in memory.
+/// The name of the store; empty if it is in memory.
 fn store_of<'a>(request: &ServeRequest<'a>) -> &'a str
     ensures { result.now ≡ store_name (plain_service request.now).store }
 {
     request.store.unwrap_or("")
 }
 
-/// What the server is to serve.
+/// The configuration of the server.
 fn config_of(alloc: Global, request: &ServeRequest<'_>) -> Result<Config, NoMemory>
     ensures { IfOk result (IsConfigOf (plain_service request.now)) }
 {
@@ -56,7 +59,7 @@ fn config_of(alloc: Global, request: &ServeRequest<'_>) -> Result<Config, NoMemo
     })
 }
 
-/// The URL that the server has.
+/// The base URL of the server, if any.
 fn base_of(alloc: Global, request: &ServeRequest<'_>) -> Result<Option<Text>, NoMemory>
     ensures { IfOk result (λ base. base ≡ (plain_service request.now).base) }
 {

@@ -20,7 +20,7 @@ use flow_links::{Clock, Door};
 use std::alloc::Global;
 use taxii_rows::Keeper;
 
-/// Does what the arguments ask for.
+/// Executes the command line.
 fn execute<I: Source, O: Sink, D: Door, K: Keeper, C: Clock>(
     alloc: Global,
     arguments: &[String],
@@ -30,17 +30,28 @@ fn execute<I: Source, O: Sink, D: Door, K: Keeper, C: Clock>(
     keeper: &mut K,
     clock: &mut C,
 ) -> Ending
-    ensures end { EndsRun (link_view D.Link.left D.Link.began D.Link.written D.Link.Source.faults D.Link.Sink.faults) (texts arguments.now)
-        (environment (I.left input.old) (I.began input.old) (O.written output.old) (D.observable door.old) (K.kept keeper.old) (C.moments clock.old) (K.faults keeper.old))
-        (environment (I.left input.new) (I.began input.new) (O.written output.new) (D.observable door.new) (K.kept keeper.new) (C.moments clock.new) (K.faults keeper.new)) result }
-    ensures untouched { (status_of result ≡ 2) ⊎ (status_of result ≡ 3) → (input.new ≡ input.old) × (output.new ≡ output.old) }
+    ensures end { EndsRun
+        (link_view D.Link.left D.Link.began D.Link.written D.Link.Source.faults D.Link.Sink.faults)
+        (texts arguments.now)
+        (environment (I.left input.old) (I.began input.old) (O.written output.old)
+        (D.observable door.old) (K.kept keeper.old) (C.moments clock.old) (K.faults keeper.old))
+        (environment (I.left input.new) (I.began input.new) (O.written output.new)
+        (D.observable door.new) (K.kept keeper.new) (C.moments clock.new)
+        (K.faults keeper.new)) result }
+    ensures untouched { (status_of result ≡ 2) ⊎ (status_of result ≡ 3)
+        → (input.new ≡ input.old) × (output.new ≡ output.old) }
     ensures unasked { (AskForNoInput (texts arguments.now) → input.new ≡ input.old)
-        × (¬ AskToServe (texts arguments.now) → (door.new ≡ door.old) × (clock.new ≡ clock.old) × (keeper.new ≡ keeper.old)) }
-    ensures unserved { ServesNone (status_of result) → (door.new ≡ door.old) × (clock.new ≡ clock.old) × ((K.kept keeper.new).observable ≡ (K.kept keeper.old).observable) }
+        × (¬ AskToServe (texts arguments.now)
+        → (door.new ≡ door.old) × (clock.new ≡ clock.old) × (keeper.new ≡ keeper.old)) }
+    // with these statuses no client was served, so door, clock and stored rows are untouched
+    ensures unserved { ServesNone (status_of result)
+        → (door.new ≡ door.old) × (clock.new ≡ clock.old)
+        × ((K.kept keeper.new).observable ≡ (K.kept keeper.old).observable) }
     ensures input { Counted (status_of result ≡ 5) (I.faults input.old) (I.faults input.new) }
     ensures output { Counted (status_of result ≡ 6) (O.faults output.old) (O.faults output.new) }
     ensures door { Counted (status_of result ≡ 8) (D.faults door.old) (D.faults door.new) }
-    ensures keeper { ServesNone (status_of result) → Counted (status_of result ≡ 9) (K.faults keeper.old) (K.faults keeper.new) }
+    ensures keeper { ServesNone (status_of result)
+        → Counted (status_of result ≡ 9) (K.faults keeper.old) (K.faults keeper.new) }
 {
     one_request();
     match read_arguments(alloc, arguments) {
@@ -58,22 +69,22 @@ fn execute<I: Source, O: Sink, D: Door, K: Keeper, C: Clock>(
     }
 }
 
-/// The program: does what the arguments after its name ask for, and answers its status.
+/// Executes the arguments after the program's name, and returns the exit status.
 ///
-/// | Status | Comes |
+/// | Exit status | Condition |
 /// |---|---|
-/// | 0 | the input that is asked for was read to its end, and all output was written |
+/// | 0 | the input, if any, was read to its end, and all output was written |
 /// | 1 | memory ran out |
-/// | 2 | exactly where the arguments are no command line, unless memory runs out while they are read |
-/// | 3 | exactly where the pattern is refused |
-/// | 4 | where a line is refused, the first such one; and where a bundle that is checked has breaks |
-/// | 5, 6 | only where the input, the output counted a fault, and at each fault of theirs |
-/// | 7 | where more is live than the retained limit allows, at the first such observation |
-/// | 8 | only where the door counted a fault, and at each fault of its own |
-/// | 9 | only where the keeper counted a fault while its rows were read |
-/// | 10 | exactly where the keeper has a row that is bad, the first such one |
+/// | 2 | the arguments are no command line; out of memory may come first |
+/// | 3 | the pattern is refused; out of memory may come first |
+/// | 4 | the first refused line; or the checked bundle violates rules |
+/// | 5, 6 | if and only if the input, or the output, counted a fault |
+/// | 7 | at the first observation where the limit on retained partial matches is exceeded |
+/// | 8 | if and only if the door counted a fault |
+/// | 9 | only if the keeper counted a fault while its rows were loaded |
+/// | 10 | if and only if a row of the keeper is bad |
 ///
-/// On `reasons` the reason is told in one line. A failing write there changes nothing else.
+/// The reason is written to `reasons` in one line. A failing write there changes nothing else.
 pub fn run<I: Source, O: Sink, E: Sink, D: Door, K: Keeper, C: Clock>(
     alloc: Global,
     arguments: &[String],
@@ -84,30 +95,47 @@ pub fn run<I: Source, O: Sink, E: Sink, D: Door, K: Keeper, C: Clock>(
     keeper: &mut K,
     clock: &mut C,
 ) -> u8
-    ensures ends { Ends (link_view D.Link.left D.Link.began D.Link.written D.Link.Source.faults D.Link.Sink.faults) (texts arguments.now)
-        (environment (I.left input.old) (I.began input.old) (O.written output.old) (D.observable door.old) (K.kept keeper.old) (C.moments clock.old) (K.faults keeper.old))
-        (environment (I.left input.new) (I.began input.new) (O.written output.new) (D.observable door.new) (K.kept keeper.new) (C.moments clock.new) (K.faults keeper.new)) result
-        (λ reason. WritesReason reason (E.written reasons.old) (E.written reasons.new) (E.faults reasons.old) (E.faults reasons.new)) }
-    ensures done { result ≡ 0 → IsDone (texts arguments.now) (streams (I.left input.old) (I.began input.old) (O.written output.old))
+    ensures ends { Ends
+        (link_view D.Link.left D.Link.began D.Link.written D.Link.Source.faults D.Link.Sink.faults)
+        (texts arguments.now)
+        (environment (I.left input.old) (I.began input.old) (O.written output.old)
+        (D.observable door.old) (K.kept keeper.old) (C.moments clock.old) (K.faults keeper.old))
+        (environment (I.left input.new) (I.began input.new) (O.written output.new)
+        (D.observable door.new) (K.kept keeper.new) (C.moments clock.new)
+        (K.faults keeper.new)) result
+        (λ reason. WritesReason reason (E.written reasons.old) (E.written reasons.new)
+        (E.faults reasons.old) (E.faults reasons.new)) }
+    ensures done { result ≡ 0
+        → IsDone (texts arguments.now)
+        (streams (I.left input.old) (I.began input.old) (O.written output.old))
         (streams (I.left input.new) (I.began input.new) (O.written output.new)) }
-    ensures untouched { (result ≡ 2) ⊎ (result ≡ 3) → (input.new ≡ input.old) × (output.new ≡ output.old) }
+    ensures untouched { (result ≡ 2) ⊎ (result ≡ 3)
+        → (input.new ≡ input.old) × (output.new ≡ output.old) }
+    // commands without input leave it untouched
     ensures unread { AskForNoInput (texts arguments.now) → input.new ≡ input.old }
-    ensures unserved { ServesNone result → (door.new ≡ door.old) × (clock.new ≡ clock.old) × ((K.kept keeper.new).observable ≡ (K.kept keeper.old).observable) }
-    ensures others { ¬ AskToServe (texts arguments.now) → (door.new ≡ door.old) × (clock.new ≡ clock.old) × (keeper.new ≡ keeper.old) }
+    ensures unserved { ServesNone result
+        → (door.new ≡ door.old) × (clock.new ≡ clock.old)
+        × ((K.kept keeper.new).observable ≡ (K.kept keeper.old).observable) }
+    // only `serve` uses the door, the clock and the keeper
+    ensures others { ¬ AskToServe (texts arguments.now)
+        → (door.new ≡ door.old) × (clock.new ≡ clock.old) × (keeper.new ≡ keeper.old) }
     ensures input { Counted (result ≡ 5) (I.faults input.old) (I.faults input.new) }
     ensures output { Counted (result ≡ 6) (O.faults output.old) (O.faults output.new) }
     ensures door { Counted (result ≡ 8) (D.faults door.old) (D.faults door.new) }
-    ensures keeper { ServesNone result → Counted (result ≡ 9) (K.faults keeper.old) (K.faults keeper.new) }
+    ensures keeper { ServesNone result
+        → Counted (result ≡ 9) (K.faults keeper.old) (K.faults keeper.new) }
 {
     one_request();
     let ending = execute(alloc, arguments, input, output, door, keeper, clock);
     finish(&ending, reasons)
 }
 
-/// Tells why the program ends so, and answers its status.
+/// Writes why the program ends, and returns its exit status.
 fn finish<E: Sink>(ending: &Ending, reasons: &mut E) -> u8
     ensures status { result ≡ status_of ending.now }
-    ensures reason { (text : List ℕ) × IsReasonOf ending.now text × WritesReason text (E.written reasons.old) (E.written reasons.new) (E.faults reasons.old) (E.faults reasons.new) }
+    ensures reason { (text : List ℕ) × IsReasonOf ending.now text
+        × WritesReason text (E.written reasons.old) (E.written reasons.new) (E.faults reasons.old)
+        (E.faults reasons.new) }
 {
     let _ = ending.write_reason(reasons);
     ending.status()

@@ -10,19 +10,19 @@ use taxii_store::LoadRefusal;
 /// How a `serve` ends.
 #[derive(Clone, Copy, Debug, PartialEq, Eq)]
 pub enum ServeEnding {
-    /// Clients were served, and what was done was written.
+    /// Clients were served, and writing the summary failed.
     Done(Served),
     /// Memory ran out before the door was opened.
     NoMemory,
-    /// Clients were served, and the output failed.
+    /// Clients were served, and writing the summary failed.
     WriteFault,
     /// The door failed. The clients before that were served.
     DoorFault,
-    /// The store failed while it was read, before the door was opened, and why.
+    /// The store failed while it was read, before the door was opened.
     StoreFault(FaultCause),
-    /// The row behind this date is bad, or the watermark behind the last row.
+    /// The row after this date is bad, or the watermark after the last row.
     BadRow {
-        /// In microseconds since 1970; 0 where it is the first row.
+        /// In microseconds since 1970; 0 for the first row.
         after: u64,
     },
 }
@@ -32,7 +32,7 @@ impl ServeEnding {
     ghost use Rattle.flow_edges.specs.Flow.{WritesWhole};
     ghost use Rattle.command_run.specs.ServeEndings.{serve_status, serve_reason, load_ending};
 
-    /// The status of the program.
+    /// The program's exit status.
     pub fn status(self) -> u8
         ensures { result ≡ serve_status self }
     {
@@ -46,9 +46,10 @@ impl ServeEnding {
         }
     }
 
-    /// Writes why it ends so. Takes no memory.
+    /// Writes why the command ends. Allocates nothing.
     pub fn write_reason<S: Sink>(self, reasons: &mut S) -> Result<(), Fault>
-        ensures text { WritesWhole (serve_reason self) (S.written reasons.old) (S.written reasons.new) result }
+        ensures text { WritesWhole (serve_reason self) (S.written reasons.old)
+            (S.written reasons.new) result }
         ensures causes { Counted (IsErr result) (S.faults reasons.old) (S.faults reasons.new) }
     {
         match self {
@@ -61,7 +62,8 @@ impl ServeEnding {
         }
     }
 
-    /// How a `serve` ends whose rows can't be loaded, where the keeper failed for that cause if it did.
+    /// The end of a `serve` whose rows cannot be loaded; `cause` is that of the keeper's last
+    /// fault.
     pub(crate) fn of_refusal(refusal: LoadRefusal, cause: FaultCause) -> ServeEnding
         ensures { result ≡ load_ending cause refusal }
     {

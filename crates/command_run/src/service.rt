@@ -17,8 +17,8 @@ use taxii_server::laws::clients_make_history;
 use taxii_server::{Served, serve_door};
 use taxii_service::history_laws::walks_among_requests_skip_no_row;
 
-/// Reads the keeper's rows, serves the clients of the door, one after the other, and writes at the end
-/// how many there were, and how many requests.
+/// Loads the keeper's rows, serves the clients of the door one after the other, and finally writes
+/// how many connections and requests there were.
 pub fn serve<O: Sink, D: Door, K: Keeper, C: Clock>(
     alloc: Global,
     request: &ServeRequest<'_>,
@@ -27,16 +27,32 @@ pub fn serve<O: Sink, D: Door, K: Keeper, C: Clock>(
     keeper: &mut K,
     clock: &mut C,
 ) -> ServeEnding
-    ensures ends { EndsServe (link_view D.Link.left D.Link.began D.Link.written D.Link.Source.faults D.Link.Sink.faults)
+    ensures ends { EndsServe
+        (link_view D.Link.left D.Link.began D.Link.written D.Link.Source.faults D.Link.Sink.faults)
         (plain_service request.now)
-        (record { door = D.observable door.old; kept = K.kept keeper.old; written = O.written output.old; around = record { moments = C.moments clock.old; faults = K.faults keeper.old } })
-        (record { door = D.observable door.new; kept = K.kept keeper.new; written = O.written output.new; around = record { moments = C.moments clock.new; faults = K.faults keeper.new } })
+        (record {
+          door = D.observable door.old;
+          kept = K.kept keeper.old;
+          written = O.written output.old;
+          around = record { moments = C.moments clock.old; faults = K.faults keeper.old };
+        })
+        (record {
+          door = D.observable door.new;
+          kept = K.kept keeper.new;
+          written = O.written output.new;
+          around = record { moments = C.moments clock.new; faults = K.faults keeper.new };
+        })
         result }
-    ensures early { IsEarly result → (door.new ≡ door.old) × (clock.new ≡ clock.old) × (output.new ≡ output.old) }
-    ensures door { Counted (result ≡ ServeEnding.DoorFault) (D.faults door.old) (D.faults door.new) }
-    ensures keeper { IsEarly result → Counted (IsStoreFault result) (K.faults keeper.old) (K.faults keeper.new) }
-    ensures cause { (cause : Cause) → result ≡ ServeEnding.StoreFault cause → cause ≡ K.last_cause keeper.new }
-    ensures output { Counted (result ≡ ServeEnding.WriteFault) (O.faults output.old) (O.faults output.new) }
+    ensures early { IsEarly result
+        → (door.new ≡ door.old) × (clock.new ≡ clock.old) × (output.new ≡ output.old) }
+    ensures door { Counted (result ≡ ServeEnding.DoorFault) (D.faults door.old)
+        (D.faults door.new) }
+    ensures keeper { IsEarly result
+        → Counted (IsStoreFault result) (K.faults keeper.old) (K.faults keeper.new) }
+    ensures cause { (cause : Cause) → result ≡ ServeEnding.StoreFault cause
+        → cause ≡ K.last_cause keeper.new }
+    ensures output { Counted (result ≡ ServeEnding.WriteFault) (O.faults output.old)
+        (O.faults output.new) }
 {
     walks_among_requests_skip_no_row();
     clients_make_history::<D>();
@@ -51,10 +67,11 @@ pub fn serve<O: Sink, D: Door, K: Keeper, C: Clock>(
     }
 }
 
-/// Writes what was done.
+/// Writes the summary.
 fn conclude<O: Sink>(served: Served, output: &mut O) -> ServeEnding
     ensures concludes { Concludes served (O.written output.old) (O.written output.new) result }
-    ensures output { Counted (result ≡ ServeEnding.WriteFault) (O.faults output.old) (O.faults output.new) }
+    ensures output { Counted (result ≡ ServeEnding.WriteFault) (O.faults output.old)
+        (O.faults output.new) }
 {
     match write_summary(served, output) {
         Ok(()) => ServeEnding::Done(served),

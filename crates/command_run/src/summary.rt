@@ -10,8 +10,10 @@ use taxii_server::Served;
 
 /// Writes what a server did, as `connections 2 requests 5` and a line feed.
 pub(crate) fn write_summary<O: Sink>(served: Served, output: &mut O) -> Result<(), Fault>
-    ensures text { WritesWhole (summary_text served) (O.written output.old) (O.written output.new) result }
-    ensures part { OnErr result (WritesPart (summary_text served) (O.written output.old) (O.written output.new)) }
+    ensures text { WritesWhole (summary_text served) (O.written output.old)
+        (O.written output.new) result }
+    ensures part { OnErr result
+        (WritesPart (summary_text served) (O.written output.old) (O.written output.new)) }
     ensures causes { Counted (IsErr result) (O.faults output.old) (O.faults output.new) }
 {
     let mut buffer = Buffer::new();
@@ -21,10 +23,16 @@ pub(crate) fn write_summary<O: Sink>(served: Served, output: &mut O) -> Result<(
     write_counts(connections, requests, output)
 }
 
-/// The same, of the texts of both counts.
+/// Writes the summary with the formatted counts.
 fn write_counts<O: Sink>(connections: &str, requests: &str, output: &mut O) -> Result<(), Fault>
-    ensures text { WritesWhole (codes "connections " ++ (connections.now ++ (codes " requests " ++ (requests.now ++ codes "\n")))) (O.written output.old) (O.written output.new) result }
-    ensures part { OnErr result (WritesPart (codes "connections " ++ (connections.now ++ (codes " requests " ++ (requests.now ++ codes "\n")))) (O.written output.old) (O.written output.new)) }
+    ensures text { WritesWhole
+        (codes "connections "
+        ++ (connections.now ++ (codes " requests " ++ (requests.now ++ codes "\n"))))
+        (O.written output.old) (O.written output.new) result }
+    ensures part { OnErr result
+        (WritesPart (codes "connections "
+        ++ (connections.now ++ (codes " requests " ++ (requests.now ++ codes "\n"))))
+        (O.written output.old) (O.written output.new)) }
     ensures causes { Counted (IsErr result) (O.faults output.old) (O.faults output.new) }
 {
     write_all_vectored(

@@ -1,4 +1,5 @@
--- What an ending of `show` says of its pattern and of what was written; its status, and its reason as a text.
+-- What an ending of `show` says of its pattern and of what was written; its status, and its reason
+-- as a text.
 use Rattle.std.specs.Prelude.{◌≡◌, ℕ, List, [], ◌++◌, codes}
 use Rattle.flow_edges.specs.Flow.{written_with, WritesPrefix}
 use Rattle.pattern_types.specs.declared.pattern.Pattern.{Pattern}

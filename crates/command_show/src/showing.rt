@@ -30,7 +30,7 @@ pub enum ShowEnding {
 impl ShowEnding {
     ghost use Rattle.command_show.specs.ShowEndings.{IsShowReason};
 
-    /// The status of the program.
+    /// The program's exit status.
     pub fn status(&self) -> u8
         ensures { result ≡ show_status self.now }
     {
@@ -42,9 +42,10 @@ impl ShowEnding {
         }
     }
 
-    /// Writes why it ends so. Takes no memory.
+    /// Writes why the command ends. Allocates nothing.
     pub fn write_reason<S: Sink>(&self, reasons: &mut S) -> Result<(), Fault>
-        ensures text { (text : List ℕ) × IsShowReason self.now text × WritesWhole text (S.written reasons.old) (S.written reasons.new) result }
+        ensures text { (text : List ℕ) × IsShowReason self.now text
+            × WritesWhole text (S.written reasons.old) (S.written reasons.new) result }
         ensures causes { Counted (IsErr result) (S.faults reasons.old) (S.faults reasons.new) }
     {
         match self {
@@ -58,7 +59,8 @@ impl ShowEnding {
 
 /// The command `show`: writes the canonical text of a pattern and a line feed.
 pub fn show<O: Sink>(alloc: Global, pattern: &str, output: &mut O) -> ShowEnding
-    ensures end { (left began : Option (List ℕ)) → EndsShow pattern.now (streams left began (O.written output.old))
+    ensures end { (left began : Option (List ℕ))
+        → EndsShow pattern.now (streams left began (O.written output.old))
         (streams left began (O.written output.new)) result }
     ensures untouched { show_status result ≡ 3 → output.new ≡ output.old }
     ensures output { Counted (show_status result ≡ 6) (O.faults output.old) (O.faults output.new) }
@@ -77,7 +79,8 @@ pub fn show<O: Sink>(alloc: Global, pattern: &str, output: &mut O) -> ShowEnding
 /// The canonical text of a pattern and a line feed.
 fn canonical_line(alloc: Global, pattern: &str) -> Result<Text, PatternRefusal>
     ensures ok { IfOk result (IsLineOf pattern.now) }
-    ensures err { IfErr result (λ refusal. refusal ≢ PatternRefusal.NoMemory → IsRefusedPattern pattern.now refusal) }
+    ensures err { IfErr result (λ refusal. refusal ≢ PatternRefusal.NoMemory
+        → IsRefusedPattern pattern.now refusal) }
 {
     none_refused();
     match read_pattern(alloc, pattern) {
@@ -90,7 +93,7 @@ fn canonical_line(alloc: Global, pattern: &str) -> Result<Text, PatternRefusal>
     }
 }
 
-/// The line of a pattern that was read.
+/// The line of a parsed pattern.
 fn line_of(alloc: Global, pattern: &Pattern) -> Result<Text, PatternRefusal>
     ensures ok { IfOk result (IsLineOfPattern pattern.now) }
     ensures err { IfErr result (λ refusal. refusal ≡ PatternRefusal.NoMemory) }

@@ -1,7 +1,8 @@
--- What stands on the input and on the output at one moment of a run, where that is told.
+-- The state of the standard input and output at one moment of a run, as far as it is observable.
 use Rattle.std.specs.Prelude.{◌≡◌, ℕ, List, Option}
 
--- the bytes that are left in the input, those that were left when its last read began, and those that are written on the output
+-- the bytes left in the input, the bytes left when its last read began, and the bytes written to
+-- the output
 pub record Streams : Type 0 where
   pub left : Option (List ℕ)
   pub began : Option (List ℕ)

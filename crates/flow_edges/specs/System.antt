@@ -1,12 +1,12 @@
--- The system's readers and writers: what contracts see of their adapters.
+-- Adapters of the operating system's readers and writers: their values in contracts.
 use Rattle.std.specs.Prelude.{ℕ, List, Option}
 
--- the bytes that the reader has left, where it tells them, and the count of faults
+-- the bytes left in the reader, if they are observable, and the count of faults
 pub record ReaderState : Type 0 where
   pub remaining : Option (List ℕ)
   pub faults : ℕ
 
--- the bytes that the writer holds, where it tells them, and the count of faults
+-- the contents of the writer, if they are observable, and the count of faults
 pub record WriterState : Type 0 where
   pub contents : Option (List ℕ)
   pub faults : ℕ

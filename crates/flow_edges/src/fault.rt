@@ -3,7 +3,7 @@ ghost use Rattle.flow_edges.specs.Faults.{counted};
 
 use flow_values::Fault;
 
-/// A fault of an object of the outside, counted by one more in its count.
+/// Adds one to an object's count of faults, up to 2^64 - 1, and returns the `Fault`.
 pub fn counted_fault(faults: &mut u64) -> Fault
     ensures counted { faults.new ≡ counted faults.old }
     ensures later { faults.old ≤ faults.new }

@@ -1,13 +1,18 @@
-//! The edge of the world: where bytes come from and where they go.
+//! The I/O boundary for bytes: `Source` is a reader, `Sink` a writer, and `Files` opens files by
+//! name. `ReadSource`, `WriteSink` and `SystemFiles` implement them for the operating system.
 //!
-//! `Source` and `Sink` have a ghost meaning (what is left, what is written, where the object tells)
-//! and a count of faults, so that code over them can be proved, and can't claim a fault that the
-//! object didn't count.
+//! Each trait has ghost members: the bytes left to read, the bytes written, and the number of
+//! failed calls. So code over the traits can be proved, and its contract cannot report an I/O error
+//! that the object didn't count. What the operating system holds is not observable: those members
+//! are `None`, and a `None` promises nothing.
 //!
-//! The edge of the world for files: who opens them by name and reads them.
-//!
-//! `Files` is a source of the bytes of the file that was opened last, and counts the faults of both,
-//! opening and reading. Those of the system tell nothing of what files hold.
+//! ```ignore
+//! let mut source = ReadSource::new(stdin);
+//! let mut sink = WriteSink::new(stdout);
+//! let mut buffer = [0u8; 4096];
+//! let count = source.read(&mut buffer)?;
+//! write_whole(&mut sink, &buffer[..count])?;
+//! ```
 #![tactic(auto)]
 
 mod fault;

@@ -5,28 +5,28 @@ ghost use Rattle.flow_edges.specs.Flow.{left_after, IsNextOf, IsAtEnd, SinkSide,
 
 use flow_values::Fault;
 
-/// The most bytes that a read asks for.
+/// The greatest length of the buffer of a read.
 pub const MAX_READ: usize = 65_536;
 
-/// Where bytes come from: a file, a terminal, or bytes in memory.
+/// Where bytes are read: a file, a terminal, or memory.
 pub trait Source {
-    /// The bytes that are left, where the source tells them.
+    /// The bytes left to read, if they are observable.
     ghost left: { Self → Option (List ℕ) };
 
-    /// How many calls failed.
+    /// The number of calls that failed.
     ghost faults: { Self → ℕ };
 
-    /// The bytes that were left when the last read began, where the source tells them. By these a contract sees how
-    /// much had been read when something else was done: a write, say.
+    /// The bytes that were left when the last read began, if they are observable. A contract can
+    /// say by these how much of the input had been read when a write took place.
     ghost began: { Self → Option (List ℕ) } = { λ _. None };
 
-    /// What it is as a sink, where it is one as well.
+    /// The state of the same object as a `Sink`, if it is one too.
     ghost other: { Self → SinkSide } = { λ _. no_sink };
 
-    /// Takes the next bytes into the front of the buffer, which isn't empty, and answers how many: 0
-    /// only at the end of the bytes. A `Fault` has taken none, and is counted; no other call is.
+    /// Reads the next bytes into the front of `buffer` and returns how many: 0 only at the end of
+    /// the input. A `Fault` means that nothing was read; it is counted, and only a failed call is.
     ///
-    /// Each caller asks for a byte at least, and for 65,536 at most.
+    /// The buffer has 1 to 65,536 bytes.
     fn read(&mut self, buffer: &mut [u8]) -> Result<usize, Fault>
         requires room { 0 < length buffer.now }
         requires asks { length buffer.now ≤ MAX_READ }
@@ -37,5 +37,6 @@ pub trait Source {
         ensures err { OnErr result (left self.new ≡ left self.old) }
         ensures began { IfSome (began self.new) (λ bytes. left self.old ≡ Some bytes) }
         ensures causes { Counted (IsErr result) (faults self.old) (faults self.new) }
+        // A read changes nothing that the object has written.
         ensures unwritten { other self.new ≡ other self.old };
 }

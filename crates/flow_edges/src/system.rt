@@ -1,4 +1,4 @@
-//! Readers and writers of the system as a source and a sink. They tell no content, and count each error.
+//! Adapters from `std::io::Read` and `std::io::Write` to `Source` and `Sink`.
 
 mod read_source;
 mod write_sink;

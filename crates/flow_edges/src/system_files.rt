@@ -6,12 +6,12 @@ use std::io::Read;
 use std::marker::Model;
 use std::{fs, rt};
 
-/// The files of the system, by their paths. They tell no content, and each error of a call is counted;
-/// contracts see the count.
+/// The files of the operating system, by path. Their contents are not observable. The value in
+/// contracts is the count of faults.
 #[derive(Drop)]
 pub struct SystemFiles<'r, R: rt::Files> {
     rt: &'r R,
-    /// The file that is open, if one is.
+    /// The open file, if any.
     file: Option<R::File>,
     faults: u64,
 }
@@ -25,7 +25,7 @@ impl<'r, R: rt::Files> Model for SystemFiles<'r, R> {
 }
 
 impl<'r, R: rt::Files> SystemFiles<'r, R> {
-    /// No file is open yet, and no call has failed.
+    /// No file is open, and no call has failed.
     pub fn new(rt: &'r R) -> SystemFiles<'r, R>
         ensures { result ≡ 0 }
     {
@@ -42,7 +42,8 @@ impl<'r, R: rt::Files> Source for SystemFiles<'r, R> {
 
     ghost faults = { λ files. files };
 
-    /// One read of the open file; an error is a `Fault`. Where none is open, there are no bytes.
+    /// Reads once from the open file. An I/O error is a `Fault`. With no file open, the input is
+    /// empty.
     fn read(&mut self, buffer: &mut [u8]) -> Result<usize, Fault> {
         let Some(file) = self.file.as_mut() else {
             return Ok(0);
@@ -57,7 +58,8 @@ impl<'r, R: rt::Files> Source for SystemFiles<'r, R> {
 impl<'r, R: rt::Files> Files for SystemFiles<'r, R> {
     ghost contents = { λ _ _. None };
 
-    /// Opens the file at this path to be read, and closes the one that was open; an error is a `Fault`.
+    /// Opens the file at this path for reading, and closes the previous one. An I/O error is a
+    /// `Fault`.
     fn open(&mut self, name: &str) -> Result<(), Fault> {
         match fs::open(self.rt, name) {
             Ok(file) => {

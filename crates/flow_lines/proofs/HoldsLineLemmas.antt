@@ -18,7 +18,7 @@ holds_line-feed bytes holds plain =
     ap (λ parts. list_any is_whole (raw_lines_of parts)) (slice_split_none is_line_feed bytes plain) ∙ last-unwhole bytes (length bytes == 0) in
     cc
 
--- where a blank line goes by, the whole line stands behind it
+-- where a blank line goes by, the whole line stands after it
 pub holds_line-later : (line read_buffer read_buffer_new bytes : List ℕ) (terminated : Bool) → NoLineFeed line → IsBuffered read_buffer read_buffer_new line terminated
     → bytes ≡ content (record { bytes = line; terminated = terminated }) → is_blank bytes ≡ true → HoldsLine read_buffer → HoldsLine read_buffer_new
 holds_line-later line read_buffer read_buffer_new bytes terminated plain held same blank holds =

@@ -7,12 +7,12 @@ use Rattle.flow_lines.specs.inner.Reading.{bytes_remaining, TakesToLineFeed, IsW
 use Rattle.flow_lines.proofs.RawLinesLemmas.{raw_lines-fed}
 use Rattle.flow_lines.proofs.AccountsForLemmas.{accounts-then, accounts-part-of}
 
--- what is told of the bytes that were left then
+-- what is known of the bytes that were left then
 pub each_told : (began : Option (List ℕ)) {P Q : List ℕ → Type 0} → ((bytes : List ℕ) → P bytes → Q bytes) → IfSome began P → IfSome began Q
 each_told None each told = tt
 each_told (Some bytes) each told = each bytes told
 
--- a read began behind a part of a line
+-- a read began after a part of a line
 pub within_line : (all left began : Option (List ℕ)) (line : List ℕ) → NoLineFeed line → all ≡ bytes_remaining line [] left
     → IfSome began (λ bytes. left ≡ Some bytes) → IfSome began (IsWithinLine all)
 within_line all left began line plain is told = each_told began (λ bytes here. (line, plain, is ∙ ap (bytes_remaining line []) here)) told
@@ -67,7 +67,7 @@ lacks_from before middle number left left_middle began accounts told = each_told
   accounts = λ start all from. lacks.accounts start all (accounts-then start before middle all left left_middle from accounts);
 }) told
 
--- of a read buffer that held a line, what is whole behind that line was whole in the read buffer
+-- of a read buffer that held a line, what is whole after that line was whole in the read buffer
 pub holds_behind : (line read_buffer read_buffer_new : List ℕ) (terminated : Bool) → NoLineFeed line → IsBuffered read_buffer read_buffer_new line terminated → HoldsLine read_buffer_new → HoldsLine read_buffer
 holds_behind line read_buffer read_buffer_new terminated plain held holds =
     ap (λ all. list_any is_whole (raw_lines all)) held.cut ∙ ap (list_any is_whole) (raw_lines-fed line read_buffer_new plain)
@@ -107,7 +107,7 @@ module _ {S : Type 0} (began : S → Option (List ℕ)) (first source next : S) 
   by_earlier same lacks = lacks_later start count count_new left (began next) (omega (arith, counts))
       (subst (λ (s : S). IfSome (began s) (LacksLine start count left)) (sym same) lacks)
 
-  -- behind a blank line
+  -- after a blank line
   pub still_in_time : IsInTime began first next held read_buffer_new start count_new left
   still_in_time = go (feed_or_none read_buffer) so_far
     where

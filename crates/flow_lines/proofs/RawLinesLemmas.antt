@@ -51,7 +51,7 @@ raw_lines-last line plain some =
 
 -- ---- refusals for length
 
--- a line that is too long stays so, however it goes on
+-- a line that is too long stays so, however it continues
 pub length_refusal-more : (number offset size more : ℕ) (terminated : Bool) (refusal : LineRefusal) → size ≤ more → length_refusal number offset size false ≡ Some refusal → length_refusal number offset more terminated ≡ Some refusal
 length_refusal-more number offset size more terminated refusal fewer is = grind (arith, nat_tests)
 
@@ -132,7 +132,7 @@ plain-to_feed line read_buffer line_new read_buffer_new plain takes = rw takes.l
 pub plain-all : (line read_buffer line_new read_buffer_new : List ℕ) → NoLineFeed line → TakesAll read_buffer read_buffer_new line line_new → NoLineFeed line_new
 plain-all line read_buffer line_new read_buffer_new plain takes = rw takes.line (All-append IsNoLineFeed line read_buffer plain takes.plain)
 
--- a line was taken up to its line feed where no read is permit
+-- a line was taken up to its line feed where no read is permitted
 pub taken-terminated : {Permit : Type 0} (permit : Option Permit) (terminated : Bool) (ToLineFeed All : Type 0) → is_some permit ≡ not terminated
     → MatchOption permit ToLineFeed (λ _. All) → MatchBool terminated ToLineFeed All
 taken-terminated None true ToLineFeed All is taken = taken

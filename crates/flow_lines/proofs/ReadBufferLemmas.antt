@@ -1,4 +1,4 @@
--- How the bytes of a read buffer are cut at its first line feed, by the places in the last read between which they stand.
+-- How the bytes of a read buffer are cut at its first line feed, by their offsets in the last read.
 use Rattle.std.proofs.Common.{◌≡◌, ℕ, suc, ◌+◌, ◌-◌, ◌≤◌, List, ◌∷◌, ◌++◌, Some, None, length, take, drop, get_or, sym, ap, ◌∙◌, arith}
 use Rattle.std.proofs.Math.Seq.{split_at}
 use Rattle.std.proofs.lemmas.List.{drop-take, drop-drop}

@@ -1,4 +1,4 @@
--- What reading a line gives, where it goes on from one turn to the next and where it ends.
+-- What reading a line gives, where it continues from one turn to the next and where it ends.
 use Rattle.std.proofs.Common.{◌≡◌, ◌⊎◌, inl, inr, ℕ, Bool, true, false, List, [], ◌∷◌, ◌++◌, Option, Some, None, length, option_map, is_some, not, refl, sym, ap, subst, ◌∙◌}
 use Rattle.flow_edges.specs.Flow.{left_after, IsAtEnd}
 use Rattle.flow_lines.specs.declared.refusal.LineRefusal.{LineRefusal}
@@ -7,17 +7,17 @@ use Rattle.flow_lines.specs.inner.Reading.{bytes_remaining, TakesToLineFeed, Tak
 use Rattle.flow_lines.proofs.RawLinesLemmas.{bytes_remaining-fed, bytes_remaining-all, plain-to_feed, plain-all}
 use Rattle.flow_lines.proofs.LastReadLemmas.{feed_stands}
 
--- where no read is permit, the line ends with a line feed
+-- where no read is permitted, the line ends with a line feed
 pub terminated-without : {Permit : Type 0} (permit : Option Permit) (terminated : Bool) → permit ≡ None → is_some permit ≡ not terminated → terminated ≡ true
 terminated-without permit true none same = refl
 terminated-without {Permit} permit false none same = let there : false ≡ is_some permit = ap is_some (sym none) in there ∙ same
 
--- where one is permit, it doesn't yet
+-- where one is permitted, it doesn't yet
 pub open-with : {Permit : Type 0} (permit : Option Permit) (terminated : Bool) (read : Permit) → permit ≡ Some read → is_some permit ≡ not terminated → terminated ≡ false
 open-with permit false read some same = refl
 open-with permit true read some same = let there : true ≡ is_some permit = ap is_some (sym some) in there ∙ same
 
--- a line isn't refused that was judged by its size
+-- a line isn't refused that was checked by its size
 pub unrefused : (number offset size len : ℕ) (terminated known : Bool) (refusal : Option LineRefusal) → refusal ≡ length_refusal number offset len terminated → refusal ≡ None
     → size ≡ len → terminated ≡ known → length_refusal number offset size known ≡ None
 unrefused number offset size len terminated known refusal judged none same is =

@@ -1,5 +1,6 @@
--- The lines of an input. A line ends with a line feed, which isn't part of it, and one carriage return before
--- the line feed isn't part of it either. Bytes after the last line feed are a last line, where there are any.
+-- The lines of an input. A line ends with a line feed, which isn't part of it, and one carriage
+-- return before the line feed isn't part of it either. Bytes after the last line feed, if any, are
+-- a last line.
 use Rattle.std.specs.Prelude.{◌≡◌, ◌⊎◌, ⊤, ◌<◌, ◌≤◌, All, IfSome, Result, Ok, Err, ℕ, ◌+◌, ◌==◌, ◌||◌, ◌&&◌, List, [], ◌∷◌, ◌++◌, length, not, Bool, true, false, nat_lt, nat_le, if◌then◌else◌, Option, Some, None, option_map}
 use Rattle.std.specs.List.{slice_split, list_all, list_any, flat_map}
 use Rattle.std.specs.Str.Lines.{strip_carriage_return}
@@ -14,7 +15,7 @@ use Rattle.flow_edges.specs.Flow.{IsAtEnd}
 abbrev pub is_line_feed : ℕ → Bool
 is_line_feed byte = byte == 10
 
--- any byte but that
+-- any other byte
 abbrev pub IsNoLineFeed : ℕ → Type 0
 IsNoLineFeed byte = is_line_feed byte ≡ false
 
@@ -22,7 +23,7 @@ IsNoLineFeed byte = is_line_feed byte ≡ false
 abbrev pub NoLineFeed : List ℕ → Type 0
 NoLineFeed bytes = All IsNoLineFeed bytes
 
--- a line as it stands in the input: its bytes before the line feed, and whether it has one
+-- a raw line: its bytes before the line feed, and whether it has one
 pub record RawLine : Type 0 where
   pub bytes : List ℕ
   pub terminated : Bool
@@ -33,11 +34,11 @@ raw_lines_of [] = []
 raw_lines_of (part ∷ []) = if length part == 0 then [] else record { bytes = part; terminated = false } ∷ []
 raw_lines_of (part ∷ next ∷ parts) = record { bytes = part; terminated = true } ∷ raw_lines_of (next ∷ parts)
 
--- the lines of bytes, as they stand there
+-- the raw lines of bytes
 abbrev pub raw_lines : List ℕ → List RawLine
 raw_lines bytes = raw_lines_of (slice_split is_line_feed bytes)
 
--- the bytes are whole lines: there are none, or a line feed stands last
+-- the bytes are whole lines: there are none, or the last one is a line feed
 abbrev pub AreWholeLines : List ℕ → Type 0
 AreWholeLines bytes = (bytes ≡ []) ⊎ ((front : List ℕ) × (bytes ≡ front ++ 10 ∷ []))
 
@@ -45,11 +46,11 @@ AreWholeLines bytes = (bytes ≡ []) ⊎ ((front : List ℕ) × (bytes ≡ front
 abbrev pub width : RawLine → ℕ
 width line = length line.bytes + (if line.terminated then 1 else 0)
 
--- the bytes of some lines, each with its line feed, where it has one
+-- the bytes of some lines, each with its line feed, if it has one
 abbrev pub lines_text : List RawLine → List ℕ
 lines_text lines = flat_map (λ line. line.bytes ++ (if line.terminated then 10 ∷ [] else [])) lines
 
--- what is given of a line
+-- the content of a line: without its line feed and the carriage return before it
 abbrev pub content : RawLine → List ℕ
 content line = if line.terminated then strip_carriage_return line.bytes else line.bytes
 
@@ -61,34 +62,35 @@ is_blank_byte byte = byte == 32 || byte == 9 || byte == 13
 abbrev pub is_blank : List ℕ → Bool
 is_blank bytes = list_all is_blank_byte bytes
 
--- Why a line is refused, which has so many bytes before its line feed and begins after `offset` bytes of the input:
--- it is too long, or the input is too long with it. Of the first bytes that are too many the earlier one decides.
+-- The refusal of a line with `size` bytes before its line feed that begins at `offset` in the
+-- input: the line is too long, or the input is too long with it. The limit that is exceeded first
+-- decides.
 abbrev pub length_refusal : ℕ → ℕ → ℕ → Bool → Option LineRefusal
 length_refusal number offset size terminated =
     if nat_lt MAX_LINE size && nat_le (offset + MAX_LINE) MAX_INPUT then Some (LineTooLong number)
     else if nat_lt MAX_INPUT (offset + size + (if terminated then 1 else 0)) then Some (InputTooLong number)
     else None
 
--- why a line is refused, where it is
+-- the refusal of a line, if any
 abbrev pub refusal_of : ℕ → ℕ → RawLine → Option LineRefusal
 refusal_of number offset line = length_refusal number offset (length line.bytes) line.terminated
 
--- the lines of an input in turn, each with its number, up to the end or the first refusal
+-- the lines of an input in order, each with its number, up to the end or the first refusal
 pub data LineStream : Type 0 where
   ended : LineStream
   refused : LineRefusal → LineStream
   line_then : ℕ → List ℕ → LineStream → LineStream
 
--- the refusal, where there is one
+-- the refusal, if any
 abbrev pub unless_refused : Option LineRefusal → LineStream → LineStream
 unless_refused None lines = lines
 unless_refused (Some refusal) lines = refused refusal
 
--- a blank line is passed over, and keeps its number
+-- a blank line is skipped, and keeps its number
 abbrev pub unless_blank : ℕ → List ℕ → LineStream → LineStream
 unless_blank number bytes later = if is_blank bytes then later else line_then number bytes later
 
--- these lines in turn: the number of the first, and how many bytes stand before it
+-- the line stream of these lines: the number of the first, and its offset in the input
 abbrev pub lines_from : ℕ → ℕ → List RawLine → LineStream
 lines_from number offset [] = ended
 lines_from number offset (l ∷ ls) =
@@ -98,8 +100,8 @@ lines_from number offset (l ∷ ls) =
 abbrev pub lines_of : List ℕ → LineStream
 lines_of bytes = lines_from 1 0 (raw_lines bytes)
 
--- where a reader of lines stands: the bytes taken and not yet given, how many lines were given, blank ones too,
--- how many bytes these took, and its refusal, where it has one
+-- the state of a reader of lines: the bytes buffered, the number of lines returned, blank ones
+-- included, their length in bytes, and its refusal, if any
 pub record LinesState : Type 0 where
   pub held : List ℕ
   pub count : ℕ
@@ -110,24 +112,24 @@ pub record LinesState : Type 0 where
 abbrev pub lines_start : LinesState
 lines_start = record { held = []; count = 0; given = 0; refusal = None }
 
--- the lines that come yet, where the source tells its bytes
+-- the lines still to be returned, if the source's bytes are observable
 abbrev pub lines_remaining : LinesState → Option (List ℕ) → Option LineStream
 lines_remaining state left = option_map (λ bytes. lines_from (state.count + 1) state.given (raw_lines (state.held ++ bytes))) left
 
--- a line that is whole, and isn't blank
+-- a line that is complete, and isn't blank
 abbrev pub is_whole : RawLine → Bool
 is_whole line = line.terminated && not (is_blank (content line))
 
--- such a line stands among these bytes
+-- there is such a line among these bytes
 abbrev pub HoldsLine : List ℕ → Type 0
 HoldsLine bytes = list_any is_whole (raw_lines bytes) ≡ true
 
--- nothing is held or left, as far as the source tells
+-- nothing is buffered or left, as far as that is observable
 abbrev pub NothingRemaining : List ℕ → Option (List ℕ) → Type 0
 NothingRemaining held left = IfSome left (λ bytes. held ++ bytes ≡ [])
 
--- of the bytes held and left, some went by as lines, and the others are held or left still; each of these lines has its
--- line feed, unless nothing is ahead
+-- of the bytes buffered and left, some were consumed as lines, and the rest are still buffered or
+-- left; each of these lines has its line feed, unless nothing remains
 pub record AccountsFor (before after : LinesState) (left left_after : Option (List ℕ)) : Type 0 where
   pub gone : List RawLine
   pub bytes : option_map (λ bytes. before.held ++ bytes) left ≡ option_map (λ bytes. lines_text gone ++ (after.held ++ bytes)) left_after
@@ -140,14 +142,15 @@ pub record AccountsFor (before after : LinesState) (left left_after : Option (Li
 abbrev pub ContinuesAccounting : LinesState → LinesState → Option (List ℕ) → Option (List ℕ) → Type 0
 ContinuesAccounting before after left left_after = (start : LinesState) (all : Option (List ℕ)) → AccountsFor start before all left → AccountsFor start after all left_after
 
--- when these bytes were left, the line of that number hadn't come whole: fewer lines had, and a part of the next
+-- when these bytes were left, line `number` was not complete: fewer lines were, and a part of the
+-- next
 pub record LacksLine (before : LinesState) (number : ℕ) (left : Option (List ℕ)) (bytes : List ℕ) : Type 0 where
   pub at : LinesState
   pub fewer : at.count < number
   pub part : NoLineFeed at.held
   pub accounts : ContinuesAccounting before at left (Some bytes)
 
--- the first of the lines that came yet was given, and the others come yet
+-- the first of the remaining lines was returned, and the others remain
 pub record GivesLine (before after : LinesState) (left left_after : Option (List ℕ)) (number : ℕ) (bytes : List ℕ) : Type 0 where
   pub line : lines_remaining before left ≡ option_map (λ later. line_then number bytes later) (lines_remaining after left_after)
   pub count : number ≡ after.count
@@ -161,28 +164,29 @@ pub record GivesEnd (before after : LinesState) (left left_after : Option (List 
   pub drained : IsAtEnd left_after
   pub held : after.held ≡ []
 
--- the lines that come yet are the same, and the bytes held are a part of the first of them, which isn't refused by what came of it
+-- the remaining lines are unchanged, and the bytes buffered are a part of the first of them, which
+-- isn't refused so far
 pub record KeepsLines (before after : LinesState) (left left_after : Option (List ℕ)) : Type 0 where
   pub lines : lines_remaining after left_after ≡ lines_remaining before left
   pub part : NoLineFeed after.held
   pub fits : length_refusal (after.count + 1) after.given (length after.held) false ≡ None
 
--- what a refusal says of the lines that came yet
+-- the meaning of a refusal for the remaining lines
 abbrev pub RefusesLine : LinesState → LinesState → Option (List ℕ) → Option (List ℕ) → LineRefusal → Type 0
 RefusesLine before after left left_after Fault = KeepsLines before after left left_after
 RefusesLine before after left left_after (LineTooLong n) = IfSome (lines_remaining before left) (λ ahead. ahead ≡ refused (LineTooLong n))
 RefusesLine before after left left_after (InputTooLong n) = IfSome (lines_remaining before left) (λ ahead. ahead ≡ refused (InputTooLong n))
 RefusesLine before after left left_after NoMemory = ⊤
 
--- a refusal for length is that of this line
+-- a refusal for length concerns this line
 abbrev pub IsOfLine : ℕ → LineRefusal → Type 0
 IsOfLine number Fault = ⊤
 IsOfLine number (LineTooLong n) = n ≡ number
 IsOfLine number (InputTooLong n) = n ≡ number
 IsOfLine number NoMemory = ⊤
 
--- the reader stopped in a line, which is the one that is refused: those before it went by, the lines that come yet are the
--- same, and of their bytes no more are taken than a line may have and one read gives
+-- the reader stopped in the line that it refuses: the lines before it were consumed, the remaining
+-- lines are unchanged, and no more bytes are consumed than those of the longest line and one read
 pub record StopsInLine (before : LinesState) (left left_after : Option (List ℕ)) (refusal : LineRefusal) : Type 0 where
   pub at : LinesState
   pub line : IsOfLine (at.count + 1) refusal
@@ -190,7 +194,7 @@ pub record StopsInLine (before : LinesState) (left left_after : Option (List ℕ
   pub accounts : ContinuesAccounting before at left left_after
   pub lines : lines_remaining at left_after ≡ lines_remaining before left
 
--- what an answer says of the lines that came yet
+-- the meaning of a result for the remaining lines
 abbrev pub AnswersLine : LinesState → LinesState → Option (List ℕ) → Option (List ℕ) → Result (Option Line) LineRefusal → Type 0
 AnswersLine before after left left_after (Ok (Some l)) = GivesLine before after left left_after l.number l.bytes
 AnswersLine before after left left_after (Ok None) = GivesEnd before after left left_after

@@ -1,4 +1,4 @@
--- An input that is read whole, which has a bounded number of bytes.
+-- An input that is read to its end, of bounded length.
 use Rattle.std.specs.Prelude.{◌≡◌, ◌<◌, ◌≤◌, ℕ, List, length, Option, IfSome}
 use Rattle.flow_edges.specs.Flow.{IsAtEnd}
 use Rattle.flow_lines.specs.declared.whole_input.TheConstants.{MAX_WHOLE_INPUT}

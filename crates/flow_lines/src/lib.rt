@@ -1,8 +1,16 @@
-//! The lines of an input, however a source cuts it into reads, and a short input whole.
+//! Reads an input line by line (`Lines`), however the source splits it into reads, or a short input
+//! to its end (`read_whole`).
 //!
-//! `Lines` loses no byte, reads only where the bytes taken hold no whole line, stops in the line that it
-//! refuses, and answers each refusal again. `read_whole` gives all bytes of an input that has at most
-//! 67,108,864 of them, and takes at most one read more.
+//! `Lines` loses no byte. It reads from the source only if its buffer has no complete line. A line
+//! or an input over its limit is refused, and later calls repeat the refusal. `read_whole` returns
+//! at most 67,108,864 bytes, and consumes at most one more read.
+//!
+//! ```ignore
+//! let mut lines = Lines::new(alloc)?;
+//! while let Some(line) = lines.next_line(&mut source)? {
+//!     handle(line.number, line.bytes.as_slice())?;
+//! }
+//! ```
 #![tactic(auto)]
 
 mod cursor;

@@ -6,15 +6,16 @@ use flow_values::Items;
 /// A line of an input, without its line feed and the carriage return before it.
 #[derive(Debug, Drop)]
 pub struct Line {
-    /// Its offset among all lines, blank ones too, from 1.
+    /// The line number, from 1, counting blank lines too.
     pub number: u64,
-    /// What stands in it.
+    /// The bytes of the line.
     pub bytes: Items<u8>,
 }
 
 /// Drops one carriage return at the end of a line, where a line feed followed.
 pub fn strip_return(line: &mut Vec<u8>, terminated: bool)
-    ensures { line.new.items ≡ content (record { bytes = line.old.items; terminated = terminated }) }
+    ensures { line.new.items
+        ≡ content (record { bytes = line.old.items; terminated = terminated }) }
 {
     if terminated && line.last() == Some(&b'\r') {
         line.pop();

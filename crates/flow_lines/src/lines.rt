@@ -11,8 +11,8 @@ use flow_values::NoMemory;
 use std::alloc::Global;
 use std::marker::Model;
 
-/// A reader of the lines of an input. Contracts see the bytes taken and not yet given, how many lines
-/// were given and how many bytes these took, and the refusal, where there was one.
+/// A reader of the lines of an input. Its value in contracts is the bytes buffered, the number of
+/// lines returned, their length in bytes, and the refusal, if any.
 #[derive(Drop)]
 pub struct Lines {
     cursor: Cursor,
@@ -34,7 +34,8 @@ impl Model for Lines {
     } };
 
     ghost invariant = { λ lines. lines.refusal ≡ None
-        → IsBetweenLines lines.cursor.line.items lines.cursor.read_buffer lines.cursor.count lines.cursor.given };
+        → IsBetweenLines lines.cursor.line.items lines.cursor.read_buffer lines.cursor.count
+        lines.cursor.given };
 }
 
 impl Lines {
@@ -57,9 +58,11 @@ impl Lines {
         })
     }
 
-    /// The next line that isn't blank, or none at the end of the input. Reads only where the bytes
-    /// taken hold no whole line, so that the last read of a line began before the line was whole, and at a
-    /// refusal no more than the longest line and one read beyond the lines that went by. A refusal is answered again by each later call, without reading.
+    /// The next line that isn't blank, or `None` at the end of the input.
+    ///
+    /// Reads only if the buffer has no complete line. So the last read for a line begins before the
+    /// line is complete. A refused line takes from the source no more than the longest line and one
+    /// read. Later calls repeat the refusal without a read.
     pub fn next_line<S: Source>(&mut self, source: &mut S) -> Result<Option<Line>, LineRefusal>
         ensures lines { self.old.refusal ≡ None
             → AnswersLine self.old self.new (S.left source.old) (S.left source.new) result }
@@ -67,13 +70,18 @@ impl Lines {
             → LosesNone self.old self.new (S.left source.old) (S.left source.new) result }
         ensures stops { self.old.refusal ≡ None
             → IfErr result (StopsInLine self.old (S.left source.old) (S.left source.new)) }
+        // A complete line in the buffer is returned without a read.
         ensures unread { HoldsLine self.old.held → source.new ≡ source.old }
-        ensures in_time { self.old.refusal ≡ None → ¬ (HoldsLine self.old.held) → IfOk result (λ found. IfSome found (λ line.
+        // When the last read began, the line was not complete yet: no read is made in advance.
+        ensures in_time { self.old.refusal ≡ None → ¬ (HoldsLine self.old.held)
+            → IfOk result (λ found. IfSome found (λ line.
             IfSome (S.began source.new) (LacksLine self.old line.number (S.left source.old)))) }
         ensures refusal { self.new.refusal ≡ result_err result }
+        // A refusal is final.
         ensures repeated { IfSome self.old.refusal (λ refusal.
             (result ≡ Err refusal) × (self.new ≡ self.old) × (source.new ≡ source.old)) }
-        ensures causes { Counted ((self.old.refusal ≡ None) × (result ≡ Err LineRefusal.Fault)) (S.faults source.old) (S.faults source.new) }
+        ensures causes { Counted ((self.old.refusal ≡ None) × (result ≡ Err LineRefusal.Fault))
+            (S.faults source.old) (S.faults source.new) }
     {
         if let Some(refusal) = self.refusal {
             return Err(refusal);

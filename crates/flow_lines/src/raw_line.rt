@@ -8,14 +8,14 @@ use crate::read_buffer::ReadBuffer;
 use crate::refusal::{LineRefusal, MAX_INPUT, MAX_LINE};
 use flow_edges::Source;
 
-/// Where a line begins: its number, and how many bytes of the input stand before it.
+/// The number of a line, and the offset of its first byte in the input.
 #[derive(Clone, Copy)]
 pub struct LineStart {
     pub number: u64,
     pub offset: u64,
 }
 
-/// Why a line is refused that has so many bytes before its line feed, if it has one.
+/// The refusal of a line with `size` bytes before its line feed, if it or the input is too long.
 fn refusal_for_length(start: LineStart, size: u64, terminated: bool) -> Option<LineRefusal>
     requires { start.offset ≤ MAX_INPUT }
     ensures { result ≡ length_refusal start.number start.offset size terminated }
@@ -31,7 +31,7 @@ fn refusal_for_length(start: LineStart, size: u64, terminated: bool) -> Option<L
     None
 }
 
-/// Reads on until the line is whole, and answers whether it ends with a line feed.
+/// Reads until the line is complete, and returns whether it ends with a line feed.
 pub fn read_line<S: Source>(
     read_buffer: &mut ReadBuffer,
     line: &mut Vec<u8>,
@@ -42,16 +42,26 @@ pub fn read_line<S: Source>(
     requires empty { line.old.items ≡ [] }
     requires room { length read_buffer.old ≤ MAX_READ }
 
-    ensures line { IfOk result (λ terminated. let all = bytes_remaining [] read_buffer.old (S.left source.old) in MatchBool terminated
-        (ReadsToLineFeed start.number start.offset all (S.left source.new) line.new.items read_buffer.new)
-        (ReadsLast start.number start.offset all (S.left source.new) line.new.items read_buffer.new)) }
-    ensures refused { IfErr result (BreaksOffLine start.number start.offset (bytes_remaining [] read_buffer.old (S.left source.old)) (S.left source.new)
+    ensures line { IfOk result
+        (λ terminated. let all = bytes_remaining [] read_buffer.old (S.left source.old) in MatchBool
+        terminated
+        (ReadsToLineFeed start.number start.offset all (S.left source.new) line.new.items
+        read_buffer.new)
+        (ReadsLast start.number start.offset all (S.left source.new) line.new.items
+        read_buffer.new)) }
+    ensures refused { IfErr result
+        (BreaksOffLine start.number start.offset
+        (bytes_remaining [] read_buffer.old (S.left source.old)) (S.left source.new)
         line.new.items read_buffer.new) }
-    ensures causes { Counted (result ≡ Err LineRefusal.Fault) (S.faults source.old) (S.faults source.new) }
+    ensures causes { Counted (result ≡ Err LineRefusal.Fault) (S.faults source.old)
+        (S.faults source.new) }
     ensures small { length read_buffer.new ≤ MAX_READ }
     ensures unread { ¬ (NoLineFeed read_buffer.old) → source.new ≡ source.old }
-    ensures in_time { NoLineFeed read_buffer.old → IfOk result (λ _. IfSome (S.began source.new) (IsWithinLine (bytes_remaining [] read_buffer.old (S.left source.old)))) }
-    ensures held { IfOk result (λ terminated. ¬ (NoLineFeed read_buffer.old) → IsBuffered read_buffer.old read_buffer.new line.new.items terminated) }
+    ensures in_time { NoLineFeed read_buffer.old
+        → IfOk result (λ _. IfSome (S.began source.new)
+        (IsWithinLine (bytes_remaining [] read_buffer.old (S.left source.old)))) }
+    ensures held { IfOk result (λ terminated. ¬ (NoLineFeed read_buffer.old)
+        → IsBuffered read_buffer.old read_buffer.new line.new.items terminated) }
 {
     'reads: loop {
         let permit = read_buffer.take_line(line)?;

@@ -1,3 +1,6 @@
+//! A read buffer that `memchr` searches for line feeds. A read needs a `ReadPermit`, which only an
+//! empty buffer gives out, so the type system rules out an unneeded read.
+
 ghost use Rattle.std.specs.Prelude.{◌≡◌, ℕ, ◌≤◌, ◌++◌, [], Ok, Some, length, IfOk, IfSome, OnOk, OnErr, MatchOption, IsErr};
 ghost use Rattle.flow_edges.specs.declared.source.TheConstants.{MAX_READ};
 ghost use Rattle.flow_edges.specs.Faults.{Counted};
@@ -10,14 +13,14 @@ use memchr::memchr;
 use std::alloc::Global;
 use std::marker::Model;
 
-/// Says that the bytes taken so far hold no whole line, so that a read is permit. Only taking them all
-/// gives it, and each read takes one, so that no read is made where it isn't needed.
+/// Permission for one read: a proof that the buffer has no complete line. Only draining the buffer
+/// creates one, and each read consumes one, so no read happens too early.
 #[derive(Drop)]
 pub struct ReadPermit {
     _private: (),
 }
 
-/// The bytes of the last read that aren't used yet.
+/// The buffer of the last read: the bytes in it that aren't used yet.
 #[derive(Drop)]
 pub struct ReadBuffer {
     bytes: Vec<u8>,
@@ -31,13 +34,16 @@ impl Model for ReadBuffer {
 
     ghost Value = { List ℕ };
 
-    ghost view = { λ read_buffer. take (read_buffer.to - read_buffer.from) (drop read_buffer.from read_buffer.bytes.items) };
+    ghost view = { λ read_buffer.
+        take (read_buffer.to - read_buffer.from) (drop read_buffer.from read_buffer.bytes.items) };
 
-    ghost invariant = { λ read_buffer. (read_buffer.from ≤ read_buffer.to) × (read_buffer.to ≤ length read_buffer.bytes.items) × (length read_buffer.bytes.items ≡ MAX_READ) };
+    ghost invariant = { λ read_buffer. (read_buffer.from ≤ read_buffer.to)
+        × (read_buffer.to ≤ length read_buffer.bytes.items)
+        × (length read_buffer.bytes.items ≡ MAX_READ) };
 }
 
 impl ReadBuffer {
-    /// No bytes yet, and room for a read.
+    /// An empty buffer with capacity for one read.
     pub fn new(alloc: Global) -> Result<ReadBuffer, NoMemory>
         ensures { IfOk result (λ read_buffer. read_buffer ≡ []) }
     {
@@ -49,9 +55,10 @@ impl ReadBuffer {
         })
     }
 
-    /// Reads the next bytes in the offset of those before, and answers how many.
+    /// Refills the buffer with one read, and returns the number of bytes.
     pub fn fill<S: Source>(&mut self, _permit: ReadPermit, source: &mut S) -> Result<usize, Fault>
-        ensures filled { IfOk result (λ n. Fills n self.new (S.left source.old) (S.left source.new)) }
+        ensures filled { IfOk result
+            (λ n. Fills n self.new (S.left source.old) (S.left source.new)) }
         ensures end { result ≡ Ok 0 → IsAtEnd (S.left source.old) }
         ensures empty { OnErr result (self.new ≡ []) }
         ensures err { OnErr result (S.left source.new ≡ S.left source.old) }
@@ -66,8 +73,8 @@ impl ReadBuffer {
         Ok(count)
     }
 
-    /// Moves the bytes before the next line feed to the line, and drops the line feed. Where there is
-    /// none, all bytes go, and a read is permit.
+    /// Moves the bytes before the next line feed to the line, and drops the line feed. With no line
+    /// feed, it moves all bytes and returns the permission for a read.
     pub fn take_line(&mut self, line: &mut Vec<u8>) -> Result<Option<ReadPermit>, NoMemory>
         ensures taken { IfOk result (λ permit. MatchOption permit
             (TakesToLineFeed self.old self.new line.old.items line.new.items)
@@ -90,9 +97,10 @@ impl ReadBuffer {
         }
     }
 
-    /// Moves all bytes to others, at their end, after which a read is permit.
+    /// Moves all bytes to the end of `bytes`, and returns the permission for a read.
     pub fn take_all(&mut self, bytes: &mut Vec<u8>) -> Result<ReadPermit, NoMemory>
-        ensures ok { OnOk result ((self.new ≡ []) × (bytes.new.items ≡ bytes.old.items ++ self.old)) }
+        ensures ok { OnOk result ((self.new ≡ [])
+            × (bytes.new.items ≡ bytes.old.items ++ self.old)) }
     {
         bytes.extend_from_slice(&self.bytes[self.from..self.to])?;
         self.from = self.to;

@@ -10,19 +10,19 @@ use flow_values::{Items, NoMemory};
 use std::alloc::Global;
 use thiserror::Error;
 
-/// The most bytes that an input may have that is read whole.
+/// The greatest length of an input for `read_whole`, in bytes.
 pub const MAX_WHOLE_INPUT: usize = 67_108_864;
 
 /// Why an input was not read whole.
 #[derive(Clone, Copy, Debug, PartialEq, Eq, Error)]
 pub enum InputRefusal {
-    /// The input failed, and counted it.
+    /// The input failed, and counted the fault.
     #[error("the input failed")]
     Fault,
-    /// There are more than `MAX_WHOLE_INPUT` bytes.
+    /// The input has more than `MAX_WHOLE_INPUT` bytes.
     #[error("the input has more than 67,108,864 bytes")]
     TooLong,
-    /// Memory ran out.
+    /// Out of memory.
     #[error("out of memory")]
     NoMemory,
 }
@@ -37,18 +37,20 @@ impl From<NoMemory> for InputRefusal {
     }
 }
 
-/// All bytes of an input that has at most `MAX_WHOLE_INPUT` of them: the last read found nothing more.
-/// However it answers, it takes no more than these and one read.
+/// Reads an input of at most `MAX_WHOLE_INPUT` bytes to its end. Whatever the outcome, it consumes
+/// at most these and one more read.
 pub fn read_whole<S: Source>(alloc: Global, source: &mut S) -> Result<Items<u8>, InputRefusal>
     ensures whole { IfOk result (λ bytes. IsWhole bytes (S.left source.old) (S.left source.new)) }
     ensures to_end { IfOk result (λ _. IsAtEnd (S.began source.new)) }
     ensures too_long { result ≡ Err InputRefusal.TooLong → IsTooLong (S.left source.old) }
-    ensures taken { TakesAtMost (MAX_WHOLE_INPUT + MAX_READ) (S.left source.old) (S.left source.new) }
-    ensures causes { Counted (result ≡ Err InputRefusal.Fault) (S.faults source.old) (S.faults source.new) }
+    ensures taken { TakesAtMost (MAX_WHOLE_INPUT + MAX_READ) (S.left source.old)
+        (S.left source.new) }
+    ensures causes { Counted (result ≡ Err InputRefusal.Fault) (S.faults source.old)
+        (S.faults source.new) }
 {
     let mut read_buffer = ReadBuffer::new(alloc)?;
     let mut bytes = Vec::new(alloc);
-    // Each turn takes a byte at least.
+    // Each iteration reads at least one byte, so the loop ends within its bound.
     for _turn in 0..=MAX_WHOLE_INPUT {
         let permit = read_buffer.take_all(&mut bytes)?;
         let count = match read_buffer.fill(permit, source) {

@@ -1,15 +1,15 @@
--- Dials: where a client's links to its peers come from. What a dial holds is told by some dials alone: `None` claims nothing,
--- and a dial that tells goes on to tell.
+-- `Dial`: opens connections to peers. Only some dials are observable: `None` promises nothing, and
+-- an observable dial stays observable.
 use Rattle.std.specs.Prelude.{◌≡◌, ℕ, ◌+◌, List, [], ◌∷◌, ◌++◌, Option}
 use Rattle.flow_links.specs.Doors.{Changes}
 
--- where a link leads: the bytes of its host's name or address, and the port there
+-- an endpoint: the bytes of its host name or address, and the port
 pub record Endpoint : Type 0 where
   pub host : List ℕ
   pub port : ℕ
 
--- the links to come; those that were handed back, in order; where each link leads that was given, in order; and how many links
--- are out: given and not handed back
+-- the links to come; the finished links, in order; the endpoint of each link opened, in order; and
+-- the number of open links: given and not finished
 pub record DialState (L : Type 0) : Type 0 where
   pub coming : List L
   pub finished : List L
@@ -20,13 +20,13 @@ pub record DialState (L : Type 0) : Type 0 where
 abbrev pub Stays : {L : Type 0} → Option (DialState L) → Option (DialState L) → Type 0
 Stays before after = after ≡ before
 
--- the link is the first of those to come, it leads to this host and port, and one more is out
+-- the link is the first of those to come, it leads to this host and port, and one more is open
 abbrev pub Connects : {L : Type 0} → L → List ℕ → ℕ → Option (DialState L) → Option (DialState L) → Type 0
 Connects link host port before after = Changes (λ state now.
     (state.coming ≡ link ∷ now.coming) × (now.finished ≡ state.finished)
     × (now.dials ≡ state.dials ++ record { host = host; port = port } ∷ []) × (now.given ≡ state.given + 1)) before after
 
--- the link stands behind those that were handed back, and one fewer is out
+-- the link was appended to the finished ones, and one fewer is open
 abbrev pub Finishes : {L : Type 0} → L → Option (DialState L) → Option (DialState L) → Type 0
 Finishes link before after = Changes (λ state now.
     (now.finished ≡ state.finished ++ link ∷ []) × (now.coming ≡ state.coming) × (now.dials ≡ state.dials) × (state.given ≡ now.given + 1)) before after

@@ -3,10 +3,10 @@ ghost use Rattle.flow_links.specs.Moments.{IsNext, Continues};
 
 /// The time of day.
 pub trait Clock {
-    /// The moments that it will give, the next one at 0, where it tells them.
+    /// The times that the clock will return, the next one at index 0, if they are observable.
     ghost moments: { Self → ℕ → Option ℕ };
 
-    /// The number of microseconds since 1970.
+    /// The time now, in microseconds since 1970-01-01T00:00:00Z.
     fn now(&mut self) -> u64
         ensures next { IsNext (moments self.old) result }
         ensures continues { Continues (moments self.old) (moments self.new) };

@@ -6,31 +6,33 @@ ghost use Rattle.flow_links.specs.Dials.{DialState, Stays, Connects, Finishes};
 use crate::Link;
 use flow_values::Fault;
 
-/// The most bytes that a host's name has.
+/// The greatest length of a host name, in bytes (RFC 1035, section 2.3.4).
 pub const MAX_HOST: usize = 253;
 
-/// Where links to peers come from: the system's network, or links in memory.
+/// Opens connections to peers: over TCP (`TcpDial`) or in memory, for tests.
 pub trait Dial {
     /// A connection to a peer.
     type Link: Link;
 
-    /// The links to come, those handed back, and where each link leads that was given, where the dial
-    /// tells them.
+    /// The connections to come, those finished, and the endpoint of each one opened, if they are
+    /// observable.
     ghost observable: { Self → Option (DialState Self.Link) };
 
     /// How many calls failed.
     ghost faults: { Self → ℕ };
 
-    /// A new link to this host, a name or an address, at this port, as it stands. A `Fault` has taken
-    /// no link, and is counted.
+    /// Connects to a host (a name or an address) and a port. A `Fault` is counted, and no
+    /// connection was opened.
     fn dial(&mut self, host: &str, port: u16) -> Result<Self::Link, Fault>
         requires short { length host.now ≤ MAX_HOST }
-        ensures ok { IfOk result (λ link. Connects link host.now port (observable self.old) (observable self.new)) }
+        ensures ok { IfOk result
+            (λ link. Connects link host.now port (observable self.old) (observable self.new)) }
         ensures err { OnErr result (Stays (observable self.old) (observable self.new)) }
         ensures causes { Counted (IsErr result) (faults self.old) (faults self.new) };
 
-    /// Takes a link back that `dial` gave, as it stands.
+    /// Closes a connection that `dial` opened.
     fn finish(&mut self, link: Self::Link)
+        // At least one connection is open, so the count of open ones can't underflow.
         requires given { IfSome (observable self.now) (λ state. 1 ≤ state.given) }
         ensures back { Finishes link (observable self.old) (observable self.new) }
         ensures quiet { faults self.new ≡ faults self.old };

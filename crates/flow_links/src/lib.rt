@@ -1,9 +1,20 @@
-//! The edge of the world for a server and for a client: the door that callers come through, the dial
-//! that reaches peers, the links to both, and the clock. A `Link` is a `Source` and a `Sink` at once, so
-//! what reads and writes bytes serves links too.
+//! The network boundary: `Door` accepts connections from clients (a listener), `Dial` opens
+//! connections to peers, and `Clock` gives the time. A `Link` is a connection: it is a `Source` and
+//! a `Sink` at once, so code that reads and writes bytes works over links too.
 //!
-//! Each has a ghost meaning where the object tells it, and counts its faults; those of the system tell
-//! nothing.
+//! Each trait has ghost members for its observable state and counts its faults. `TcpDoor`,
+//! `TcpDial` and `SystemClock` implement the traits for the operating system, where nothing but the
+//! faults is observable. They set timeouts: see `Phase` for those of a client, and `Deadline` for
+//! those of a peer.
+//!
+//! ```ignore
+//! let mut door = TcpDoor::new(rt);
+//! door.listen(8080)?;
+//! while let Some(mut link) = door.next()? {
+//!     let count = link.read(&mut buffer)?;
+//!     door.finish(link);
+//! }
+//! ```
 #![tactic(auto)]
 
 mod clock;

@@ -1,10 +1,10 @@
--- Links, doors, dials and clocks in memory: what contracts see of them.
+-- Links, doors, dials and clocks in memory: their values in contracts.
 use Rattle.std.specs.Prelude.{ℕ, ◌-◌, List, Option, length, min, slice_get}
 use Rattle.flow_memory.specs.Streams.{SourceState, SinkState}
 use Rattle.flow_links.specs.Doors.{DoorState}
 use Rattle.flow_links.specs.Dials.{DialState}
 
--- what comes from the peer, and what goes to it
+-- the bytes from the peer, and those to it
 pub record LinkState : Type 0 where
   pub source : SourceState
   pub sink : SinkState
@@ -23,6 +23,6 @@ pub record MemoryDialState : Type 0 where
   pub calls : ℕ
   pub faults : ℕ
 
--- the moments of a list, of which the last one repeats
+-- the times of a list, of which the last one repeats
 abbrev pub moment_at : List ℕ → ℕ → Option ℕ
 moment_at moments n = slice_get moments (min n (length moments - 1))

@@ -1,9 +1,10 @@
--- Sources and sinks in memory: what contracts see of them.
+-- Sources and sinks in memory: their values in contracts.
 use Rattle.std.specs.Prelude.{ℕ, List, Bool, nat_eq}
 use Rattle.std.specs.List.{list_any}
 use Rattle.flow_edges.specs.Faults.{counted}
 
--- the bytes that are left and those that were left when the last read began, how many a read gives at most, which calls fail (counted from 1), and the counts of calls and faults
+-- the bytes left, the bytes left when the last read began, the most bytes of a read, the numbers of
+-- the calls that fail (from 1), and the counts of calls and faults
 pub record SourceState : Type 0 where
   pub left : List ℕ
   pub began : List ℕ
@@ -12,7 +13,8 @@ pub record SourceState : Type 0 where
   pub calls : ℕ
   pub faults : ℕ
 
--- the bytes that are written, how many bytes there is room for, which calls fail, and the counts of calls and faults
+-- the bytes written, the capacity in bytes, the numbers of the calls that fail, and the counts of
+-- calls and faults
 pub record SinkState : Type 0 where
   pub written : List ℕ
   pub room : ℕ

@@ -4,7 +4,7 @@ ghost use Rattle.flow_links.specs.declared.dial.TheConstants.{MAX_HOST};
 use flow_links::MAX_HOST;
 use std::marker::Model;
 
-/// Where a link in memory leads. It has room for each host.
+/// The endpoint of a link in memory: a host of up to `MAX_HOST` bytes, held inline, and a port.
 #[derive(Drop)]
 pub struct Endpoint {
     bytes: [u8; MAX_HOST],
@@ -18,13 +18,14 @@ impl Model for Endpoint {
 
     ghost Value = { Endpoint };
 
-    ghost view = { λ endpoint. record { host = take endpoint.len endpoint.bytes; port = endpoint.port } };
+    ghost view = { λ endpoint.
+        record { host = take endpoint.len endpoint.bytes; port = endpoint.port } };
 
     ghost invariant = { λ endpoint. endpoint.len ≤ length endpoint.bytes };
 }
 
 impl Endpoint {
-    /// This host, at this port. Takes no memory.
+    /// The endpoint of this host and port. Allocates nothing.
     pub(crate) fn new(host: &str, port: u16) -> Endpoint
         requires short { length host.now ≤ MAX_HOST }
         ensures { result ≡ record { host = host.now; port = port } }

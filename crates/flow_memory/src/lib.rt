@@ -1,5 +1,15 @@
-//! The outside in memory: sources, sinks, links, a door, a dial and a clock that tell all they hold, and that
-//! can be made to fail at chosen calls. What is proved over the traits is tested over these.
+//! Test doubles in memory for the traits of `flow_edges` and `flow_links`: sources, sinks, links, a
+//! door, a dial and a clock. All of their state is observable, and chosen calls can be made to
+//! fail. Programs proved over the traits are tested over these.
+//!
+//! ```ignore
+//! let link = MemoryLink::new(alloc, request, 7, no_reads_fail, 65_536, no_writes_fail)?;
+//! let mut links = Items::new(alloc);
+//! links.push(link)?;
+//! let mut door = MemoryDoor::new(alloc, links, Items::new(alloc))?;
+//! serve(&mut door)?;
+//! let response = door.finished()[0].bytes();
+//! ```
 #![tactic(auto)]
 
 mod endpoint;

@@ -6,7 +6,7 @@ use flow_links::Clock;
 use flow_values::Items;
 use std::marker::Model;
 
-/// A clock that gives the moments of a list, and then the last one again and again.
+/// A clock that returns the times of a list in turn, and then repeats the last one.
 #[derive(Drop)]
 pub struct ListClock {
     moments: Items<u64>,

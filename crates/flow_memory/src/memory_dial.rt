@@ -11,8 +11,8 @@ use flow_values::{Fault, Items, NoMemory};
 use std::alloc::Global;
 use std::marker::Model;
 
-/// A dial with links in memory, with calls that fail. What it is asked for makes no difference to what
-/// it gives.
+/// A dial over links in memory, with chosen failures. It gives the next link whatever endpoint is
+/// asked for.
 #[derive(Drop)]
 pub struct MemoryDial {
     /// The links to come, the next one last.
@@ -32,7 +32,12 @@ impl Model for MemoryDial {
     ghost Value = { MemoryDialState };
 
     ghost view = { λ dial. record {
-      links = record { coming = reverse dial.coming.items; finished = dial.finished.items; dials = dial.dials.items; given = dial.given };
+      links = record {
+        coming = reverse dial.coming.items;
+        finished = dial.finished.items;
+        dials = dial.dials.items;
+        given = dial.given;
+      };
       failing = dial.failing;
       calls = dial.calls;
       faults = dial.faults;
@@ -44,8 +49,8 @@ impl Model for MemoryDial {
 }
 
 impl MemoryDial {
-    /// A dial that gives these links, in order. The calls of `dial` whose numbers, from 1, are in
-    /// `failing` fail, and so do those for which no link is left.
+    /// A dial that gives these links, in order. The calls of `dial` numbered in `failing`, from 1,
+    /// fail. A call with no link left fails too.
     pub fn new(
         alloc: Global,
         links: Items<MemoryLink>,
@@ -73,14 +78,14 @@ impl MemoryDial {
         })
     }
 
-    /// The links that were handed back, in order.
+    /// The finished links, in order.
     pub fn finished(&self) -> &[MemoryLink]
         ensures { result.now ≡ self.now.links.finished }
     {
         self.finished.as_slice()
     }
 
-    /// Where each link leads that was given, in order.
+    /// The endpoint of each link opened, in order.
     pub fn dials(&self) -> &[Endpoint]
         ensures { result.now ≡ self.now.links.dials }
     {
@@ -97,11 +102,14 @@ impl Dial for MemoryDial {
 
     fn dial(&mut self, host: &str, port: u16) -> Result<MemoryLink, Fault>
         requires short { length host.now ≤ MAX_HOST }
-        ensures ok { IfOk result (λ link. Connects link host.now port (Some self.old.links) (Some self.new.links)) }
+        ensures ok { IfOk result
+            (λ link. Connects link host.now port (Some self.old.links) (Some self.new.links)) }
         ensures err { OnErr result (Stays (Some self.old.links) (Some self.new.links)) }
         ensures causes { Counted (IsErr result) self.old.faults self.new.faults }
 
-        ensures fails { IsErr result ↔ (is_failing self.old.failing self.old.calls || nat_eq (length self.old.links.coming) 0 ≡ true) }
+        ensures fails { IsErr result
+            ↔ (is_failing self.old.failing self.old.calls || nat_eq (length self.old.links.coming) 0
+            ≡ true) }
         ensures counted { OnErr result (self.new.faults ≡ counted self.old.faults) }
         ensures calls { self.new.calls ≡ counted self.old.calls }
         ensures stays { self.new.failing ≡ self.old.failing }

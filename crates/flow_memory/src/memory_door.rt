@@ -9,7 +9,7 @@ use flow_values::{Fault, Items, NoMemory};
 use std::alloc::Global;
 use std::marker::Model;
 
-/// A door with links in memory, with calls that fail.
+/// A door over links in memory, with chosen failures.
 #[derive(Drop)]
 pub struct MemoryDoor {
     /// The links to come, the next one last.
@@ -30,18 +30,25 @@ impl Model for MemoryDoor {
     ghost Value = { MemoryDoorState };
 
     ghost view = { λ door. record {
-      links = record { coming = reverse door.coming.items; finished = door.finished.items; opened = door.opened; port = door.port; given = door.given };
+      links = record {
+        coming = reverse door.coming.items;
+        finished = door.finished.items;
+        opened = door.opened;
+        port = door.port;
+        given = door.given;
+      };
       failing = door.failing;
       calls = door.calls;
       faults = door.faults;
     } };
 
-    ghost invariant = { λ door. vec_len door.coming + door.given + vec_len door.finished ≤ vec_capacity door.finished };
+    ghost invariant = { λ door. vec_len door.coming + door.given + vec_len door.finished
+        ≤ vec_capacity door.finished };
 }
 
 impl MemoryDoor {
-    /// A door that these links come through, in order. The calls of `listen` and `next` whose numbers,
-    /// counted together from 1, are in `failing` fail.
+    /// A door that accepts these links, in order. `listen` and `next` share one count of calls,
+    /// from 1: the calls numbered in `failing` fail.
     pub fn new(
         alloc: Global,
         links: Items<MemoryLink>,
@@ -69,14 +76,14 @@ impl MemoryDoor {
         })
     }
 
-    /// The links that were handed back, in order.
+    /// The finished links, in order.
     pub fn finished(&self) -> &[MemoryLink]
         ensures { result.now ≡ self.now.links.finished }
     {
         self.finished.as_slice()
     }
 
-    /// Counts a call, and whether it is one of those that fail.
+    /// Counts a call, and fails if its number is in `failing`.
     fn begin(&mut self) -> Result<(), Fault>
         ensures fails { IsErr result ↔ (is_failing self.old.failing self.old.calls ≡ true) }
         ensures counted { OnErr result (self.new.faults ≡ counted self.old.faults) }
@@ -117,7 +124,8 @@ impl Door for MemoryDoor {
     }
 
     fn next(&mut self) -> Result<Option<MemoryLink>, Fault>
-        ensures ok { IfOk result (λ link. GivesNext link (Some self.old.links) (Some self.new.links)) }
+        ensures ok { IfOk result
+            (λ link. GivesNext link (Some self.old.links) (Some self.new.links)) }
         ensures err { OnErr result (Stays (Some self.old.links) (Some self.new.links)) }
         ensures causes { Counted (IsErr result) self.old.faults self.new.faults }
 

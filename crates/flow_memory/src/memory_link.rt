@@ -26,8 +26,8 @@ impl Model for MemoryLink {
 }
 
 impl MemoryLink {
-    /// A link whose peer sends these bytes, at most `piece` of them in a read, and takes as many bytes
-    /// as there is room for. The reads and the writes whose numbers, from 1, are in the two lists fail.
+    /// A link whose peer sends these bytes, at most `piece` of them in a read, and receives at most
+    /// `room` bytes. The reads and writes numbered in the two lists, from 1, fail.
     pub fn new(
         alloc: Global,
         bytes: Items<u8>,
@@ -38,8 +38,21 @@ impl MemoryLink {
     ) -> Result<MemoryLink, NoMemory>
         requires { 1 ≤ piece }
         ensures { IfOk result (λ link. link ≡ record {
-          source = record { left = bytes; began = bytes; piece = piece; failing = failing_reads; calls = 0; faults = 0 };
-          sink = record { written = []; room = room; failing = failing_writes; calls = 0; faults = 0 };
+          source = record {
+            left = bytes;
+            began = bytes;
+            piece = piece;
+            failing = failing_reads;
+            calls = 0;
+            faults = 0;
+          };
+          sink = record {
+            written = [];
+            room = room;
+            failing = failing_writes;
+            calls = 0;
+            faults = 0;
+          };
         }) }
     {
         Ok(MemoryLink {
@@ -63,26 +76,36 @@ impl Source for MemoryLink {
 
     ghost faults = { λ link. link.source.faults };
 
-    ghost other = { λ link. record { written = Some link.sink.written; faults = link.sink.faults } };
+    ghost other = { λ link. record {
+      written = Some link.sink.written;
+      faults = link.sink.faults;
+    } };
 
     fn read(&mut self, buffer: &mut [u8]) -> Result<usize, Fault>
         requires room { 0 < length buffer.now }
 
         ensures within { IfOk result (λ n. n ≤ length buffer.old) }
-        ensures given { IfOk result (λ n. IsNextOf (take n buffer.new) (Some self.old.source.left)) }
-        ensures rest { IfOk result (λ n. Some self.new.source.left ≡ left_after n (Some self.old.source.left)) }
+        ensures given { IfOk result
+            (λ n. IsNextOf (take n buffer.new) (Some self.old.source.left)) }
+        ensures rest { IfOk result
+            (λ n. Some self.new.source.left ≡ left_after n (Some self.old.source.left)) }
         ensures end { result ≡ Ok 0 → IsAtEnd (Some self.old.source.left) }
         ensures err { OnErr result (Some self.new.source.left ≡ Some self.old.source.left) }
-        ensures began { IfSome (Some self.new.source.began) (λ bytes. Some self.old.source.left ≡ Some bytes) }
+        ensures began { IfSome (Some self.new.source.began) (λ bytes. Some self.old.source.left
+            ≡ Some bytes) }
         ensures causes { Counted (IsErr result) self.old.source.faults self.new.source.faults }
 
-        ensures fails { IsErr result ↔ (is_failing self.old.source.failing self.old.source.calls ≡ true) }
-        ensures count { IfOk result (λ n. n ≡ min self.old.source.piece (min (length buffer.old) (length self.old.source.left))) }
+        ensures fails { IsErr result
+            ↔ (is_failing self.old.source.failing self.old.source.calls ≡ true) }
+        ensures count { IfOk result
+            (λ n. n ≡ min self.old.source.piece
+            (min (length buffer.old) (length self.old.source.left))) }
         ensures calls { self.new.source.calls ≡ counted self.old.source.calls }
         ensures counted { OnErr result (self.new.source.faults ≡ counted self.old.source.faults) }
         ensures behind { IfOk result (λ n. drop n buffer.new ≡ drop n buffer.old) }
         ensures unchanged { OnErr result (buffer.new ≡ buffer.old) }
-        ensures stays { (self.new.source.piece ≡ self.old.source.piece) × (self.new.source.failing ≡ self.old.source.failing) }
+        ensures stays { (self.new.source.piece ≡ self.old.source.piece)
+            × (self.new.source.failing ≡ self.old.source.failing) }
         ensures unwritten { self.new.sink ≡ self.old.sink }
     {
         self.source.read(buffer)
@@ -94,20 +117,30 @@ impl Sink for MemoryLink {
 
     ghost faults = { λ link. link.sink.faults };
 
-    ghost other = { λ link. record { left = Some link.source.left; began = Some link.source.began; faults = link.source.faults } };
+    ghost other = { λ link. record {
+      left = Some link.source.left;
+      began = Some link.source.began;
+      faults = link.source.faults;
+    } };
 
     fn write(&mut self, piece: &[u8]) -> Result<usize, Fault>
         ensures within { IfOk result (λ n. n ≤ length piece.now) }
-        ensures written { IfOk result (λ n. Some self.new.sink.written ≡ written_with (take n piece.now) (Some self.old.sink.written)) }
+        ensures written { IfOk result
+            (λ n. Some self.new.sink.written
+            ≡ written_with (take n piece.now) (Some self.old.sink.written)) }
         ensures some { IfOk result (λ n. 0 < length piece.now → 0 < n) }
         ensures err { OnErr result (Some self.new.sink.written ≡ Some self.old.sink.written) }
         ensures causes { Counted (IsErr result) self.old.sink.faults self.new.sink.faults }
 
-        ensures fails { IsErr result ↔ (is_failing self.old.sink.failing self.old.sink.calls || nat_le self.old.sink.room (length self.old.sink.written) ≡ true) }
-        ensures count { IfOk result (λ n. n ≡ min (length piece.now) (self.old.sink.room - length self.old.sink.written)) }
+        ensures fails { IsErr result
+            ↔ (is_failing self.old.sink.failing self.old.sink.calls || nat_le self.old.sink.room
+            (length self.old.sink.written) ≡ true) }
+        ensures count { IfOk result
+            (λ n. n ≡ min (length piece.now) (self.old.sink.room - length self.old.sink.written)) }
         ensures calls { self.new.sink.calls ≡ counted self.old.sink.calls }
         ensures counted { OnErr result (self.new.sink.faults ≡ counted self.old.sink.faults) }
-        ensures stays { (self.new.sink.room ≡ self.old.sink.room) × (self.new.sink.failing ≡ self.old.sink.failing) }
+        ensures stays { (self.new.sink.room ≡ self.old.sink.room)
+            × (self.new.sink.failing ≡ self.old.sink.failing) }
         ensures unread { self.new.source ≡ self.old.source }
     {
         self.sink.write(piece)

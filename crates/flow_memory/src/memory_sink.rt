@@ -8,7 +8,7 @@ use flow_values::{Fault, Items, NoMemory};
 use std::alloc::Global;
 use std::marker::Model;
 
-/// Memory that is written to while it has room, with calls that fail.
+/// A sink of fixed capacity in memory, with chosen failures.
 #[derive(Drop)]
 pub struct MemorySink {
     bytes: Vec<u8>,
@@ -32,14 +32,16 @@ impl Model for MemorySink {
       faults = sink.faults;
     } };
 
-    ghost invariant = { λ sink. (vec_len sink.bytes ≤ sink.room) × (sink.room ≤ vec_capacity sink.bytes) };
+    ghost invariant = { λ sink. (vec_len sink.bytes ≤ sink.room)
+        × (sink.room ≤ vec_capacity sink.bytes) };
 }
 
 impl MemorySink {
-    /// A sink with room for so many bytes, which is taken at once. The calls whose numbers, from 1, are
-    /// in `failing` fail.
+    /// A sink with capacity for `room` bytes, allocated at once. The calls numbered in `failing`,
+    /// from 1, fail.
     pub fn new(alloc: Global, room: usize, failing: Items<u64>) -> Result<MemorySink, NoMemory>
-        ensures { IfOk result (λ sink. sink ≡ record { written = []; room = room; failing = failing; calls = 0; faults = 0 }) }
+        ensures { IfOk result (λ sink. sink
+            ≡ record { written = []; room = room; failing = failing; calls = 0; faults = 0 }) }
     {
         let bytes = Vec::with_capacity(alloc, room)?;
         Ok(MemorySink {
@@ -66,13 +68,17 @@ impl Sink for MemorySink {
 
     fn write(&mut self, piece: &[u8]) -> Result<usize, Fault>
         ensures within { IfOk result (λ n. n ≤ length piece.now) }
-        ensures written { IfOk result (λ n. Some self.new.written ≡ written_with (take n piece.now) (Some self.old.written)) }
+        ensures written { IfOk result
+            (λ n. Some self.new.written ≡ written_with (take n piece.now) (Some self.old.written)) }
         ensures some { IfOk result (λ n. 0 < length piece.now → 0 < n) }
         ensures err { OnErr result (Some self.new.written ≡ Some self.old.written) }
         ensures causes { Counted (IsErr result) self.old.faults self.new.faults }
 
-        ensures fails { IsErr result ↔ (is_failing self.old.failing self.old.calls || nat_le self.old.room (length self.old.written) ≡ true) }
-        ensures count { IfOk result (λ n. n ≡ min (length piece.now) (self.old.room - length self.old.written)) }
+        ensures fails { IsErr result
+            ↔ (is_failing self.old.failing self.old.calls || nat_le self.old.room
+            (length self.old.written) ≡ true) }
+        ensures count { IfOk result
+            (λ n. n ≡ min (length piece.now) (self.old.room - length self.old.written)) }
         ensures calls { self.new.calls ≡ counted self.old.calls }
         ensures counted { OnErr result (self.new.faults ≡ counted self.old.faults) }
         ensures stays { (self.new.room ≡ self.old.room) × (self.new.failing ≡ self.old.failing) }

@@ -7,7 +7,7 @@ use flow_edges::{Source, counted_fault};
 use flow_values::{Fault, Items};
 use std::marker::Model;
 
-/// Bytes in memory that are read piece by piece, with calls that fail.
+/// A source over bytes in memory, read in pieces, with chosen failures.
 #[derive(Drop)]
 pub struct MemorySource {
     bytes: Items<u8>,
@@ -35,15 +35,23 @@ impl Model for MemorySource {
       faults = source.faults;
     } };
 
-    ghost invariant = { λ source. (source.at ≤ length source.bytes) × (source.began ≤ length source.bytes) × (1 ≤ source.piece) };
+    ghost invariant = { λ source. (source.at ≤ length source.bytes)
+        × (source.began ≤ length source.bytes) × (1 ≤ source.piece) };
 }
 
 impl MemorySource {
-    /// A source of these bytes. A read gives at most `piece` of them, and the calls whose numbers,
-    /// from 1, are in `failing` fail.
+    /// A source of these bytes. A read returns at most `piece` of them. The calls numbered in
+    /// `failing`, from 1, fail.
     pub fn new(bytes: Items<u8>, piece: usize, failing: Items<u64>) -> MemorySource
         requires { 1 ≤ piece }
-        ensures { result ≡ record { left = bytes; began = bytes; piece = piece; failing = failing; calls = 0; faults = 0 } }
+        ensures { result ≡ record {
+          left = bytes;
+          began = bytes;
+          piece = piece;
+          failing = failing;
+          calls = 0;
+          faults = 0;
+        } }
     {
         MemorySource {
             bytes,
@@ -56,7 +64,7 @@ impl MemorySource {
         }
     }
 
-    /// The bytes that aren't taken yet.
+    /// The bytes left to read.
     pub fn left(&self) -> &[u8]
         ensures { result.now ≡ self.now.left }
     {
@@ -82,8 +90,10 @@ impl Source for MemorySource {
         ensures began { IfSome (Some self.new.began) (λ bytes. Some self.old.left ≡ Some bytes) }
         ensures causes { Counted (IsErr result) self.old.faults self.new.faults }
 
+        // Exact, so that a test can predict each call.
         ensures fails { IsErr result ↔ (is_failing self.old.failing self.old.calls ≡ true) }
-        ensures count { IfOk result (λ n. n ≡ min self.old.piece (min (length buffer.old) (length self.old.left))) }
+        ensures count { IfOk result
+            (λ n. n ≡ min self.old.piece (min (length buffer.old) (length self.old.left))) }
         ensures calls { self.new.calls ≡ counted self.old.calls }
         ensures counted { OnErr result (self.new.faults ≡ counted self.old.faults) }
         ensures behind { IfOk result (λ n. drop n buffer.new ≡ drop n buffer.old) }

@@ -3,14 +3,14 @@ ghost use Rattle.std.specs.Prelude.{None};
 use flow_edges::Sink;
 use flow_values::Fault;
 
-/// A sink that takes all bytes, and keeps none.
+/// A sink that discards all bytes, like `std::io::sink`.
 #[derive(Drop)]
 pub struct QuietSink {
     _private: (),
 }
 
 impl QuietSink {
-    /// A sink that has taken nothing yet.
+    /// A sink that discards all bytes.
     pub fn new() -> QuietSink {
         QuietSink { _private: () }
     }

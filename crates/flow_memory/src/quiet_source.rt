@@ -6,7 +6,7 @@ use flow_edges::Source;
 use flow_values::{Fault, Items};
 use std::marker::Model;
 
-/// Bytes in memory that are read piece by piece, without fail. Contracts see the bytes that are left.
+/// A `Source` over bytes in memory that never fails. Its value in contracts is the bytes left.
 #[derive(Drop)]
 pub struct QuietSource {
     bytes: Items<u8>,
@@ -25,7 +25,7 @@ impl Model for QuietSource {
 }
 
 impl QuietSource {
-    /// A source of these bytes, of which a read gives at most `piece`.
+    /// A source of these bytes. A read returns at most `piece` of them.
     pub fn new(bytes: Items<u8>, piece: usize) -> QuietSource
         requires { 1 ≤ piece }
         ensures { result ≡ bytes }

@@ -4,7 +4,7 @@ use crate::NoMemory;
 use std::alloc::Global;
 use std::marker::Model;
 
-/// A `Vec` that contracts see as the list of its items.
+/// A `Vec` whose value in contracts is the plain list of its items.
 #[derive(Debug, Drop)]
 pub struct Items<T> {
     items: Vec<T>,
@@ -22,7 +22,7 @@ impl<T> Model for Items<T> {
 }
 
 impl<T> Items<T> {
-    /// No items. Takes no memory.
+    /// An empty list. Allocates nothing.
     pub fn new(alloc: Global) -> Items<T>
         ensures { result ≡ [] }
     {
@@ -31,7 +31,8 @@ impl<T> Items<T> {
         }
     }
 
-    /// No items, and room for so many.
+    /// An empty list with capacity for at least `capacity` items. `NoMemory` if the allocation
+    /// fails.
     pub fn with_capacity(alloc: Global, capacity: usize) -> Result<Items<T>, NoMemory>
         ensures { IfOk result (λ items. items ≡ []) }
     {
@@ -39,14 +40,14 @@ impl<T> Items<T> {
         Ok(Items { items })
     }
 
-    /// The items of a `Vec`, which keeps its memory.
+    /// Takes over the items and the allocation of a `Vec`.
     pub fn from_vec(items: Vec<T>) -> Items<T>
         ensures { result ≡ items.items }
     {
         Items { items }
     }
 
-    /// The items as a `Vec`, which takes their memory over.
+    /// Gives the items back as a `Vec`, with their allocation.
     pub fn into_vec(self) -> Vec<T>
         ensures { result.items ≡ self }
     {
@@ -54,21 +55,21 @@ impl<T> Items<T> {
         items
     }
 
-    /// The items, lent.
+    /// Borrows the items as a slice.
     pub fn as_slice(&self) -> &[T]
         ensures { result.now ≡ self.now }
     {
         self.items.as_slice()
     }
 
-    /// How many items there are.
+    /// The number of items.
     pub fn len(&self) -> usize
         ensures { result ≡ length self.now }
     {
         self.items.len()
     }
 
-    /// Whether there is no item.
+    /// Whether the list is empty.
     pub fn is_empty(&self) -> bool
         ensures { IsTrue result ↔ (self.now ≡ []) }
     {
@@ -77,7 +78,8 @@ impl<T> Items<T> {
 }
 
 impl<T: Drop> Items<T> {
-    /// Adds an item at the end. Without memory the list stays as it was, and the item is dropped.
+    /// Adds an item at the end, in amortized constant time. If memory runs out, the list is
+    /// unchanged and the item is dropped.
     pub fn push(&mut self, item: T) -> Result<(), NoMemory>
         ensures ok { OnOk result (self.new ≡ self.old ++ item ∷ []) }
         ensures err { OnErr result (self.new ≡ self.old) }

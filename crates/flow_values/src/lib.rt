@@ -1,10 +1,18 @@
-//! The values that every floor hands on: texts and lists that contracts see as plain lists, and the
-//! two refusals that belong to no layer, `Fault` and `NoMemory`.
+//! The values that every crate of this repository shares. `Text` and `Items` are a `String` and a
+//! `Vec` whose value in contracts is a plain list. `Name` is the name of a property or of an object
+//! type. `Fault` (I/O failed) and `NoMemory` (out of memory) are the two errors that belong to no
+//! single layer.
 //!
-//! Most crates need no more of the outside than these, so they stand apart from the traits of it.
+//! `Name` interns the names of STIX 2.1 (sections 3.2 and 4 to 7) and TAXII 2.1 in a static table,
+//! so nearly every name allocates nothing.
 //!
-//! Names of fields and of types of objects (STIX 2.1). Those that the standards give lie in a table: nearly all that come are such,
-//! and they take no memory.
+//! ```ignore
+//! let name = Name::from_text(alloc, "created_by_ref")?; // an index into the table
+//! let mut text = Text::from_text(alloc, name.as_str())?;
+//! text.push(" = ")?;
+//! let mut items: Items<u8> = Items::new(alloc);
+//! items.push(b'a')?;
+//! ```
 #![tactic(auto)]
 
 mod fault;

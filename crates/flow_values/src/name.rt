@@ -1,3 +1,7 @@
+//! String interning over a fixed table, sorted by length. `LENGTH_STARTS` bounds the few names to
+//! compare. A name is interned only if it equals its table entry, so `as_str` always returns the
+//! text it was made from.
+
 ghost use Rattle.std.specs.Prelude.{◌≡◌, IfOk, IfSome, map, unwrap_or, slice_get, []};
 ghost use Rattle.flow_values.specs.inner.StandardNames.{standard_names};
 
@@ -5,8 +9,10 @@ use crate::{NoMemory, Text};
 use std::alloc::Global;
 use std::marker::Model;
 
-/// The name of a field or of a type, which contracts see as the list of its bytes. One that the standards give lies in a table and
-/// takes no memory: nearly all names that come are such.
+/// The name of a property or of an object type. Its value in contracts is the list of its bytes.
+///
+/// Interned: a name of the STIX 2.1 or TAXII 2.1 standard is an index into a static table and
+/// allocates nothing. Any other name owns a copy of its text.
 #[derive(Debug, Drop)]
 pub struct Name {
     form: NameForm,
@@ -14,7 +20,7 @@ pub struct Name {
 
 #[derive(Debug, Drop)]
 enum NameForm {
-    /// The one at this index of those that are given.
+    /// The index of a standard name in `STANDARD_NAMES`.
     Given(u8),
     Own(Box<Text>),
 }
@@ -29,7 +35,8 @@ impl Model for Name {
 }
 
 impl Name {
-    /// The name that is this text.
+    /// The name with this text. Searches only the standard names of the same length. `NoMemory`
+    /// only if the name is not a standard one.
     pub fn from_text(alloc: Global, text: &str) -> Result<Name, NoMemory>
         ensures { IfOk result (λ name. name ≡ text.now) }
     {
@@ -40,7 +47,7 @@ impl Name {
         Ok(Name { form })
     }
 
-    /// The name, lent.
+    /// Borrows the name as text.
     pub fn as_str(&self) -> &str
         ensures { result.now ≡ self.now }
     {
@@ -51,7 +58,7 @@ impl Name {
     }
 }
 
-/// The given name at the index.
+/// The standard name at an index, or the empty text past the end of the table.
 fn standard_name_at(index: u8) -> &'static str
     ensures { result.now ≡ unwrap_or (slice_get standard_names index) [] }
 {
@@ -61,7 +68,8 @@ fn standard_name_at(index: u8) -> &'static str
     }
 }
 
-/// Where the text stands among the names that are given, if it does. Those of its length follow one another.
+/// The index of a text among the standard names, if it is one. Scans the names of its length, which
+/// are adjacent in the table.
 fn index_of(text: &str) -> Option<u8>
     ensures { IfSome result (λ index. unwrap_or (slice_get standard_names index) [] ≡ text.now) }
 {
@@ -75,15 +83,16 @@ fn index_of(text: &str) -> Option<u8>
     None
 }
 
-/// All names that are given.
+/// The table of all standard names.
 fn given() -> &'static [&'static str]
     ensures { map (λ name. name.now) result.now ≡ standard_names }
 {
     STANDARD_NAMES
 }
 
-/// The names that STIX 2.1 gives most objects and TAXII 2.1 its resources, and those of the types of objects (STIX 2.1, sections 3.2
-/// and 4 to 7), by their length; of one length fields stand first, and those that come most.
+/// The property names of STIX 2.1 objects and TAXII 2.1 resources, and the STIX 2.1 object types
+/// (sections 3.2 and 4 to 7). Sorted by length; within one length, property names and frequent
+/// names come first.
 const STANDARD_NAMES: &[&str] = &[
     "id",
     "pid",
@@ -210,7 +219,8 @@ const STANDARD_NAMES: &[&str] = &[
     "opened_connection_refs",
 ];
 
-/// Where the names of each length begin.
+/// `LENGTH_STARTS[n]` is the index of the first name of `n` bytes; `LENGTH_STARTS[n + 1]` is one
+/// past the last.
 const LENGTH_STARTS: &[u8] = &[
     0, 0, 0, 1, 5, 17, 21, 27, 41, 56, 66, 77, 83, 93, 99, 103, 107, 112, 116, 117, 119, 122, 122,
     123,

@@ -4,7 +4,7 @@ use crate::NoMemory;
 use std::alloc::Global;
 use std::marker::Model;
 
-/// A `String` that contracts see as the list of its bytes, which are UTF-8.
+/// A `String` whose value in contracts is the list of its UTF-8 bytes.
 #[derive(Debug, Drop)]
 pub struct Text {
     text: String,
@@ -19,7 +19,7 @@ impl Model for Text {
 }
 
 impl Text {
-    /// No text. Takes no memory.
+    /// The empty text. Allocates nothing.
     pub fn new(alloc: Global) -> Text
         ensures { result ≡ [] }
     {
@@ -28,7 +28,7 @@ impl Text {
         }
     }
 
-    /// A copy of a text.
+    /// A copy of a text. `NoMemory` if the allocation fails.
     pub fn from_text(alloc: Global, text: &str) -> Result<Text, NoMemory>
         ensures { IfOk result (λ copy. copy ≡ text.now) }
     {
@@ -36,35 +36,35 @@ impl Text {
         Ok(Text { text })
     }
 
-    /// The text of a `String`, which keeps its memory.
+    /// Takes over a `String` and its allocation.
     pub fn from_string(text: String) -> Text
         ensures { result ≡ string_bytes text }
     {
         Text { text }
     }
 
-    /// The text, lent.
+    /// Borrows the text.
     pub fn as_str(&self) -> &str
         ensures { result.now ≡ self.now }
     {
         self.text.as_str()
     }
 
-    /// How many bytes the text has.
+    /// The length in bytes.
     pub fn len(&self) -> usize
         ensures { result ≡ length self.now }
     {
         self.text.len()
     }
 
-    /// Whether the text has no bytes.
+    /// Whether the text is empty.
     pub fn is_empty(&self) -> bool
         ensures { IsTrue result ↔ (self.now ≡ []) }
     {
         self.text.is_empty()
     }
 
-    /// Adds a text at the end. Without memory the text stays as it was.
+    /// Appends a text. If memory runs out, this text is unchanged.
     pub fn push(&mut self, text: &str) -> Result<(), NoMemory>
         ensures ok { OnOk result (self.new ≡ self.old ++ text.now) }
         ensures err { OnErr result (self.new ≡ self.old) }

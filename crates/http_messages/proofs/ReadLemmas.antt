@@ -38,7 +38,7 @@ takes_read n chunk (Some bytes) now few next rest =
 
 -- ---- the head
 
--- the bytes at the front of the buffer after a read behind them
+-- the bytes at the front of the buffer after a read after them
 pub grown : (k end count : ℕ) (buffer chunk : List ℕ) → end ≤ length buffer → count ≤ length chunk
     → take (end + count) (put_mid end k buffer chunk) ≡ take end buffer ++ take count chunk
 grown k end count buffer chunk inside few =

@@ -31,7 +31,7 @@ after_high : (t : Bool) (n : ℕ) → (if t then n + 2 else n + 3) ≤ n + 3
 after_high true n = omega arith
 after_high false n = omega arith
 
--- an LF with an empty line behind it has that whatever follows
+-- an LF with an empty line after it has that whatever follows
 pub end_grows : (front back : List ℕ) (k : ℕ) → is_last_line_end front k ≡ true → SameLast front (front ++ back) (after_empty_line front k) k
 end_grows front back k is =
     same_last front (front ++ back) (after_empty_line front k) k (λ j lt. same_before front back j (omega (arith, lt, end_inside front k is))) refl is

@@ -29,7 +29,7 @@ pub after_low : (t : Bool) (n : ℕ) → n + 2 ≤ (if t then n + 2 else n + 3)
 after_low true n = omega arith
 after_low false n = omega arith
 
--- the LF behind which the head ends, in another list with the same bytes
+-- the LF after which the head ends, in another list with the same bytes
 pub record SameLast (bytes other : List ℕ) (end offset : ℕ) : Type 0 where
   pub empty : is_last_line_end other offset ≡ true
   pub end_is : end ≡ after_empty_line other offset

@@ -30,7 +30,7 @@ tested true false true false is = absurd (cc is)
 tested true false false s is = absurd (cc is)
 tested false q r s is = absurd (cc is)
 
--- the empty line behind a line end stands in the bytes
+-- the empty line after a line end stands in the bytes
 pub end_inside : (bytes : List ℕ) (offset : ℕ) → is_last_line_end bytes offset ≡ true → after_empty_line bytes offset ≤ length bytes
 end_inside bytes offset empty = by_second (get_or bytes (offset + 1) 0 == 10) refl
   where
@@ -57,7 +57,7 @@ offset_inside bytes offset empty = by_rest parts.second
     by_rest (inl same) = inside bytes (offset + 1) 10 (omega arith) same
     by_rest (inr both) = inside bytes (offset + 1) 13 (omega arith) both.0
 
--- the bytes before a offset are all dropped
+-- the bytes before an offset are all dropped
 dropped_to : (bytes : List ℕ) (search : HeadSearch) (start k : ℕ) → IsSearched bytes search → SkipsTo bytes search.start start → k < start
     → is_line_byte (get_or bytes k 0) ≡ true
 dropped_to bytes search start k searched skips lt = by_offset (cases_lt k search.start)

@@ -1,4 +1,5 @@
--- What the fields of a request's head say (RFC 9110, sections 5 and 8; RFC 9112, sections 3.2, 6 and 9). Of the bytes, 44 is `,`.
+-- What the fields of a request's head say (RFC 9110, sections 5 and 8; RFC 9112, sections 3.2, 6
+-- and 9). Of the bytes, 44 is `,`.
 use Rattle.std.specs.Prelude.{ℕ, Bool, true, false, not, ◌==◌, ◌&&◌, ◌||◌, if◌then◌else◌, nat_le, nat_lt, List, [], ◌∷◌, length, map, codes, bytes_eq, Option, Some, None}
 use Rattle.std.specs.List.{filter, list_all, list_any, slice_split, join_by}
 use Rattle.std.specs.Char.{is_ascii_digit}
@@ -9,7 +10,8 @@ use Rattle.httparse.specs.Spans.{name_and_value}
 use Rattle.http_messages.specs.declared.method.Method.{Method}
 use Rattle.http_messages.specs.declared.method.Method.TheVariants.{Get, Head, Post, Delete, Other}
 
--- a head as its parts: the minor version of HTTP/1.0 or HTTP/1.1, and the fields, each a name and a value
+-- a head as its parts: the minor version of HTTP/1.0 or HTTP/1.1, and the fields, each a name and a
+-- value
 pub record HeadParts : Type 0 where
   pub method : List ℕ
   pub target : List ℕ
@@ -20,7 +22,8 @@ pub record HeadParts : Type 0 where
 abbrev pub parts_of : RequestHead → HeadParts
 parts_of h = record { method = h.method; target = h.target; minor = h.minor; fields = map name_and_value h.fields }
 
--- the values of those of some fields that have a name, in order; names ignore ASCII case (RFC 9110, section 5.1)
+-- the values of those of some fields that have a name, in order; names ignore ASCII case (RFC 9110,
+-- section 5.1)
 abbrev pub values_among : List ℕ → List (List ℕ × List ℕ) → List (List ℕ)
 values_among name fields = map (λ field. field.1) (filter (λ field. str_eq_ignore_ascii_case field.0 name) fields)
 
@@ -45,15 +48,16 @@ is_post Post = true
 is_post Delete = false
 is_post Other = false
 
--- a request of HTTP/1.1 without a Host, or one of either version with more than one (RFC 9112, section 3.2)
+-- a request of HTTP/1.1 without a Host, or one of either version with more than one (RFC 9112,
+-- section 3.2)
 abbrev pub has_bad_host : HeadParts → Bool
 has_bad_host h = (h.minor == 1 && length (values (codes "host") h) == 0) || nat_lt 1 (length (values (codes "host") h))
 
--- a value of that name isn't UTF-8
+-- a value of that name is not UTF-8
 abbrev pub has_bad_text_in : List ℕ → HeadParts → Bool
 has_bad_text_in name h = not (list_all is_utf8 (values name h))
 
--- a value of Accept, Content-Type or Connection isn't UTF-8
+-- a value of Accept, Content-Type or Connection is not UTF-8
 abbrev pub has_bad_text : HeadParts → Bool
 has_bad_text h = has_bad_text_in (codes "accept") h || has_bad_text_in (codes "content-type") h || has_bad_text_in (codes "connection") h
 
@@ -82,7 +86,7 @@ body_length h = first_length (values (codes "content-length") h)
 abbrev pub states : ℕ → List ℕ → Bool
 states number value = is_length value && (length_of value == number)
 
--- a Content-Length that isn't one, or two that state different numbers (RFC 9112, section 6.3)
+-- a Content-Length that is not one, or two that state different numbers (RFC 9112, section 6.3)
 abbrev pub has_bad_length : HeadParts → Bool
 has_bad_length h = not (list_all (states (body_length h)) (values (codes "content-length") h))
 
@@ -104,7 +108,8 @@ joined (value ∷ others) = Some (join_by (λ text. text) (codes ", ") (value �
 abbrev pub members : List ℕ → List (List ℕ)
 members value = slice_split (λ byte. byte == 44) value
 
--- a member is `close`, without the spaces and tabs around it and ASCII case ignored (RFC 9112, section 9.6)
+-- a member is `close`, without the spaces and tabs around it and ASCII case ignored (RFC 9112,
+-- section 9.6)
 abbrev pub is_close : List ℕ → Bool
 is_close member = str_eq_ignore_ascii_case (trim_ows member) (codes "close")
 

@@ -1,5 +1,6 @@
--- The bytes of a connection as requests (RFC 9112): its first frame is that more is needed, a request, or a refusal. It is a
--- statement on all bytes that came; how they were cut has no part in it.
+-- The bytes of a connection as requests (RFC 9112). The first frame is a request, a refusal, or
+-- that more bytes are needed. It is defined on all bytes received, so how they were split is
+-- irrelevant.
 use Rattle.std.specs.Prelude.{◌≡◌, ℕ, ◌+◌, ◌<◌, ◌≤◌, ◌⊎◌, ◌||◌, if◌then◌else◌, nat_lt, List, [], length, drop, slice_range, codes, Option, Some, None}
 use Rattle.httparse.specs.Grammar.{RequestHead, ReadsRequest}
 use Rattle.http_messages.specs.declared.frame.TheConstants.{MAX_HEAD}
@@ -32,22 +33,22 @@ request_of h body = record {
   close = closes h;
 }
 
--- the head that stands there, with what was dropped before it no longer than a head may be
+-- the head at that position, with what was dropped before it no longer than a head may be
 pub record HoldsHead (bytes : List ℕ) (start end : ℕ) : Type 0 where
   pub at : IsHeadAt bytes start end
   pub fits : end ≤ MAX_HEAD
 
--- the bytes of a head are one by the grammar, with these parts
+-- the bytes match the grammar of a head, with these parts
 pub record IsReadAs (head : List ℕ) (parts : HeadParts) : Type 0 where
   pub tree : RequestHead
   pub reads : ReadsRequest head tree []
   pub parts_are : parts ≡ parts_of tree
 
--- the bytes of a head are none by the grammar
+-- the bytes do not match the grammar of a head
 abbrev pub IsUnreadable : List ℕ → Type 0
 IsUnreadable head = (tree : RequestHead) → ¬ (ReadsRequest head tree [])
 
--- the bytes begin with a head that isn't refused
+-- the bytes begin with a head that is not refused
 pub record Accepts (greatest : ℕ) (bytes : List ℕ) (start end : ℕ) (parts : HeadParts) : Type 0 where
   pub head : HoldsHead bytes start end
   pub read : IsReadAs (slice_range bytes start end) parts
@@ -58,7 +59,7 @@ pub record NeedsHead (bytes : List ℕ) : Type 0 where
   pub room : length bytes < MAX_HEAD
   pub none : HasNoHeadIn (length bytes) bytes
 
--- the head is fine, and its body isn't whole
+-- the head is fine, and its body is not whole
 pub record NeedsBody (greatest : ℕ) (bytes : List ℕ) : Type 0 where
   pub start : ℕ
   pub end : ℕ
@@ -76,19 +77,19 @@ pub record GivesRequest (greatest : ℕ) (bytes : List ℕ) (request : Request) 
   pub request_is : request ≡ request_of parts (slice_range bytes end (end + body_length parts))
   pub rest_is : rest ≡ drop (end + body_length parts) bytes
 
--- so many bytes came as a head may have, and among them none has ended
+-- as many bytes have arrived as a head may have, without the end of a head
 pub record HasLongHead (bytes : List ℕ) : Type 0 where
   pub full : MAX_HEAD ≤ length bytes
   pub none : HasNoHeadIn MAX_HEAD bytes
 
--- the head is none by the grammar
+-- the head does not match the grammar
 pub record HasBadHead (bytes : List ℕ) : Type 0 where
   pub start : ℕ
   pub end : ℕ
   pub head : HoldsHead bytes start end
   pub bad : IsUnreadable (slice_range bytes start end)
 
--- the head is one by the grammar, and is refused for what it says
+-- the head matches the grammar, and is refused for its contents
 pub record HasRefusedHead (greatest : ℕ) (bytes : List ℕ) (refusal : Refusal) : Type 0 where
   pub start : ℕ
   pub end : ℕ
@@ -109,7 +110,8 @@ IsFirstFrame greatest bytes More rest = (NeedsHead bytes ⊎ NeedsBody greatest 
 IsFirstFrame greatest bytes (Given request) rest = GivesRequest greatest bytes request rest
 IsFirstFrame greatest bytes (Refused refusal) rest = IsRefused greatest bytes refusal × (rest ≡ bytes)
 
--- what contracts see of a session: the greatest body that it takes, and the bytes that were fed and not yet given
+-- the model of a session: the largest body that it takes, and the bytes that were fed and not yet
+-- given
 pub record SessionState : Type 0 where
   pub max_body : ℕ
   pub fed : List ℕ

@@ -1,5 +1,5 @@
--- What the bytes of a link begin with, to which one request was made: a reply, a response that is refused, or less than it takes to
--- decide. It is a statement on all bytes; how they were cut into reads has no part in it.
+-- The outcome of a link's bytes after one request: an accepted response, a refused one, or too few
+-- bytes to decide. It is defined on all bytes, so how they were split into reads is irrelevant.
 use Rattle.std.specs.Prelude.{◌≡◌, ◌⊎◌, ℕ, ◌<◌, ◌≤◌, List, ◌++◌, length, Option, Some, None, option_map, Result, Ok, Err}
 use Rattle.flow_edges.specs.Flow.{IsAtEnd}
 use Rattle.http_messages.specs.declared.frame.TheConstants.{MAX_HEAD}
@@ -9,7 +9,7 @@ use Rattle.http_messages.specs.declared.reply_end.ReplyEnd.{ReplyEnd}
 use Rattle.http_messages.specs.declared.reply_end.ReplyEnd.TheVariants.{Fault, Cut, Refused, NoMemory}
 use Rattle.http_messages.specs.ReplyHeads.{IsHead, HoldNoHead, HeadParts, IsReadAs, IsUnreadable, body_length, refusal_of}
 
--- a head that says how many bytes follow it, and isn't refused
+-- a head that says how many bytes follow it, and is not refused
 pub record Announces (head : List ℕ) (count : ℕ) : Type 0 where
   pub is_head : IsHead head
   pub fits : length head ≤ MAX_HEAD
@@ -24,7 +24,7 @@ pub record IsReply (reply body : List ℕ) : Type 0 where
   pub announces : Announces head (length body)
   pub bytes : reply ≡ head ++ body
 
--- so many bytes as a head may have, and among them none has ended
+-- as many bytes as a head may have, without the end of a head
 pub record IsLong (bytes : List ℕ) : Type 0 where
   pub full : length bytes ≡ MAX_HEAD
   pub none : HoldNoHead bytes
@@ -65,7 +65,7 @@ IsCut bytes = LacksHead bytes ⊎ LacksBody bytes
 abbrev pub IsNeeded : List ℕ → Type 0
 IsNeeded bytes = (front back : List ℕ) → bytes ≡ front ++ back → 0 < length back → IsCut front
 
--- these bytes were taken from those that were left, as far as the link tells
+-- these bytes were taken from those left on the link, as far as they are observable
 abbrev pub Takes : List ℕ → Option (List ℕ) → Option (List ℕ) → Type 0
 Takes taken left now = left ≡ option_map (λ rest. taken ++ rest) now
 
@@ -77,19 +77,20 @@ IsTakenFor taken now (Err Cut) = IsCut taken × IsAtEnd now
 IsTakenFor taken now (Err (Refused refusal)) = IsRefused taken refusal
 IsTakenFor taken now (Err NoMemory) = IsNeeded taken
 
--- the answer to a read of what was left, of which this is left now
+-- the result of a read from what was left on the link; this is left now
 pub record ReadsReply (left now : Option (List ℕ)) (answer : Result (List ℕ) ReplyEnd) : Type 0 where
   pub taken : List ℕ
   pub takes : Takes taken left now
   pub answers : IsTakenFor taken now answer
 
--- what bytes are, of which one thing holds at most
+-- the outcomes of a byte string, of which at most one holds
 pub data Outcome : Type 0 where
   Whole : List ℕ → Outcome
   Fails : HeadRefusal → Outcome
   Ends : Outcome
 
--- the bytes begin with a reply that has this body, or with bytes that are refused so, or they are cut
+-- the bytes begin with a reply that has this body, or with bytes that are refused so, or they are
+-- cut
 abbrev pub IsOutcome : List ℕ → Outcome → Type 0
 IsOutcome bytes (Whole body) = (reply rest : List ℕ) × (bytes ≡ reply ++ rest) × IsReply reply body
 IsOutcome bytes (Fails refusal) = (front rest : List ℕ) × (bytes ≡ front ++ rest) × IsRefused front refusal

@@ -1,5 +1,5 @@
--- The head of a response (RFC 9112, sections 2.1 and 4), and what it says. Where it ends is a matter of its bytes alone: nothing is
--- skipped before it.
+-- The head of a response (RFC 9112, sections 2.1 and 4), and what it says. Where it ends is a
+-- matter of its bytes alone: nothing is skipped before it.
 use Rattle.std.specs.Prelude.{◌≡◌, ℕ, Bool, not, ◌==◌, ◌||◌, if◌then◌else◌, nat_lt, List, [], length, map, codes, Option, Some, None}
 use Rattle.std.specs.List.{list_all}
 use Rattle.httparse.specs.Grammar.{ResponseHead, ReadsResponse, status_code}
@@ -20,7 +20,8 @@ pub record IsHead (head : List ℕ) : Type 0 where
 abbrev pub HoldNoHead : List ℕ → Type 0
 HoldNoHead bytes = HasNoEnd bytes 0 (length bytes)
 
--- a head as its parts: the status and the fields, each a name and a value without the spaces and tabs around it
+-- a head as its parts: the status and the fields, each a name and a value without the spaces and
+-- tabs around it
 pub record HeadParts : Type 0 where
   pub status : ℕ
   pub fields : List (List ℕ × List ℕ)
@@ -29,13 +30,13 @@ pub record HeadParts : Type 0 where
 abbrev pub parts_of : ResponseHead → HeadParts
 parts_of h = record { status = status_code h; fields = map name_and_value h.fields }
 
--- the bytes of a head are one by the grammar, with these parts
+-- the bytes match the grammar of a head, with these parts
 pub record IsReadAs (head : List ℕ) (parts : HeadParts) : Type 0 where
   pub tree : ResponseHead
   pub reads : ReadsResponse head tree []
   pub parts_are : parts ≡ parts_of tree
 
--- the bytes of a head are none by the grammar
+-- the bytes do not match the grammar of a head
 abbrev pub IsUnreadable : List ℕ → Type 0
 IsUnreadable head = (tree : ResponseHead) → ¬ (ReadsResponse head tree [])
 

@@ -1,5 +1,5 @@
--- Where the head of a request begins and ends among the bytes of a connection (RFC 9112, sections 2.1 and 2.2). Of the bytes, 10 is
--- LF and 13 is CR.
+-- Where the head of a request begins and ends among the bytes of a connection (RFC 9112, sections
+-- 2.1 and 2.2). Of the bytes, 10 is LF and 13 is CR.
 use Rattle.std.specs.Prelude.{◌≡◌, ℕ, ◌+◌, ◌<◌, ◌≤◌, Bool, true, false, ◌==◌, ◌&&◌, ◌||◌, if◌then◌else◌, List, length, slice_index}
 
 -- CR or LF
@@ -12,22 +12,22 @@ is_last_line_end bytes at =
     slice_index bytes at == 10
     && (slice_index bytes (at + 1) == 10 || (slice_index bytes (at + 1) == 13 && slice_index bytes (at + 2) == 10))
 
--- where the empty line after the LF at this offset ends
+-- the offset after the empty line that follows the LF at this offset
 abbrev pub after_empty_line : List ℕ → ℕ → ℕ
 after_empty_line bytes at = if slice_index bytes (at + 1) == 10 then at + 2 else at + 3
 
--- from `low` on up to `high` no LF has an empty line behind it
+-- no LF at an offset from `low` up to `high` is followed by an empty line
 abbrev pub HasNoEnd : List ℕ → ℕ → ℕ → Type 0
 HasNoEnd bytes low high = (offset : ℕ) → low ≤ offset → offset < high → is_last_line_end bytes offset ≡ false
 
--- the first LF from `from` on that has an empty line behind it
+-- the first LF from `from` on that an empty line follows
 pub record IsFirstEnd (bytes : List ℕ) (from offset : ℕ) : Type 0 where
   pub order : from ≤ offset
   pub here : is_last_line_end bytes offset ≡ true
   pub first : HasNoEnd bytes from offset
 
--- the bytes before `start` are CR and LF, which are dropped; the head begins there with another byte, and `end` is after its first
--- empty line
+-- the bytes before `start` are CR and LF, which are dropped; the head begins there with another
+-- byte, and `end` is after its first empty line
 pub record IsHeadAt (bytes : List ℕ) (start end : ℕ) : Type 0 where
   pub dropped : (offset : ℕ) → offset < start → is_line_byte (slice_index bytes offset) ≡ true
   pub begins : is_line_byte (slice_index bytes start) ≡ false

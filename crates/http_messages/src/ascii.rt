@@ -1,7 +1,7 @@
 ghost use Rattle.std.specs.Prelude.{◌≡◌};
 ghost use Rattle.std.specs.Str.{str_eq_ignore_ascii_case};
 
-/// Whether two names are the same, ASCII case ignored.
+/// Whether two field names are equal, ignoring ASCII case (RFC 9110, section 5.1).
 pub fn same_name(name: &[u8], other: &[u8]) -> bool
     ensures { result ≡ str_eq_ignore_ascii_case name.now other.now }
 {

@@ -1,3 +1,7 @@
+//! A byte queue over one vector: bytes are appended at the end and consumed from the front.
+//! Consumed bytes are removed only when they make up half of the vector, so each byte is moved at
+//! most once (amortized O(1) per byte).
+
 ghost use Rattle.std.specs.Prelude.{◌≡◌, ◌≤◌, [], ◌++◌, length, drop, slice_range, IfOk, OnOk, OnErr};
 
 use flow_values::NoMemory;
@@ -5,11 +9,11 @@ use std::alloc::Global;
 use std::marker::Model;
 use std::mem;
 
-/// Bytes that are added at the end and taken from the front. Contracts see those that are there.
+/// A byte queue. Its model is the list of bytes that are not consumed yet.
 #[derive(Drop)]
 pub(crate) struct Buffer {
     bytes: Vec<u8>,
-    /// How many bytes from the front are taken, and not cleared away yet.
+    /// The number of consumed bytes at the front that are still in `bytes`.
     taken: usize,
 }
 
@@ -24,7 +28,7 @@ impl Model for Buffer {
 }
 
 impl Buffer {
-    /// No bytes. Takes no memory.
+    /// The empty buffer. Allocates nothing.
     pub(crate) fn new(alloc: Global) -> Buffer
         ensures { result ≡ [] }
     {
@@ -34,14 +38,14 @@ impl Buffer {
         }
     }
 
-    /// The bytes, lent.
+    /// The bytes, borrowed.
     pub(crate) fn as_slice(&self) -> &[u8]
         ensures { result.now ≡ self.now }
     {
         &self.bytes[self.taken..]
     }
 
-    /// Adds bytes at the end. Without memory the buffer stays as it was.
+    /// Appends bytes. When out of memory, the buffer is unchanged.
     pub(crate) fn push(&mut self, chunk: &[u8]) -> Result<(), NoMemory>
         ensures ok { OnOk result (self.new ≡ self.old ++ chunk.now) }
         ensures err { OnErr result (self.new ≡ self.old) }
@@ -51,9 +55,9 @@ impl Buffer {
         Ok(())
     }
 
-    /// Takes the bytes before `end`, and gives those of them from `start` on: with their memory where no
-    /// byte follows them, else as a copy. Where none are to be given, the buffer keeps its room. Without
-    /// memory it stays as it was.
+    /// Consumes the bytes before `end`, and returns those from `start` on. If they are the last
+    /// bytes, the vector itself is handed over; otherwise they are copied. If `start` equals `end`,
+    /// the buffer keeps its capacity. When out of memory, the buffer is unchanged.
     pub(crate) fn take(
         &mut self,
         alloc: Global,
@@ -78,7 +82,7 @@ impl Buffer {
         Ok(copy)
     }
 
-    /// Takes all bytes, and gives those from a offset on with their memory.
+    /// Consumes all bytes, and returns those from `start` on in the same vector.
     fn take_all(&mut self, alloc: Global, start: usize) -> Buffer
         requires { start ≤ length self.old }
         ensures given { result ≡ drop start self.old }
@@ -89,7 +93,7 @@ impl Buffer {
         all
     }
 
-    /// A copy of some bytes.
+    /// A buffer with a copy of the bytes.
     fn copied(alloc: Global, bytes: &[u8]) -> Result<Buffer, NoMemory>
         ensures { IfOk result (λ copy. copy ≡ bytes.now) }
     {
@@ -97,7 +101,7 @@ impl Buffer {
         Ok(Buffer { bytes, taken: 0 })
     }
 
-    /// Takes so many bytes from the front.
+    /// Consumes `count` bytes from the front.
     fn advance(&mut self, count: usize)
         requires { count ≤ length self.old }
         ensures { self.new ≡ drop count self.old }
@@ -105,8 +109,7 @@ impl Buffer {
         self.taken += count;
     }
 
-    /// Clears the bytes away that are taken, where they are half of all or more: so each byte is moved
-    /// once at most.
+    /// Moves the remaining bytes to the front of the vector if at least half of it is consumed.
     fn clear_taken(&mut self)
         ensures { self.new ≡ self.old }
     {

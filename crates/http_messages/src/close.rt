@@ -5,14 +5,14 @@ ghost use Rattle.http_messages.specs.Fields.{asks_to_close, is_close};
 
 use crate::ascii::same_name;
 
-/// Whether some Connection has the member `close`.
+/// Whether any Connection value has the option `close` (RFC 9110, section 7.6.1).
 pub(crate) fn any_asks_to_close(values: &[&[u8]]) -> bool
     ensures { result ≡ list_any (λ value. asks_to_close value.now) values.now }
 {
     values.iter().any(|value| asks_to_close(value))
 }
 
-/// Whether a Connection has the member `close`.
+/// Whether this Connection value has the option `close`.
 fn asks_to_close(value: &[u8]) -> bool
     ensures { result ≡ asks_to_close value.now }
 {
@@ -21,14 +21,14 @@ fn asks_to_close(value: &[u8]) -> bool
         .any(|member| is_close(member))
 }
 
-/// Whether a member of a list is `close`.
+/// Whether a list member is `close`, ignoring ASCII case and surrounding blanks.
 fn is_close(member: &[u8]) -> bool
     ensures { result ≡ is_close member.now }
 {
     same_name(trim_end(trim_start(member)), b"close")
 }
 
-/// The bytes from the first on that is no space and no tab.
+/// The bytes without leading spaces and tabs.
 fn trim_start(bytes: &[u8]) -> &[u8]
     ensures { result.now ≡ skip_ows bytes.now }
 {
@@ -39,7 +39,7 @@ fn trim_start(bytes: &[u8]) -> &[u8]
     rest
 }
 
-/// The bytes as far as the last that is no space and no tab.
+/// The bytes without trailing spaces and tabs.
 fn trim_end(bytes: &[u8]) -> &[u8]
     ensures { reverse result.now ≡ skip_ows (reverse bytes.now) }
 {

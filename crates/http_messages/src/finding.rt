@@ -10,7 +10,7 @@ use flow_values::NoMemory;
 use httparse::spans::HeaderSpan;
 use std::alloc::Global;
 
-/// Finds what the bytes begin with.
+/// Finds the first frame of the bytes: a request, a refusal, or that more bytes are needed.
 pub(crate) fn find_frame(
     alloc: Global,
     max_body: u64,
@@ -32,7 +32,7 @@ pub(crate) fn find_frame(
     check(alloc, max_body, bytes, search.start, end, spans)
 }
 
-/// What bytes begin with that hold no head.
+/// The result if the bytes contain no complete head.
 fn without_head(bytes: &[u8]) -> Found
     requires { HasNoHead bytes.now }
     ensures { (greatest : ℕ) → IsFound greatest bytes.now result }

@@ -1,12 +1,12 @@
 use crate::{Refusal, Request};
 
-/// The most bytes that a head may have, with the line ends before it.
+/// The maximum size of a head in bytes, including the line ends before it.
 pub const MAX_HEAD: usize = 16_384;
 
-/// What the bytes of a connection begin with.
+/// The first frame of a connection's bytes.
 #[derive(Debug, Drop)]
 pub enum Frame {
-    /// Neither a whole request nor a refusal yet.
+    /// Neither a complete request nor a refusal yet.
     More,
     Request(Request),
     Refused(Refusal),

@@ -1,13 +1,16 @@
+//! Content-Length values (RFC 9110, section 8.6): one to 18 decimal digits, so that no arithmetic
+//! overflows.
+
 ghost use Rattle.std.specs.Prelude.{◌≡◌, ◌<◌, ◌≤◌, ◌^◌, true, if◌then◌else◌, Some, None, length, map, IfSome};
 ghost use Rattle.std.specs.List.{list_all};
 ghost use Rattle.std.specs.Char.{is_ascii_digit};
 ghost use Rattle.std.specs.Str.Parse.{digits_value};
 ghost use Rattle.http_messages.specs.Fields.{is_length, length_of, first_length, states};
 
-/// The most digits of a length.
+/// The maximum number of digits of a length.
 const MAX_DIGITS: usize = 18;
 
-/// The number that a Content-Length states, where it is one.
+/// The value of a Content-Length, if it is well-formed.
 pub(crate) fn read_length(value: &[u8]) -> Option<u64>
     ensures number { result ≡ (if is_length value.now then Some (length_of value.now) else None) }
     ensures small { IfSome result (λ number. number < 10 ^ 18) }
@@ -18,7 +21,7 @@ pub(crate) fn read_length(value: &[u8]) -> Option<u64>
     Some(number_of(value))
 }
 
-/// The number that the first of some lengths states, or 0.
+/// The value of the first length, or 0 if there is none or it is malformed.
 pub fn first_length(values: &[&[u8]]) -> u64
     ensures number { result ≡ first_length (map (λ value. value.now) values.now) }
     ensures small { result < 10 ^ 18 }
@@ -29,14 +32,14 @@ pub fn first_length(values: &[&[u8]]) -> u64
     }
 }
 
-/// Whether each of the values is a length and states that number.
+/// Whether each value is a well-formed length equal to `number`.
 pub fn all_state(values: &[&[u8]], number: u64) -> bool
     ensures { result ≡ list_all (λ value. states number value.now) values.now }
 {
     values.iter().all(|value| states(value, number))
 }
 
-/// Whether the value is a length and states that number.
+/// Whether the value is a well-formed length equal to `number`.
 fn states(value: &[u8], number: u64) -> bool
     ensures { result ≡ states number value.now }
 {
@@ -53,7 +56,7 @@ fn are_digits(bytes: &[u8]) -> bool
     bytes.iter().all(|byte| byte.is_ascii_digit())
 }
 
-/// The number that at most 18 digits write.
+/// The number that at most 18 decimal digits represent.
 fn number_of(digits: &[u8]) -> u64
     requires digits { list_all is_ascii_digit digits.now ≡ true }
     requires few { length digits.now ≤ MAX_DIGITS }

@@ -1,14 +1,22 @@
-//! HTTP/1.1 as a server speaks it (RFC 9112): requests out of the bytes of a connection, however they
-//! are cut; the statuses of answers (RFC 9110).
+//! HTTP/1.1 messages (RFC 9112), with the statuses and field rules of RFC 9110. A server gets an
+//! incremental parser for the requests of a connection, a client a reader for the one response that
+//! it waits for.
 //!
-//! What a connection's bytes begin with is a definition on all of them: more is needed, a request, or a
-//! refusal. Whatever a proxy in front could read otherwise is refused.
+//! Both sides are defined on byte strings alone (`specs/Frames.antt`, `specs/Replies.antt`). So the
+//! result does not depend on how the transport splits the bytes. Whatever an intermediary could
+//! parse differently is refused, which rules out request smuggling: lengths that differ, a transfer
+//! coding, a missing or repeated Host.
 //!
-//! HTTP/1.1 as a client speaks it that makes one request of a connection (RFC 9112): the one reply is
-//! read from the link, and no byte past it.
+//! A client accepts only a response with status 200, one Content-Length and no transfer coding, and
+//! reads no byte after it.
 //!
-//! What a link's bytes begin with is a definition on all of them: a reply, a response that is refused, or
-//! less than it takes to decide. Only a reply with status 200, a length and no transfer coding is taken.
+//! ```text
+//! let mut session = Session::new(alloc, 8_388_608)?; // bodies of at most 8 MiB
+//! session.feed(&bytes[..count])?;
+//! while let Frame::Request(request) = session.next_request()? {
+//!     // answer `request`; close the connection afterwards if `request.close`
+//! }
+//! ```
 #![tactic(auto)]
 
 mod ascii;

@@ -4,22 +4,23 @@ ghost use Rattle.http_messages.specs.Fields.{method_of, is_post};
 use http::Method as AnyMethod;
 use std::alloc::Global;
 
-/// The longest name that `http` reads without memory. No method that a resource takes has a longer one.
+/// The longest method name that `http` parses without allocating. No method that a resource allows
+/// is longer.
 const MAX_NAME: usize = 15;
 
-/// What a request asks to be done (RFC 9110, section 9): those methods of `http` that a resource takes.
+/// A request method (RFC 9110, section 9): those that a resource of this server may allow.
 #[derive(Clone, Copy, Debug, PartialEq, Eq, Hash)]
 pub enum Method {
     Get,
     Head,
     Post,
     Delete,
-    /// Any other, which no resource here takes.
+    /// Any other method, which no resource allows.
     Other,
 }
 
 impl Method {
-    /// The method of that name. Takes no memory.
+    /// The method with this name. Names are case-sensitive. Allocates nothing.
     pub(crate) fn of(alloc: Global, name: &[u8]) -> Method
         ensures { result ≡ method_of name.now }
     {
@@ -32,7 +33,7 @@ impl Method {
         }
     }
 
-    /// The method of that name, which is a text.
+    /// The method with this name, given as a `str`.
     fn named(name: &str) -> Method
         ensures { result ≡ method_of name.now }
     {

@@ -11,11 +11,14 @@ use flow_edges::{MAX_READ, Source};
 use flow_values::{Items, NoMemory};
 use std::alloc::Global;
 
-/// The body of the reply that a link's bytes begin with. No byte is read past what decides: each read
-/// asks for no more than must come yet. The memory that a body takes grows with what has come.
+/// Reads one response from a link, and returns its body. Each read asks for at most the bytes that
+/// must still arrive, so no byte after the response is read. The body's memory grows with the bytes
+/// received, whatever length the head announces.
 pub fn read_reply<S: Source>(alloc: Global, link: &mut S) -> Result<Items<u8>, ReplyEnd>
     ensures reads { ReadsReply (S.left link.old) (S.left link.new) result }
+    // the link counts a fault exactly if the result is `Fault`
     ensures causes { Counted (result ≡ Err ReplyEnd.Fault) (S.faults link.old) (S.faults link.new) }
+    // nothing is written to the link
     ensures unwritten { S.other link.new ≡ S.other link.old }
 {
     let mut buffer = room(alloc)?;
@@ -26,7 +29,7 @@ pub fn read_reply<S: Source>(alloc: Global, link: &mut S) -> Result<Items<u8>, R
     }
 }
 
-/// Room for a read, and for a head.
+/// A zeroed read buffer, large enough for a head.
 fn room(alloc: Global) -> Result<Vec<u8>, NoMemory>
     ensures { IfOk result (λ buffer. length buffer.items ≡ MAX_READ) }
 {

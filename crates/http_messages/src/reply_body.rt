@@ -8,7 +8,7 @@ use flow_edges::{MAX_READ, Source};
 use flow_values::{Items, NoMemory};
 use std::alloc::Global;
 
-/// Reads so many bytes, by way of the buffer, into memory that grows with what has come.
+/// Reads `count` bytes through the buffer into a vector that grows with the bytes received.
 pub(crate) fn read_body<S: Source>(
     alloc: Global,
     link: &mut S,
@@ -32,7 +32,7 @@ pub(crate) fn read_body<S: Source>(
     Ok(Items::from_vec(body))
 }
 
-/// Adds some bytes at the end.
+/// Appends bytes.
 fn add(bytes: &mut Vec<u8>, more: &[u8]) -> Result<(), NoMemory>
     ensures { OnOk result (bytes.new.items ≡ bytes.old.items ++ more.now) }
 {

@@ -10,15 +10,15 @@ use flow_values::NoMemory;
 use httparse::spans::EMPTY_HEADER_SPAN;
 use std::alloc::Global;
 
-/// What a head says of what follows it.
+/// The result of checking a response head.
 pub(crate) enum Checked {
-    /// So many bytes follow.
+    /// Accepted: the body has this many bytes.
     Announces(usize),
-    /// It is refused.
+    /// Refused.
     Refused(HeadRefusal),
 }
 
-/// Checks a head.
+/// Parses and checks a head.
 pub(crate) fn check(alloc: Global, head: &[u8]) -> Result<Checked, NoMemory>
     requires head { IsHead head.now }
     requires size { length head.now ≤ MAX_HEAD }
@@ -32,7 +32,7 @@ pub(crate) fn check(alloc: Global, head: &[u8]) -> Result<Checked, NoMemory>
 }
 
 impl<'a> Head<'a> {
-    /// Why the head is refused, by the first of the conditions that holds, or how many bytes follow it.
+    /// The first reason to refuse the head, or the length of the body.
     fn checked(&self, alloc: Global) -> Result<Checked, NoMemory>
         ensures { IfOk result (λ checked. checked ≡ refusal_or_length self.now) }
     {
@@ -56,7 +56,7 @@ impl<'a> Head<'a> {
     }
 }
 
-/// Whether these values don't state one length.
+/// Whether these values do not agree on exactly one length.
 fn state_no_length(values: &[&[u8]]) -> bool
     ensures { result ≡ state_no_length (map (λ value. value.now) values.now) }
 {

@@ -2,16 +2,16 @@ use crate::HeadRefusal;
 use flow_values::{Fault, NoMemory};
 use thiserror::Error;
 
-/// Why no reply was read.
+/// Why no response was read.
 #[derive(Clone, Copy, Debug, PartialEq, Eq, Hash, Error)]
 pub enum ReplyEnd {
-    /// A read failed, and was counted by the link.
+    /// A read failed; the link has counted it.
     #[error("the link failed")]
     Fault,
-    /// The bytes end before they are a reply or refused.
+    /// The link's bytes end inside the response.
     #[error("the reply is cut")]
     Cut,
-    /// The response is refused for its head.
+    /// The head of the response is refused.
     #[error("the response is refused: {0}")]
     Refused(HeadRefusal),
     /// Memory ran out.

@@ -6,10 +6,10 @@ ghost use Rattle.http_messages.specs.inner.ReplyParsing.{IsParsed};
 use httparse::Status;
 use httparse::spans::{HeaderSpan, ResponseSpans, parse_response};
 
-/// How many fields a head of `MAX_HEAD` bytes has at most, each of which takes three.
+/// The maximum number of fields in a head of `MAX_HEAD` bytes: each takes at least three.
 pub(crate) const MAX_FIELDS: usize = 5461;
 
-/// Where the parts of a head stand, where the bytes are one and no more.
+/// Parses a head, if the bytes are exactly one, and returns the spans of its parts.
 pub(crate) fn parse(head: &[u8], spans: &mut [HeaderSpan]) -> Option<ResponseSpans>
     requires size { length head.now ≤ MAX_HEAD }
     requires room { MAX_FIELDS ≤ length spans.now }

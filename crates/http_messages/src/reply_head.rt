@@ -9,7 +9,7 @@ use httparse::spans::{HeaderSpan, ResponseSpans};
 use std::alloc::Global;
 use std::marker::Model;
 
-/// The head of a response, as httparse cuts it. Contracts see its parts.
+/// The head of a response as `httparse` splits it. Its model is the list of its parts.
 #[derive(Drop)]
 pub(crate) struct Head<'a> {
     bytes: &'a [u8],
@@ -24,13 +24,16 @@ impl<'a> Model for Head<'a> {
 
     ghost Value = { HeadParts };
 
-    ghost view = { λ head. record { status = head.status; fields = map (header_bytes head.bytes.now) head.spans.now } };
+    ghost view = { λ head. record {
+      status = head.status;
+      fields = map (header_bytes head.bytes.now) head.spans.now;
+    } };
 
     ghost invariant = { λ head. All (IsHeaderWithin (length head.bytes.now)) head.spans.now };
 }
 
 impl<'a> Head<'a> {
-    /// The head whose parts stand there.
+    /// The head with these spans.
     pub(crate) fn new(bytes: &'a [u8], spans: &'a [HeaderSpan], read: ResponseSpans) -> Head<'a>
         requires { IsParsed bytes.now spans.now read }
         ensures { IsReadAs bytes.now result }
@@ -42,16 +45,18 @@ impl<'a> Head<'a> {
         }
     }
 
-    /// The status.
+    /// The status code.
     pub(crate) fn status(&self) -> u16
         ensures { result ≡ self.now.status }
     {
         self.status
     }
 
-    /// The values of all fields of a name, in order.
+    /// The values of all fields with this name, in order.
     pub(crate) fn values(&self, alloc: Global, name: &[u8]) -> Result<Vec<&'a [u8]>, NoMemory>
-        ensures { IfOk result (λ found. map (λ value. value.now) found.items ≡ values_among name.now self.now.fields) }
+        ensures { IfOk result
+            (λ found. map (λ value. value.now) found.items
+            ≡ values_among name.now self.now.fields) }
     {
         let mut found = Vec::new(alloc);
         for span in self.spans {

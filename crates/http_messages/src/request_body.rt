@@ -4,8 +4,8 @@ use crate::buffer::Buffer;
 use std::fmt;
 use std::marker::Model;
 
-/// The body of a request. Where it could be, it is the memory that the bytes of the connection were read
-/// into, which holds the head too. Contracts see the bytes of the body.
+/// The body of a request. It may own the vector that the connection's bytes were read into, which
+/// also holds the head; its model is the bytes of the body alone.
 #[derive(Drop)]
 pub struct Body {
     bytes: Buffer,
@@ -20,14 +20,14 @@ impl Model for Body {
 }
 
 impl Body {
-    /// The body of these bytes.
+    /// The body made of these bytes.
     pub(crate) fn new(bytes: Buffer) -> Body
         ensures { result ≡ bytes }
     {
         Body { bytes }
     }
 
-    /// The bytes, lent.
+    /// The bytes, borrowed.
     pub fn as_slice(&self) -> &[u8]
         ensures { result.now ≡ self.now }
     {
@@ -36,7 +36,7 @@ impl Body {
 }
 
 impl fmt::Debug for Body {
-    // Not derived: what stands before the body in the memory isn't to be printed.
+    // Not derived: the derived form would print the bytes before the body, too.
     fn fmt<W: fmt::Write>(&self, f: &mut fmt::Formatter<W>) -> fmt::Result {
         write!(f, "{:?}", self.as_slice())
     }

@@ -16,12 +16,13 @@ use flow_values::{NoMemory, Text};
 use httparse::spans::HeaderSpan;
 use std::alloc::Global;
 
-/// What bytes begin with.
+/// The first frame of some bytes, before the body is taken out of the buffer.
 #[derive(Drop)]
 pub(crate) enum Found {
-    /// More is needed, until so many bytes have come.
+    /// More bytes are needed; at least this many in all, or 0 if the head is incomplete.
     More(usize),
-    /// A request that lacks its body yet, and where that stands. The request ends with it.
+    /// A request, still without its body, and the range of the body in the bytes. The request ends
+    /// with it.
     Request {
         request: Request,
         start: usize,
@@ -30,7 +31,7 @@ pub(crate) enum Found {
     Refused(Refusal),
 }
 
-/// Checks the head that stands there, and finds its body where that is whole.
+/// Checks the head in `bytes[start..end]`, and finds its body if that is complete.
 pub(crate) fn check(
     alloc: Global,
     max_body: u64,
@@ -64,7 +65,7 @@ pub(crate) fn check(
 }
 
 impl<'a> Head<'a> {
-    /// Why the head is refused, where it is: the first of the conditions that holds.
+    /// The first reason to refuse the head, if any.
     fn refusal(&self, alloc: Global, max_body: u64) -> Result<Option<Refusal>, NoMemory>
         ensures { IfOk result (λ refusal. refusal ≡ refusal_of max_body self.now) }
     {
@@ -89,7 +90,7 @@ impl<'a> Head<'a> {
         Ok(None)
     }
 
-    /// The request, without its body.
+    /// The request, with an empty body.
     fn request(&self, alloc: Global) -> Result<Request, NoMemory>
         requires target { IsUtf8 self.now.target }
         requires texts { has_bad_text self.now ≡ false }
@@ -109,7 +110,7 @@ impl<'a> Head<'a> {
         })
     }
 
-    /// Whether the head is of HTTP/1.1 and has no Host, or has more than one.
+    /// Whether Host is repeated, or missing in HTTP/1.1 (RFC 9112, section 3.2).
     fn has_bad_host(&self, alloc: Global) -> Result<bool, NoMemory>
         ensures { IfOk result (λ bad. bad ≡ has_bad_host self.now) }
     {
@@ -117,7 +118,7 @@ impl<'a> Head<'a> {
         Ok((self.minor() == 1 && hosts == 0) || hosts > 1)
     }
 
-    /// Whether a value that is read as a text isn't UTF-8.
+    /// Whether a field that is read as text is not UTF-8.
     fn has_bad_text(&self, alloc: Global) -> Result<bool, NoMemory>
         ensures { IfOk result (λ bad. bad ≡ has_bad_text self.now) }
     {
@@ -130,7 +131,7 @@ impl<'a> Head<'a> {
         self.has_bad_text_in(alloc, b"connection")
     }
 
-    /// Whether a value of that name isn't UTF-8.
+    /// Whether a field with this name is not UTF-8.
     fn has_bad_text_in(&self, alloc: Global, name: &[u8]) -> Result<bool, NoMemory>
         ensures { IfOk result (λ bad. bad ≡ has_bad_text_in name.now self.now) }
     {
@@ -138,7 +139,7 @@ impl<'a> Head<'a> {
         Ok(!are_texts(&values))
     }
 
-    /// Whether the body has a transfer coding.
+    /// Whether the body has a transfer coding, which this server does not decode.
     fn has_coding(&self, alloc: Global) -> Result<bool, NoMemory>
         ensures { IfOk result (λ coding. coding ≡ has_coding self.now) }
     {
@@ -146,7 +147,7 @@ impl<'a> Head<'a> {
         Ok(codings.len() > 0)
     }
 
-    /// Whether the lengths that are stated aren't one number.
+    /// Whether the Content-Length values are malformed or differ.
     fn has_bad_length(&self, alloc: Global) -> Result<bool, NoMemory>
         ensures { IfOk result (λ bad. bad ≡ has_bad_length self.now) }
     {
@@ -154,7 +155,7 @@ impl<'a> Head<'a> {
         Ok(!all_state(&lengths, first_length(&lengths)))
     }
 
-    /// Whether a POST states no length.
+    /// Whether this is a POST without Content-Length.
     fn lacks_length(&self, alloc: Global) -> Result<bool, NoMemory>
         ensures { IfOk result (λ lacks. lacks ≡ lacks_length self.now) }
     {
@@ -162,7 +163,7 @@ impl<'a> Head<'a> {
         Ok(Method::of(alloc, self.method()).is_post() && lengths == 0)
     }
 
-    /// How many bytes the body has.
+    /// The length of the body in bytes.
     fn body_length(&self, alloc: Global) -> Result<u64, NoMemory>
         ensures length { IfOk result (λ size. size ≡ body_length self.now) }
         ensures small { IfOk result (λ size. size < 10 ^ 18) }
@@ -171,7 +172,7 @@ impl<'a> Head<'a> {
         Ok(first_length(&lengths))
     }
 
-    /// Whether the connection ends after the answer.
+    /// Whether the connection closes after the response: HTTP/1.0, or `Connection: close`.
     fn closes(&self, alloc: Global) -> Result<bool, NoMemory>
         ensures { IfOk result (λ close. close ≡ closes self.now) }
     {

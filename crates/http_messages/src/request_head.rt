@@ -9,7 +9,7 @@ use httparse::spans::{HeaderSpan, RequestSpans};
 use std::alloc::Global;
 use std::marker::Model;
 
-/// The head of a request, as httparse cuts it. Contracts see its parts.
+/// The head of a request as `httparse` splits it. Its model is the list of its parts.
 #[derive(Drop)]
 pub(crate) struct Head<'a> {
     bytes: &'a [u8],
@@ -37,7 +37,7 @@ impl<'a> Model for Head<'a> {
 }
 
 impl<'a> Head<'a> {
-    /// The head whose parts stand there.
+    /// The head with these spans.
     pub(crate) fn new(bytes: &'a [u8], spans: &'a [HeaderSpan], read: RequestSpans) -> Head<'a>
         requires { IsParsed bytes.now spans.now read }
         ensures { IsReadAs bytes.now result }
@@ -51,7 +51,7 @@ impl<'a> Head<'a> {
         }
     }
 
-    /// The name of the method.
+    /// The method's name.
     pub(crate) fn method(&self) -> &'a [u8]
         ensures { result.now ≡ self.now.method }
     {
@@ -65,16 +65,17 @@ impl<'a> Head<'a> {
         self.target
     }
 
-    /// The minor version.
+    /// The minor version: 0 for HTTP/1.0, 1 for HTTP/1.1.
     pub(crate) fn minor(&self) -> u8
         ensures { result ≡ self.now.minor }
     {
         self.minor
     }
 
-    /// The values of all fields of a name, in order.
+    /// The values of all fields with this name, in order.
     pub(crate) fn values(&self, alloc: Global, name: &[u8]) -> Result<Vec<&'a [u8]>, NoMemory>
-        ensures { IfOk result (λ found. map (λ value. value.now) found.items ≡ values name.now self.now) }
+        ensures { IfOk result
+            (λ found. map (λ value. value.now) found.items ≡ values name.now self.now) }
     {
         let mut found = Vec::new(alloc);
         for span in self.spans {

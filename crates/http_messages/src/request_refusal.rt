@@ -4,23 +4,23 @@ ghost use Rattle.http_messages.specs.Statuses.{status_of, title_of};
 use crate::Status;
 use std::fmt;
 
-/// Why the bytes of a connection are refused. After a refusal the connection ends.
+/// Why the bytes of a connection are refused. The connection closes after a refusal.
 #[derive(Clone, Copy, Debug, PartialEq, Eq, Hash)]
 pub enum Refusal {
-    /// The head isn't one by the grammar, lacks its Host, or says what nobody can read.
+    /// The head does not match the grammar, lacks Host, or contradicts itself.
     BadRequest,
-    /// A POST states no length.
+    /// A POST has no Content-Length.
     LengthRequired,
-    /// The body is larger than the session takes.
+    /// The body is larger than the session allows.
     BodyTooLarge,
-    /// The head doesn't end within `MAX_HEAD` bytes.
+    /// The head does not end within `MAX_HEAD` bytes.
     HeadTooLarge,
     /// The body has a transfer coding.
     TransferCoding,
 }
 
 impl Refusal {
-    /// The status of the answer.
+    /// The status of the error response.
     pub fn status(self) -> Status
         ensures { result ≡ status_of self }
     {
@@ -33,7 +33,7 @@ impl Refusal {
         }
     }
 
-    /// The title of the answer.
+    /// The title in the error response.
     pub fn title(self) -> &'static str
         ensures { result.now ≡ title_of self }
     {

@@ -1,25 +1,29 @@
+//! A resumable linear search for the empty line that ends a head. The search resumes two bytes
+//! before the end of what it saw, so k bytes that arrive in n pieces take O(k + n).
+
 ghost use Rattle.std.specs.Prelude.{◌≡◌, ◌-◌, ◌≤◌, ◌<◌, None, length, max, slice_index, IfSome, MatchOption};
 ghost use Rattle.http_messages.specs.RequestHeads.{is_last_line_end, after_empty_line, HasNoEnd, IsFirstEnd, IsHeadAt};
 ghost use Rattle.http_messages.specs.inner.Searching.{IsSearched, SkipsTo, HasNoHead};
 
-/// The search for the end of a head in bytes that grow. What it has passed it doesn't look at again.
+/// The state of the search for the end of a head in a growing buffer.
 #[derive(Clone, Copy)]
 pub(crate) struct HeadSearch {
-    /// Where the head begins, as far as is known: the bytes before are CR and LF.
+    /// The offset where the head begins: all bytes before it are CR or LF.
     pub(crate) start: usize,
-    /// Where the search goes on: no head ends before it.
+    /// The offset where the search resumes: no head ends before it.
     pub(crate) next: usize,
 }
 
 impl HeadSearch {
-    /// The search that has passed nothing yet.
+    /// A search that has seen nothing.
     pub(crate) fn new() -> HeadSearch
         ensures { (result.start ≡ 0) × (result.next ≡ 0) }
     {
         HeadSearch { start: 0, next: 0 }
     }
 
-    /// Where the head ends that the bytes begin with, where it does. It begins at `start`.
+    /// The offset after the head that the bytes begin with, if it is complete. The head begins at
+    /// `start`.
     pub(crate) fn find(&mut self, bytes: &[u8]) -> Option<usize>
         requires { IsSearched bytes.now self.old }
         ensures found { IfSome result (IsHeadAt bytes.now self.new.start) }
@@ -38,10 +42,11 @@ impl HeadSearch {
     }
 }
 
-/// How far the search got: to the line end that it found, or so far that bytes to come can't change what
-/// was passed.
+/// The offset to resume from: that of the line end found, or the last one that later bytes cannot
+/// affect.
 fn passed(bytes: &[u8], from: usize, end: Option<usize>) -> usize
-    ensures { MatchOption end (result ≡ max from (length bytes.now - 2)) (λ offset. result ≡ offset) }
+    ensures { MatchOption end (result ≡ max from (length bytes.now - 2))
+        (λ offset. result ≡ offset) }
 {
     match end {
         Some(offset) => offset,
@@ -49,7 +54,7 @@ fn passed(bytes: &[u8], from: usize, end: Option<usize>) -> usize
     }
 }
 
-/// The offset from `from` on where there is neither CR nor LF, or the end of the bytes.
+/// The first offset from `from` on with neither CR nor LF, or the length of the bytes.
 fn skip_line_ends(bytes: &[u8], from: usize) -> usize
     requires { from ≤ length bytes.now }
     ensures { SkipsTo bytes.now from result }
@@ -62,7 +67,7 @@ fn skip_line_ends(bytes: &[u8], from: usize) -> usize
     bytes.len()
 }
 
-/// The first LF from `from` on with an empty line behind it.
+/// The first LF from `from` on that an empty line follows.
 pub fn last_line_end(bytes: &[u8], from: usize) -> Option<usize>
     ensures some { IfSome result (IsFirstEnd bytes.now from) }
     ensures none { result ≡ None → HasNoEnd bytes.now from (length bytes.now) }
@@ -75,7 +80,7 @@ pub fn last_line_end(bytes: &[u8], from: usize) -> Option<usize>
     None
 }
 
-/// Whether an LF with an empty line behind it stands there.
+/// Whether an LF followed by an empty line is at this offset.
 fn is_last_line_end(bytes: &[u8], offset: usize) -> bool
     requires { offset < length bytes.now }
     ensures { result ≡ is_last_line_end bytes.now offset }
@@ -85,7 +90,7 @@ fn is_last_line_end(bytes: &[u8], offset: usize) -> bool
         && (second == b'\n' || (second == b'\r' && byte_at(bytes, offset + 2) == b'\n'))
 }
 
-/// Where the empty line behind the LF ends.
+/// The offset after the empty line that follows the LF.
 fn end_of_head(bytes: &[u8], offset: usize) -> usize
     requires { offset < length bytes.now }
     ensures { result ≡ after_empty_line bytes.now offset }
@@ -97,7 +102,7 @@ fn end_of_head(bytes: &[u8], offset: usize) -> usize
     }
 }
 
-/// The byte at a offset, or 0 behind the last.
+/// The byte at an offset, or 0 past the end.
 fn byte_at(bytes: &[u8], offset: usize) -> u8
     ensures { result ≡ slice_index bytes.now offset }
 {

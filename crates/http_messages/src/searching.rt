@@ -7,8 +7,8 @@ ghost use Rattle.http_messages.specs.inner.Reading.{ReadsHead};
 use crate::{HeadRefusal, MAX_HEAD, ReplyEnd, last_line_end};
 use flow_edges::Source;
 
-/// Reads a head into the front of the buffer, and answers how long it is. Each read asks for no more
-/// bytes than the head must still have, so that none past it is taken.
+/// Reads a head into the front of the buffer, and returns its length. Each read asks for at most
+/// the bytes that the head must still have, so that none after it is read.
 pub(crate) fn read_head<S: Source>(link: &mut S, buffer: &mut [u8]) -> Result<usize, ReplyEnd>
     requires room { length buffer.now ≡ MAX_READ }
     ensures reads { ReadsHead buffer.new (S.left link.old) (S.left link.new) result }
@@ -31,12 +31,13 @@ pub(crate) fn read_head<S: Source>(link: &mut S, buffer: &mut [u8]) -> Result<us
     Err(ReplyEnd::Refused(HeadRefusal::BadHead))
 }
 
-/// How many bytes a head must still have that begins with these, in which none has ended: with fewer of
-/// them none has ended either.
+/// A lower bound of 1 or 2 on the bytes that a head beginning with these must still have.
 fn lacking(bytes: &[u8]) -> usize
     ensures some { 1 ≤ result }
     ensures few { result ≤ 2 }
-    ensures lacks { (more : List ℕ) → length more < result → HoldNoHead bytes.now → HoldNoHead (bytes.now ++ more) }
+    // fewer than `result` more bytes cannot complete the head
+    ensures lacks { (more : List ℕ) → length more < result → HoldNoHead bytes.now
+        → HoldNoHead (bytes.now ++ more) }
 {
     if bytes.ends_with(b"\n") || bytes.ends_with(b"\n\r") {
         1

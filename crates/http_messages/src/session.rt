@@ -12,15 +12,15 @@ use httparse::spans::{EMPTY_HEADER_SPAN, HeaderSpan};
 use std::alloc::Global;
 use std::marker::Model;
 
-/// The requests of a connection's bytes (RFC 9112), which are fed to it as they come. Contracts see the
-/// greatest body that it takes, and the bytes that were fed and not yet given.
+/// An incremental parser for the requests of one connection (RFC 9112). Its model is the maximum
+/// body size and the bytes that were fed and not yet returned as a request.
 #[derive(Drop)]
 pub struct Session {
     alloc: Global,
     max_body: u64,
     buffer: Buffer,
     search: HeadSearch,
-    /// Until so many bytes are there, more is needed.
+    /// Below this many buffered bytes, the next frame is known to be `More`.
     needed: usize,
     spans: Vec<HeaderSpan>,
 }
@@ -33,11 +33,13 @@ impl Model for Session {
 
     ghost view = { λ session. record { max_body = session.max_body; fed = session.buffer } };
 
-    ghost invariant = { λ session. IsSession session.max_body session.buffer session.search session.needed session.spans.items };
+    ghost invariant = { λ session.
+        IsSession session.max_body session.buffer session.search session.needed
+        session.spans.items };
 }
 
 impl Session {
-    /// A session to which nothing was fed. It takes bodies of at most so many bytes.
+    /// A session without bytes. It accepts bodies of at most `max_body` bytes.
     pub fn new(alloc: Global, max_body: u64) -> Result<Session, NoMemory>
         ensures { IfOk result (λ session. session ≡ record { max_body = max_body; fed = [] }) }
     {
@@ -52,19 +54,22 @@ impl Session {
         })
     }
 
-    /// Feeds the next bytes of the connection. Without memory the session stays as it was.
+    /// Appends the next bytes of the connection. When out of memory, the session is unchanged.
     pub fn feed(&mut self, chunk: &[u8]) -> Result<(), NoMemory>
-        ensures ok { OnOk result (self.new ≡ record { max_body = self.old.max_body; fed = self.old.fed ++ chunk.now }) }
+        ensures ok { OnOk result
+            (self.new ≡ record { max_body = self.old.max_body; fed = self.old.fed ++ chunk.now }) }
         ensures err { OnErr result (self.new ≡ self.old) }
     {
         self.buffer.push(chunk)?;
         Ok(())
     }
 
-    /// What the bytes begin with that were fed and not yet given. A request is taken from them; else
-    /// they stay, so that a refusal is repeated. Without memory the session stays as it was.
+    /// The first frame of the buffered bytes. A request is removed from them. `More` and `Refused`
+    /// leave them, so a refusal is repeated. When out of memory, the session is unchanged.
     pub fn next_request(&mut self) -> Result<Frame, NoMemory>
-        ensures first { IfOk result (λ frame. IsFirstFrame self.old.max_body self.old.fed frame self.new.fed) }
+        // `self.new.fed` are the bytes after a request; otherwise all bytes stay
+        ensures first { IfOk result
+            (λ frame. IsFirstFrame self.old.max_body self.old.fed frame self.new.fed) }
         ensures greatest { self.new.max_body ≡ self.old.max_body }
         ensures err { OnErr result (self.new ≡ self.old) }
     {

@@ -4,7 +4,7 @@ ghost use Rattle.http_messages.specs.Statuses.{code_of, phrase_of};
 
 use http::StatusCode;
 
-/// A status of an answer (RFC 9110, section 15): those codes of `http` that occur.
+/// A response status (RFC 9110, section 15): those that this server sends.
 #[derive(Clone, Copy, Debug, PartialEq, Eq, Hash)]
 pub enum Status {
     Okay,
@@ -25,14 +25,14 @@ pub enum Status {
 }
 
 impl Status {
-    /// The status as a number of three digits.
+    /// The three-digit code.
     pub fn code(self) -> u16
         ensures { result ≡ code_of self }
     {
         self.known().as_u16()
     }
 
-    /// What the status means, in the words of `http`.
+    /// The reason phrase.
     pub fn phrase(self) -> &'static str
         ensures phrase { result.now ≡ phrase_of self }
         ensures known { reason_phrase (code_of self) ≡ Some result.now }
@@ -40,7 +40,7 @@ impl Status {
         self.known().canonical_reason().unwrap_or("")
     }
 
-    /// The status as `http` has it.
+    /// The status as a type of the crate `http`.
     fn known(self) -> StatusCode
         ensures { result ≡ code_of self }
     {

@@ -21,7 +21,7 @@ fn is_text(value: &[u8]) -> bool
     from_utf8(value).is_ok()
 }
 
-/// The text of a value.
+/// The value as a `str`.
 pub(crate) fn text_of(value: &[u8]) -> &str
     requires { is_utf8 value.now ≡ true }
     ensures { result.now ≡ value.now }
@@ -32,7 +32,7 @@ pub(crate) fn text_of(value: &[u8]) -> &str
     }
 }
 
-/// The texts of the values, joined by a comma and a space.
+/// The values joined by `, ` (RFC 9110, section 5.3), or `None` if there are none.
 pub(crate) fn joined(alloc: Global, values: &[&[u8]]) -> Result<Option<Text>, NoMemory>
     requires { list_all (λ value. is_utf8 value.now) values.now ≡ true }
     ensures { IfOk result (λ text. text ≡ joined (map (λ value. value.now) values.now)) }
@@ -48,7 +48,7 @@ pub(crate) fn joined(alloc: Global, values: &[&[u8]]) -> Result<Option<Text>, No
     Ok(Some(text))
 }
 
-/// The text of the first of the values.
+/// The first value as text, if any.
 pub(crate) fn first_text(alloc: Global, values: &[&[u8]]) -> Result<Option<Text>, NoMemory>
     requires { list_all (λ value. is_utf8 value.now) values.now ≡ true }
     ensures { IfOk result (λ text. text ≡ first_of (map (λ value. value.now) values.now)) }

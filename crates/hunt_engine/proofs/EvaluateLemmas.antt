@@ -196,7 +196,7 @@ owners_none owners positions = record {
 }
 
 module _ (owners positions : List ℕ) (i : ℕ) (affected : List ℕ) (far : AreOwners owners positions i affected) (at : ℕ) (at_is : slice_get positions i ≡ Some at) (position : ℕ) (position_is : slice_get owners at ≡ Some position) where
-  -- none that is there is behind the owner of the next one
+  -- none that is there is after the owner of the next one
   pub least : NeverFalls positions → NeverFalls owners → (k other : ℕ) → slice_get affected k ≡ Some other → other ≤ position
   least in_order falls k other there =
       let o = far.owned k other there in

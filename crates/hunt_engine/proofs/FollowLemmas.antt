@@ -37,7 +37,7 @@ matches_more : (p : Pattern) (retained_limit : ℕ) (log : List LogEntry) (r : L
 matches_more p retained_limit log r seen None nonmatching is = is
 matches_more p retained_limit log r seen (Some matcher) nonmatching is = (is.0, is.1, lags_more log r seen matcher nonmatching is.2)
 
--- the row goes on behind the log in order
+-- the row goes on after the log in order
 pub order_more : (row : NextRow) (log : List LogEntry) (truths : List Bool) → IsInOrder log → EndsAt log row.rows row.before → Continues row →
     IsInOrder (log ++ record { first = row.first; last = row.last; truths = truths } ∷ [])
 order_more row log truths order ends goes =
@@ -85,7 +85,7 @@ last_of_nonmatching : (before nonmatching : List LogEntry) (last : ℤ) → 1 �
 last_of_nonmatching before [] last h e = absurd (omega (arith, h))
 last_of_nonmatching before (q ∷ nonmatching) last h e = sym (last_behind before q nonmatching) ∙ e
 
--- the rows that a matcher missed are nonmatching, and go on behind those that it saw
+-- the rows that a matcher missed are nonmatching, and go on after those that it saw
 pub missed : (log : List LogEntry) (seen : ℕ) (matcher : MatcherState) (rows : ℕ) (last : ℤ) (lags : LagsBehind log seen matcher) → IsInOrder log → EndsAt log rows (Some last) → seen < rows →
     ContinuesWithoutMatch lags.before lags.nonmatching (rows - seen) last
 missed log seen matcher rows last lags order ends h =
@@ -106,7 +106,7 @@ no_rows [] e = refl
 no_rows (x ∷ []) e = absurd (cc)
 no_rows (x ∷ y ∷ log) e = absurd (let k = no_rows (y ∷ log) e in omega (arith, k))
 
--- a matcher that stands for the log lags behind by nothing
+-- a matcher that stands for the log lags after by nothing
 stands_lags : (log : List LogEntry) (seen : ℕ) (matcher : MatcherState) → Represents matcher log → seen ≡ length log → LagsBehind log seen matcher
 stands_lags log seen matcher represents e = record { before = log; nonmatching = []; log_is = sym (append-nil log); none_holds = tt; count = e; represents = represents }
 

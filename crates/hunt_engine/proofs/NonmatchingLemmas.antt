@@ -11,12 +11,12 @@ use Rattle.match_bindings.specs.Test.{is_binding}
 use Rattle.match_bindings.specs.Once.{same, count}
 use Rattle.match_bindings.proofs.OnceLemmas.{same_self}
 use Rattle.match_pruning.specs.Stores.{Part, a_side, a_level, Store, stores_of}
-use Rattle.match_stream.specs.PartialMatchTree.{PartialMatchTree, hold}
+use Rattle.match_pruning.specs.PartialMatchTree.{PartialMatchTree, hold}
 use Rattle.match_stream.specs.RetainedPart.{MayHold, HoldsRetained, AreRetained, time_of, held_count}
 use Rattle.match_stream.specs.Answer.{IsAnswer, IsWithinLimit}
 use Rattle.match_stream.specs.Passing.{IsNonmatching}
-use Rattle.match_stream.specs.inner.Retains.{retains}
-use Rattle.match_stream.specs.inner.Steps.{kept}
+use Rattle.match_pruning.specs.inner.Retains.{retains}
+use Rattle.match_pruning.specs.inner.Steps.{kept}
 use Rattle.match_stream.proofs.StoreLemmas.{AreHeld, held_same, exactly_same, bit_positive, kept_law}
 use Rattle.match_stream.proofs.LastingLemmas.{Continues, SameTimes, same_times, lasting}
 use Rattle.match_stream.proofs.LogLemmas.{get_seam, holds_inside, length_more, continues, time_new, nothing}

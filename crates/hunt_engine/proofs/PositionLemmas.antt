@@ -1,4 +1,4 @@
--- What stands at a position of a list: behind a seam, after a write, and in a list of one number.
+-- What stands at a position of a list: after a seam, after a write, and in a list of one number.
 use Rattle.std.proofs.Common.{◌≡◌, ℕ, zero, suc, ◌+◌, ◌<◌, List, [], ◌∷◌, ◌++◌, length, set, get_or, refl, sym, ◌∙◌, ap, subst, arith, inl, inr, append_assoc}
 use Rattle.std.specs.Prelude.{◌⊎◌, Bool, true, false, nat_eq, nat_lt, Some, All, Contains, map, slice_get}
 use Rattle.std.specs.Option.{option_map}

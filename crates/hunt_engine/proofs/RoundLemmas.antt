@@ -24,7 +24,8 @@ use Rattle.hunt_engine.specs.EngineState.{EngineState, FollowsRows, EngineRepres
 use Rattle.hunt_engine.specs.EngineAnswer.{binds_at, ReportsRow, IsFirstOverLimit}
 use Rattle.hunt_engine.specs.inner.Following.{EndsAt, TakesRow, log_with, Continues}
 use Rattle.hunt_engine.specs.inner.Table.{part_of, IsTable}
-use Rattle.hunt_engine.specs.inner.Evaluation.{IsAscending, IsEvaluated}
+use Rattle.hunt_engine.specs.inner.Evaluation.{IsEvaluated}
+use Rattle.hunt_feed.specs.Indicators.{IsAscending}
 use Rattle.hunt_engine.specs.inner.Round.{AllFollow, TookSome, CrowdsAt, StillFollow}
 use Rattle.hunt_engine.proofs.PositionLemmas.{same_or_other, got, there}
 use Rattle.hunt_engine.proofs.NonmatchingLemmas.{nonmatching_answer}
@@ -51,7 +52,7 @@ pub find : (xs : List ℕ) (n : ℕ) → Stands xs n
 find [] n = inr (λ k h. cc)
 find (x ∷ xs) n = find_more xs x n (same_or_other x n) (find xs n)
 
--- what stands before another number in a ascending list is less
+-- what stands before another number in an ascending list is less
 pub stands_before : (xs : List ℕ) (i k m n : ℕ) → IsAscending xs → slice_get xs i ≡ Some n → slice_get xs k ≡ Some m → m < n → k < i
 stands_before xs i k m n ascend at_i at_k less = elim (cases_order i k) [ inl same ↦ one same | inr other ↦ elim other [ inl h ↦ after h | inr h ↦ h ] ] where
   one : i ≡ k → k < i

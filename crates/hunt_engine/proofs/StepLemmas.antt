@@ -14,7 +14,7 @@ use Rattle.hunt_engine.specs.declared.brackets.BracketRange.{BracketRange}
 use Rattle.hunt_engine.specs.LazyMatcherState.{LazyMatcherState, Follows}
 use Rattle.hunt_engine.specs.EngineAnswer.{binds_at}
 use Rattle.hunt_engine.specs.inner.Table.{part_of}
-use Rattle.hunt_engine.specs.inner.Evaluation.{IsAscending}
+use Rattle.hunt_feed.specs.Indicators.{IsAscending}
 use Rattle.hunt_engine.specs.inner.Following.{EndsAt}
 use Rattle.hunt_engine.specs.inner.Round.{Takes, TookSome, StillFollow, found_of}
 use Rattle.hunt_engine.proofs.PositionLemmas.{same_or_other, seam, got, get_one, get_set, get_set_other}

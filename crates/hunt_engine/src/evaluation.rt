@@ -6,7 +6,8 @@ ghost use Rattle.pattern_types.specs.PlainLeaf.{plain_leaf};
 ghost use Rattle.pattern_types.specs.Soundness.{IsSoundLeaf};
 ghost use Rattle.hunt_engine.specs.EngineAnswer.{NeverFalls};
 ghost use Rattle.hunt_engine.specs.Memo.{IsSoundMemo};
-ghost use Rattle.hunt_engine.specs.inner.Evaluation.{IsAscending, AreClear, IsEvaluated, MarksMatching, MarksMore, AreOwners, AddsPosition};
+ghost use Rattle.hunt_engine.specs.inner.Evaluation.{AreClear, IsEvaluated, MarksMatching, MarksMore, AreOwners, AddsPosition};
+ghost use Rattle.hunt_feed.specs.Indicators.{IsAscending};
 
 use crate::Memo;
 use crate::brackets::Brackets;

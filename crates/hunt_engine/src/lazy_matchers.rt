@@ -5,7 +5,7 @@ ghost use Rattle.match_bindings.specs.BindTree.{tree_of};
 ghost use Rattle.hunt_engine.specs.declared.brackets.BracketRange.{BracketRange};
 ghost use Rattle.hunt_engine.specs.declared.refusal.EngineRefusal.TheVariants as refusal;
 ghost use Rattle.hunt_engine.specs.inner.Following.{Continues};
-ghost use Rattle.hunt_engine.specs.inner.Evaluation.{IsAscending};
+ghost use Rattle.hunt_feed.specs.Indicators.{IsAscending};
 ghost use Rattle.hunt_engine.specs.inner.Round.{AllFollow, TookSome, CrowdsAt, StillFollow, found_of};
 
 use crate::brackets::Brackets;

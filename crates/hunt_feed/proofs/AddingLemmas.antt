@@ -34,7 +34,7 @@ get_map f [] k y is = absurd cc
 get_map f (x ∷ xs) zero y is = (x, refl, is)
 get_map f (x ∷ xs) (suc k) y is = get_map f xs k y is
 
--- a number behind ascending numbers that are less
+-- a number after ascending numbers that are less
 pub ascending_push : (ns : List ℕ) (n : ℕ) → IsAscending ns → ((k m : ℕ) → slice_get ns k ≡ Some m → m < n) → IsAscending (ns ++ n ∷ [])
 ascending_push ns n ascend below j k first second less there also =
     elim (get_cases ns n k second also) [

@@ -1,7 +1,7 @@
 -- The line of a refusal, as its pieces tell it.
 use Rattle.std.proofs.Common.{◌≡◌, ℕ, List, [], ◌∷◌, ◌++◌, codes, append_assoc, refl, sym, ap, ◌∙◌}
 use Rattle.match_input.specs.Texts.{at_path, line_of_text}
-use Rattle.hunt_feed.specs.inner.Reasons.{path_lead}
+use Rattle.match_input.specs.inner.Reason.{path_lead}
 
 led : (name path : List ℕ) → name ++ (path_lead path ++ (path ++ codes "\n")) ≡ at_path name path ++ codes "\n"
 led name [] = refl

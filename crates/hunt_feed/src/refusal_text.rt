@@ -5,7 +5,8 @@ ghost use Rattle.flow_edges.specs.Faults.{Counted};
 ghost use Rattle.flow_edges.specs.Flow.{WritesWhole};
 ghost use Rattle.match_input.specs.Texts.{at_path, json_text, line_of_text};
 ghost use Rattle.hunt_feed.specs.Texts.{first_break_text, rule_text, feed_refusal_text};
-ghost use Rattle.hunt_feed.specs.inner.Reasons.{reason_text, path_lead};
+ghost use Rattle.hunt_feed.specs.inner.Reasons.{reason_text};
+ghost use Rattle.match_input.specs.inner.Reason.{path_lead};
 
 use crate::FeedRule;
 use flow_edges::{Sink, write_all_vectored};

@@ -36,7 +36,7 @@ front_reaches objects last (step ∷ front) rest value found reaches =
     let more = front_reaches objects (last_name last step) front rest reaches.0 found reaches.2 in
     (more.0, (reaches.0, reaches.1, more.1))
 
--- a index key with the path is met where its steps reach a value that its key stands for
+-- an index key with the path is met where its steps reach a value that its key stands for
 pub index_key_met : (objects : List Data) (root : ℕ) (kind : List ℕ) (steps : List Step) (index_keys : List IndexKey) (from value : Data) → ArePlain steps
     → IsRoot objects root kind from → Reaches objects None steps from value → HasIndexKey kind steps (λ own. Fits own value) index_keys → SomeMet objects root index_keys
 index_key_met objects root kind steps index_keys from value plain is_root reaches has = (
@@ -52,7 +52,7 @@ index_key_met objects root kind steps index_keys from value plain is_root reache
   },
 )
 
--- a index key with any other fact of its key that follows
+-- an index key with any other fact of its key that follows
 pub weaker : (kind : List ℕ) (steps : List Step) (Fact More : Key → Type 0) (index_keys : List IndexKey) → ((own : Key) → Fact own → More own)
     → HasIndexKey kind steps Fact index_keys → HasIndexKey kind steps More index_keys
 weaker kind steps Fact More index_keys follows has = record {
@@ -126,7 +126,7 @@ whole_answers constant whole own is same =
     (subst (λ (c : Constant). Answers c (key.Integer whole)) (sym is) (λ definite last value fits. (whole, fits, sym (tied_itself int_cmp_total whole))))
 
 module _ (test : Test) (definite : IsDefiniteTest test) where
-  -- a index key by the path of an definite test is sufficient where each value that its key stands for meets the check
+  -- an index key by the path of a definite test is sufficient where each value that its key stands for meets the check
   shown_holds : (index_key : IndexKey) → index_key.kind.now ≡ test.path.kind → index_key.steps.now ≡ test.path.steps
       → ((value : Data) → Fits index_key.key value → Meets (last_of test.path) value test.check) → IsSufficient (λ objects root. TestHolds objects root test) index_key
   shown_holds index_key kind_is steps_are meets objects root shown =

@@ -15,7 +15,7 @@ use Rattle.hunt_index.specs.inner.IndexKeys.{AreIndexKeys, IsSufficient, AreSuff
 use Rattle.hunt_index.proofs.ListLemmas.{in_map}
 use Rattle.hunt_index.specs.inner.Postings.{AreAmong, IsCovered, Adds, IsPostingOf, IsOpen, IsPostingIn, IsOpenIn, AddsBracket, ArePostingsOf}
 
--- a index key beside its place
+-- an index key beside its place
 abbrev pub posting_of : ℕ → IndexKey → Posting
 posting_of bracket index_key = record { index_key = index_key; bracket = bracket }
 

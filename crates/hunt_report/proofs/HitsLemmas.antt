@@ -151,7 +151,7 @@ row_ends patterns rows own reports k hit at = by (slice_get patterns hit.hunted)
               ∙ log_length (plain_pattern p) rows answer.0 answer.1;
         }
 
--- behind the rows that were taken before
+-- after the rows that were taken before
 abbrev EndBehind : ℕ → List Hit → Type 0
 EndBehind number hits = (k : ℕ) (hit : Hit) → slice_get hits k ≡ Some hit → number < end_of hit
 

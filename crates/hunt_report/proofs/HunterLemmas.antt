@@ -245,7 +245,7 @@ sees-more objects seen o before between after text own takes then =
     subst (λ (rows : List Row). TakesRows rows before after (text ++ hits_text between.hunted own)) (sym (map-append (λ (q : Observation). row_of q objects) seen (o ∷ [])))
     (takes-more (rows_over objects seen) (row_of o objects) before between after text own takes then)
 
--- ---- what is true behind some rows
+-- ---- what is true after some rows
 
 pub ready-after : (rows : List Row) (before after : HunterState) (text : List ℕ) → IsReady before → TakesRows rows before after text → IsReady after
 ready-after rows before after text ready takes =
@@ -288,7 +288,7 @@ last-after objects observations before after text ready takes =
     told.1.engine.last_is ∙ last_over objects observations ready.rows
     ∙ ap (λ (last : Option ℤ). last_after last observations) (sym ready.hunts.engine.last_is)
 
--- what may follow behind one row
+-- what may follow after one row
 pub follow-after : (before after : HunterState) (o : Observation) (objects : List Data) (own : List Hit) (observations : List Observation)
     → IsReady before → TakesRow (row_of o objects) before after own
     → MayFollow (Some o.last) ((before.engine.rows + 1) + 1) observations → MayFollow after.engine.last (after.engine.rows + 1) observations

@@ -21,7 +21,7 @@ module _ {A : Type 0} (line : A → List ℕ) (xs : List A) (i : ℕ) (x : A) (w
       ap (flat_map line) (take_more xs i x within ∙ ap (λ (y : A). take i xs ++ y ∷ []) (sym is))
       ∙ flat_map-append line (take i xs) (x ∷ []) ∙ ap (λ (t : List ℕ). flat_map line (take i xs) ++ t) (append-nil (line x))
 
-  -- and those behind it
+  -- and those after it
   pub lines_all : flat_map line xs ≡ (flat_map line (take i xs) ++ line x) ++ flat_map line (drop (i + 1) xs)
   lines_all =
       ap (flat_map line) (sym (take-append-drop (i + 1) xs)) ∙ flat_map-append line (take (i + 1) xs) (drop (i + 1) xs)
@@ -52,7 +52,7 @@ pub kind_at : (hunted : List Hunted) (place : ℕ) (indicator : Hunted) → plac
     → All (λ h. IsKind h.id.kind) hunted → IsKind indicator.id.kind
 kind_at hunted place indicator inside is all = subst (λ (h : Hunted). IsKind h.id.kind) (sym is) (all place indicator inside)
 
--- an item, and what stands behind it
+-- an item, and what stands after it
 pub drop_at : {A : Type 0} (xs : List A) (i : ℕ) (x : A) → i < length xs → x ≡ get_or xs i x → drop i xs ≡ x ∷ drop (i + 1) xs
 drop_at {A} xs i x within is =
     let next : suc i ≡ i + 1 = omega arith in

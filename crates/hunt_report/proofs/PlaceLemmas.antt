@@ -1,4 +1,4 @@
--- What stands at a place of a list: behind a seam, and after a write.
+-- What stands at a place of a list: after a seam, and after a write.
 use Rattle.std.proofs.Common.{◌≡◌, ℕ, zero, suc, ◌+◌, ◌<◌, ◌≤◌, List, [], ◌∷◌, ◌++◌, length, set, get_or, refl, sym, ◌∙◌, ap, subst, arith, inl, inr}
 use Rattle.std.specs.Prelude.{◌⊎◌, Bool, true, false, nat_eq, nat_lt, Some, All, slice_get}
 use Rattle.std.proofs.lemmas.List.Elements.{All-get_or}

@@ -60,7 +60,7 @@ one_way x y h = by (comes_before x y) refl where
   by false e = e
   by true e = absurd (let twice : comes_before x x ≡ true = before_trans x y x e h in let never = never_before_itself x in cc)
 
--- behind y, which it doesn't come before
+-- after y, which it doesn't come before
 put_behind : (x y : BindTree) (ys : List BindTree) → comes_before x y ≡ false → Sorted (y ∷ ys) → Sorted (put x ys) → Sorted (y ∷ put x ys)
 put_behind x y [] h up put_up = (h, tt)
 put_behind x y (z ∷ zs) h up put_up = by (comes_before z x) put_up where

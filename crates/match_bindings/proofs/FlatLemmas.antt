@@ -112,7 +112,7 @@ before_trans x y z h k =
 pub never_before_itself : (x : BindTree) → comes_before x x ≡ false
 never_before_itself x = ap is_lt (tied_itself nat_list_cmp_total (rank x))
 
--- the first of a ascending list comes before each other one
+-- the first of an ascending list comes before each other one
 pub first_before : (x : BindTree) (xs : List BindTree) → Ascends (x ∷ xs) → (y : BindTree) → 0 < count y xs → comes_before x y ≡ true
 first_before x [] ascends y h = absurd (omega arith)
 first_before x (z ∷ zs) ascends y h = by_test (same y z) refl (λ k. first_before z zs ascends.1 y k) where

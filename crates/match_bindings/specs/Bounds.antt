@@ -1,4 +1,4 @@
--- The combined limits of all qualifiers above a part of a pattern (STIX 2.1, section 9.4): the
+-- The combined limits of all qualifiers above a part of a pattern (STIX 2.1, section 9.5.1): the
 -- smallest seconds of a WITHIN, the latest START and the earliest STOP. Each is absent without such
 -- a qualifier.
 use Rattle.std.specs.Prelude.{ℕ, min, ℤ, Option, Some, None}

@@ -5,7 +5,7 @@ ghost use Rattle.match_bindings.specs.inner.Candidates.{fits};
 use crate::span::Span;
 use stix_times::Instant;
 
-/// The combined limits of all qualifiers above a part of a pattern (STIX 2.1, section 9.4).
+/// The combined limits of all qualifiers above a part of a pattern (STIX 2.1, section 9.5.1).
 #[derive(Clone, Copy, Debug)]
 pub struct Bounds {
     /// The smallest number of seconds of a `WITHIN`, if any.

@@ -29,7 +29,7 @@ chars-last bs rest c utf8 front split =
     let last : chars (encode_utf8 c) ≡ c ∷ [] = chars_past_char (encode_utf8 c) [] c one (sym (append-nil (encode_utf8 c))) ∙ ap (λ rest. c ∷ rest) chars-nil in
     ap chars split ∙ chars-append rest (encode_utf8 c) front ∙ ap (λ end. chars rest ++ end) last
 
--- those before a `%` and those behind it
+-- those before a `%` and those after it
 chars-run : (bs : List ℕ) → chars (any_run ∷ bs) ≡ any_run ∷ chars bs
 unfolding chars
 chars-run [] = refl

@@ -32,7 +32,7 @@ in_more xs x y = (
   ],
 )
 
--- what is in two lists, one behind the other
+-- what is in two lists, one after the other
 pub in_both : {A : Type 0} (xs ys : List A) (y : A) → Contains (xs ++ ys) y ↔ (Contains xs y ⊎ Contains ys y)
 in_both xs ys y = (
   λ has. Contains-append_cases xs ys y has,
@@ -50,7 +50,7 @@ module _ {A : Type 0} (xs : List A) (i : ℕ) where
   pub take_whole : length xs ≤ i → take i xs ≡ xs
   take_whole end = take_all i xs end
 
-  -- the elements that come, and those behind the next one
+  -- the elements that come, and those after the next one
   pub drop_next : (x : A) → i < length xs → x ≡ get_or xs i x → drop i xs ≡ x ∷ drop (i + 1) xs
   drop_next x below is =
       let next : suc i ≡ i + 1 = omega arith in

@@ -181,7 +181,7 @@ places_same text rest segment left same most = record {
   most = λ other leaves. most.most other ((same other).0 leaves);
 }
 
--- a segment behind the last `%`, from its end
+-- a segment after the last `%`, from its end
 pub end_done : (text segment : List ℕ) → segment ≡ [] → IsLike text (any_run ∷ segment)
 end_done text segment done =
     let all = run_takes text [] [] empty_pattern in

@@ -1,4 +1,4 @@
--- How long a line is, and how what is left of a log lies in a line and in the lines behind it.
+-- How long a line is, and how what is left of a log lies in a line and in the lines after it.
 use Rattle.std.proofs.Common.{◌≡◌, ℕ, zero, suc, ◌+◌, ◌-◌, ◌%◌, ◌<◌, ◌≤◌, List, [], ◌∷◌, ◌++◌, length, take, drop, min, refl, sym, ap, ◌∙◌, arith}
 use Rattle.std.proofs.lemmas.List.{length-append, length-take-le, length-drop, take_at, take-append-le, drop-drop, drop-append-le}
 use Rattle.match_generator.specs.GeneratedLog.{next_state, drawn_number, events, time_text, line_text, lines_text}
@@ -26,7 +26,7 @@ lines_text-none : (seconds state count : ℕ) → count ≡ 0 → lines_text sec
 unfolding lines_text events
 lines_text-none seconds state count e = rw e
 
--- what is left stands in a line from a place on, and in the lines behind it; where the line is used up, nothing is left
+-- what is left stands in a line from a place on, and in the lines after it; where the line is used up, nothing is left
 pub record StandsIn (left line : List ℕ) (at : ℕ) (behind : List ℕ) : Type 0 where
   pub all : drop at line ++ behind ≡ left
   pub end : length line ≤ at → left ≡ []

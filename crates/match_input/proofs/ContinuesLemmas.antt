@@ -1,4 +1,4 @@
--- The reading of some lines and of more behind them, line by line.
+-- The reading of some lines and of more after them, line by line.
 use Rattle.std.proofs.Common.{◌≡◌, ℕ, ◌+◌, ℤ, Bool, true, false, List, [], ◌∷◌, ◌++◌, length, cond, Option, Some, None, refl, ap, ◌∙◌}
 use Rattle.serde_json.specs.Data.{Data}
 use Rattle.flow_lines.specs.Lines.{LineStream, ended, refused, line_then, RawLine, content, width, is_blank, refusal_of, unless_blank, unless_refused, lines_from}
@@ -8,7 +8,7 @@ use Rattle.match_input.specs.declared.rule.InputRule.{InputRule}
 use Rattle.match_input.specs.Line.{IsBundleLine, last_after}
 use Rattle.match_input.specs.Reading.{BundleOf, InputEnd, Whole, Refused, Reads, at_end, at_refusal, one_bundle}
 
--- where the first line is a bundle, all that comes is read as that bundle and what is behind it
+-- where the first line is a bundle, all that comes is read as that bundle and what is after it
 abbrev pub ReadsOn : Type 0
 ReadsOn = (last : Option ℤ) (next number : ℕ) (bytes : List ℕ) (later : LineStream) (objects : List Data) (observations : List Observation)
     (all : List BundleOf) (end : InputEnd) → IsBundleLine last next bytes objects observations → Reads last next (line_then number bytes later) all end

@@ -166,7 +166,7 @@ one_reads laws last next (line_then n bytes later) bundles others end other (one
     let same : more ≡ rest = tail.0 in
     (cc, tail.1)
 
--- where the first line is a bundle, the input is read as that bundle and what comes behind it
+-- where the first line is a bundle, the input is read as that bundle and what comes after it
 pub continues : Laws → (last : Option ℤ) (next number : ℕ) (bytes : List ℕ) (later : LineStream) (objects : List Data) (observations : List Observation)
     (all : List BundleOf) (end : InputEnd) → IsBundleLine last next bytes objects observations → Reads last next (line_then number bytes later) all end
     → (rest : List BundleOf) × (all ≡ record { line = number; objects = objects; observations = observations } ∷ rest)

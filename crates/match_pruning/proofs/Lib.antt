@@ -1,1 +1,12 @@
 pub mod StoresLemmas
+pub mod RetainsLemmas
+pub mod NumberLemmas
+pub mod RowNumbersLemmas
+pub mod HeapLemmas
+pub mod OldestLemmas
+pub mod NeededLemmas
+pub mod PicksLemmas
+pub mod CompletionBoundLemmas
+pub mod EarliestStartLemmas
+pub mod SkipIndexLemmas
+pub mod GreedyCompletionLemmas

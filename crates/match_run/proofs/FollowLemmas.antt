@@ -8,7 +8,7 @@ use Rattle.stix_bundles.specs.Bundle.{AreAllBreaks}
 use Rattle.stix_bundles.specs.Observations.{IsObservationAt, ObservationAt, AreObservations, IsObservedBefore}
 use Rattle.match_stream.specs.MatcherState.{Falls}
 use Rattle.match_input.specs.Line.{IsInOrder, IsBundleLine}
-use Rattle.match_run.specs.inner.Rows.{MayFollow}
+use Rattle.match_run.specs.Reading.{MayFollow}
 
 -- observations of whole bundles are spans
 abbrev pub Spans : Type 0

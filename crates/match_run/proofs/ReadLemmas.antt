@@ -18,11 +18,11 @@ use Rattle.match_input.specs.Line.{IsBundleLine, last_after}
 use Rattle.match_input.specs.Reading.{BundleOf, InputEnd, Whole, Refused, IsRefusedAt, Reads, at_end, at_refusal, one_bundle}
 use Rattle.match_input.specs.Ahead.{ReaderState, reader_start, next_number, ahead, BreaksOff, GivesBatch}
 use Rattle.match_run.specs.Matching.{ReadsInput, HasPrefix, HasTaken}
-use Rattle.match_run.specs.inner.Rows.{bundle_of}
+use Rattle.match_run.specs.Reading.{bundle_of}
 use Rattle.match_run.specs.inner.MatchRuns.{IsStageOf, HasRead}
 use Rattle.match_run.proofs.StageLemmas.{ahead_none, ahead_some, start_accounts, moves_on}
 
--- where the first line that comes is a bundle, all that comes is read as that bundle and what is behind it
+-- where the first line that comes is a bundle, all that comes is read as that bundle and what is after it
 abbrev pub Continues : Type 0
 Continues = (last : Option ℤ) (next number : ℕ) (bytes : List ℕ) (later : LineStream) (objects : List Data) (observations : List Observation)
     (all : List BundleOf) (end : InputEnd) → IsBundleLine last next bytes objects observations → Reads last next (line_then number bytes later) all end

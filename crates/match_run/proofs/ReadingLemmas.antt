@@ -1,4 +1,4 @@
--- How far an input is read, behind each answer of its reader.
+-- How far an input is read, after each answer of its reader.
 use Rattle.std.proofs.Common.{◌≡◌, inl, inr, ℕ, zero, suc, ◌+◌, ◌-◌, ◌<◌, ◌≤◌, ℤ, List, [], ◌∷◌, ◌++◌, length, Option, None, Some, Result, Ok, Err, option_map, IfSome, IfOk, slice_get, refl, sym, ap, subst, ◌∙◌, length-append, arith}
 use Rattle.std.specs.Option.{option_or}
 use Rattle.std.proofs.lemmas.List.{append-nil}
@@ -17,7 +17,6 @@ use Rattle.match_input.specs.Line.{last_after}
 use Rattle.match_input.specs.Reading.{BundleOf}
 use Rattle.match_input.specs.Ahead.{ReaderState, reader_start, next_number, IsOpen, HoldsLines, LacksLineIn, Moves, AnswersNext, GivesBatch}
 use Rattle.match_run.specs.Matching.{HasPrefix, IsToCome}
-use Rattle.match_run.specs.inner.Rows.{MayFollow as FollowsSo}
 use Rattle.match_run.specs.inner.MatchRuns.{HasRead as ReadSo, IsStageOf, IsInTime}
 use Rattle.match_run.proofs.FollowLemmas.{Spans, may_follow}
 use Rattle.match_run.proofs.StageLemmas.{start_accounts, takes_little, gives_in_time}
@@ -97,10 +96,6 @@ numbers last next (suc k) (x ∷ os) o follow is =
     let one : (next + 1) + k ≡ next + suc k = omega arith in
     numbers (Some x.last) (next + 1) k os o follow.3 is ∙ one
 
-may_follow_so : (last : Option ℤ) (next : ℕ) (os : List Observation) → FollowsSo last next os → MayFollow last next os
-may_follow_so last next [] h = tt
-may_follow_so last next (o ∷ os) h = (h.0, h.1, h.2, may_follow_so (Some o.last) (next + 1) os h.3)
-
 moved : (line : ℕ) (lines : LinesState) (after : Stage) (left left_after : Option (List ℕ)) → Moves line (stage.Lines lines) after left left_after
     → (later : LinesState) × (after ≡ stage.Lines later) × Moves line (stage.Lines lines) (stage.Lines later) left left_after
 moved line lines (stage.Lines later) left left_after m = (later, refl, m)
@@ -142,8 +137,7 @@ module _ (continues : Continues) (spans : Spans) (first left began left_after be
               ∙ sym (last_after-append None (observations_of earlier) batch.observations) ∙ sym (ap (last_after None) same);
         };
         only = (record { at = move.0; line_is = sym moves.1; few = moves.4; accounts = accounts }, in_time);
-        follow = may_follow_so reader.last (next_number reader) batch.observations
-            (may_follow spans reader.last (next_number reader) gives.bytes (data_in batch.bundle) batch.observations gives.is);
+        follow = (may_follow spans reader.last (next_number reader) gives.bytes (data_in batch.bundle) batch.observations gives.is);
         observations = gives.observations;
         last = gives.last;
         less_room = subst (λ (s : Stage). room_in s < room_in reader.stage) (sym move.1)

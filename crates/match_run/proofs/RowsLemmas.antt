@@ -17,7 +17,8 @@ use Rattle.match_stream.specs.MatcherState.{MatcherState, Represents}
 use Rattle.match_stream.specs.Answer.{IsAnswer, IsWithinLimit, joined_answers}
 use Rattle.match_input.specs.Reading.{BundleOf}
 use Rattle.match_run.specs.Listing.{listing_text, last_number}
-use Rattle.match_run.specs.inner.Rows.{counted, last_counted, IsAfter, Progress, so_far, IsAt, IsAtSome, MayFollow, row_of, AddsRow, EndsAtRow, AddsRows, IsBuffered, ListsFirst, BreaksOff, IsOverLimitAt, StopsAmong, EndsAmong, TakesRow, StopsAtRow, TakesRows, GoesThrough, StopsAtOne, WritesBundle, StopsInBundle}
+use Rattle.match_run.specs.inner.Rows.{counted, last_counted, IsAfter, Progress, so_far, IsAt, IsAtSome, row_of, AddsRow, EndsAtRow, AddsRows, IsBuffered, ListsFirst, BreaksOff, IsOverLimitAt, StopsAmong, EndsAmong, TakesRow, StopsAtRow, TakesRows, GoesThrough, StopsAtOne, WritesBundle, StopsInBundle}
+use Rattle.match_run.specs.Reading.{MayFollow}
 use Rattle.match_run.specs.inner.MatchEnds.{CutsLines, HasCutLines}
 use Rattle.flow_edges.specs.Flow.{written_with, WritesPrefix}
 use Rattle.match_run.specs.declared.match_end.MatchEnd.{MatchEnd}
@@ -54,7 +55,7 @@ behind-more p retained_limit state after tally log answers o truths answer b num
       last_is = ap (λ (n : ℕ). last_counted n o.number (length answer)) b.last_is ∙ sym last ∙ sym (ap last_number joined);
     }
 
--- how many rows the matcher has behind it then, and their last time
+-- how many rows the matcher has after it then, and their last time
 pub rows-more : (p : Pattern) (retained_limit : ℕ) (state after : MatcherState) (tally later : Tally) (log : List LogEntry) (answers more : List (List BindTree))
     (row : LogEntry) → IsAfter p retained_limit state tally log answers → IsAfter p retained_limit after later (log ++ row ∷ []) more → after.rows ≡ state.rows + 1
 rows-more p retained_limit state after tally later log answers more row b c = omega (arith, b.represents.rows, c.represents.rows, length-append log (row ∷ []))
@@ -63,7 +64,7 @@ pub last-more : (p : Pattern) (retained_limit : ℕ) (after : MatcherState) (lat
     (row : LogEntry) → IsAfter p retained_limit after later (log ++ row ∷ []) more → after.last ≡ Some row.last
 last-more p retained_limit after later log more row c = c.represents.last ∙ last_of_more log row
 
--- what may follow behind the row
+-- what may follow after the row
 pub follow-more : (p : Pattern) (retained_limit : ℕ) (objects : List Data) (o : Observation) (state after : MatcherState) (tally later : Tally) (log : List LogEntry)
     (answers : List (List BindTree)) (answer : List BindTree) (observations : List Observation) → IsAfter p retained_limit state tally log answers
     → AddsRow p retained_limit objects o log answers after later answer → MayFollow (Some o.last) ((state.rows + 1) + 1) observations
@@ -124,7 +125,7 @@ stops-next p retained_limit objects seen rest o log answers state after tally te
   over_limit = over_limit;
 }
 
--- an item, and what stands before and behind it
+-- an item, and what stands before and after it
 pub drop_here : (xs : List Observation) (i : ℕ) (x : Observation) → i < length xs → x ≡ get_or xs i x → drop i xs ≡ x ∷ drop (i + 1) xs
 drop_here xs i x within is =
     let next : suc i ≡ i + 1 = omega arith in

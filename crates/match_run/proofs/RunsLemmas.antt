@@ -31,7 +31,9 @@ use Rattle.flow_edges.specs.Streams.{Streams, streams}
 use Rattle.match_run.specs.Entries.{AreEntriesOf}
 use Rattle.match_run.specs.Listing.{listing_text}
 use Rattle.match_run.specs.Matching.{IsNeverOverLimit, ListsLog, ListsWhole, ListsBefore, ListsTaken, BeganInTime, ReadsNoFurther, StopsOverLimit, StopsWithin, StopsBetween, AnswersMatch}
-use Rattle.match_run.specs.inner.Rows.{no_tally, IsAfter, MayFollow, ListsFirst, StopsAmong, WritesRows, EndsInBundle, row_of, bundle_of}
+use Rattle.match_run.specs.inner.Rows.{no_tally, IsAfter, ListsFirst, StopsAmong, WritesRows, EndsInBundle, row_of}
+use Rattle.match_run.specs.Reading.{MayFollow}
+use Rattle.match_run.specs.Reading.{bundle_of}
 use Rattle.match_run.specs.inner.MatchEnds.{end_of_read}
 use Rattle.match_run.specs.inner.MatchRuns.{IsStageOf, IsInTime, RunsSo, HasRead}
 use Rattle.match_run.specs.declared.tally.Tally.{Tally}
@@ -50,7 +52,7 @@ AnswersList = (p : NumberedPattern) (log : List LogEntry) (answers : List (List 
 
 -- ---- what is written
 
--- the lines of more answers, behind those of the answers so far
+-- the lines of more answers, after those of the answers so far
 lines-more : (answers own : List (List BindTree)) → listing_text (joined_answers answers) ++ listing_text (joined_answers own) ≡ listing_text (joined_answers (answers ++ own))
 lines-more answers own = sym (ap listing_text (joined_answers-append answers own) ∙ listing_text-append (joined_answers answers) (joined_answers own))
 

@@ -9,12 +9,12 @@ use Rattle.match_bindings.specs.NumberedPattern.{NumberedPattern, Leaf, Both, Th
 use Rattle.match_bindings.specs.BindTree.{BindTree, First, Second, Single}
 use Rattle.match_pruning.specs.declared.window.Window.{Window}
 use Rattle.match_pruning.specs.Stores.{window_of}
-use Rattle.match_stream.specs.declared.join.Join.{Join}
-use Rattle.match_stream.specs.declared.join.Join.TheVariants as join
-use Rattle.match_stream.specs.declared.row.Row.{Row}
-use Rattle.match_stream.specs.PartialMatchTree.{PartialMatchTree}
-use Rattle.match_stream.specs.inner.Retains.{alive, retains}
-use Rattle.match_stream.specs.inner.Steps.{held_with, joined, may_join, join_row, joins, kept, State, SideStores, a_leaf, a_join, a_choice, a_limit, a_chain, truth_at, levels_new, counted, step_new, sides_kept, joins_both}
+use Rattle.match_pruning.specs.declared.join.Join.{Join}
+use Rattle.match_pruning.specs.declared.join.Join.TheVariants as join
+use Rattle.match_pruning.specs.declared.row.Row.{Row}
+use Rattle.match_pruning.specs.PartialMatchTree.{PartialMatchTree}
+use Rattle.match_pruning.specs.inner.Retains.{alive, retains}
+use Rattle.match_pruning.specs.inner.Steps.{held_with, joined, may_join, join_row, joins, kept, State, SideStores, a_leaf, a_join, a_choice, a_limit, a_chain, truth_at, levels_new, counted, step_new, sides_kept, joins_both}
 use Rattle.match_stream.specs.inner.Totals.{Admits, AdmitLevels}
 use Rattle.match_stream.specs.inner.Shape.{same_window, have_windows, fits}
 use Rattle.match_stream.proofs.AliveLemmas.{alive_min, after_left_alive, alive_within, alive_between}

@@ -11,7 +11,7 @@ use Rattle.match_bindings.proofs.IsBindingLemmas.{lt_true, true_lt, le_true, tru
 use Rattle.match_bindings.proofs.BoundsLemmas.{both_ways}
 use Rattle.match_pruning.specs.declared.window.Window.{Window}
 use Rattle.match_pruning.specs.Stores.{window_of}
-use Rattle.match_stream.specs.inner.Retains.{in_seconds, from_start, before_stop, alive, is_ahead, retains}
+use Rattle.match_pruning.specs.inner.Retains.{in_seconds, from_start, before_stop, alive, is_ahead, retains}
 
 -- ---- two things together
 

@@ -12,10 +12,10 @@ use Rattle.match_bindings.specs.Log.{Observed, observed_in}
 use Rattle.match_bindings.specs.Test.{is_binding}
 use Rattle.match_bindings.specs.Once.{bit, same, count}
 use Rattle.match_bindings.specs.Flat.{comes_before, Ascends}
-use Rattle.match_stream.specs.PartialMatchTree.{PartialMatchTree, trees_in}
+use Rattle.match_pruning.specs.PartialMatchTree.{PartialMatchTree, trees_in}
 use Rattle.match_stream.specs.Answer.{EndsAtLast, IsAnswer}
 use Rattle.match_bindings.proofs.OnceLemmas.{same_is, same_self}
-use Rattle.match_stream.proofs.NumberLemmas.{has_greatest, greatest_binding, old_binding}
+use Rattle.match_pruning.proofs.NumberLemmas.{has_greatest, greatest_binding, old_binding}
 use Rattle.match_stream.proofs.StoreLemmas.{AreHeld}
 use Rattle.match_stream.proofs.StepLemmas.{ends}
 use Rattle.match_stream.proofs.LogLemmas.{holds_inside, length_more}

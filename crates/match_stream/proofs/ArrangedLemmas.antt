@@ -17,17 +17,17 @@ use Rattle.match_bindings.proofs.OnceLemmas.{count_filter}
 use Rattle.match_bindings.proofs.IsBindingLemmas.{le_true, true_le}
 use Rattle.match_pruning.specs.declared.window.Window.{Window}
 use Rattle.match_pruning.specs.Stores.{window_of}
-use Rattle.match_stream.specs.declared.join.Join.{Join}
-use Rattle.match_stream.specs.declared.join.Join.TheVariants as join
-use Rattle.match_stream.specs.PartialMatchTree.{PartialMatchTree, hold, trees_in}
-use Rattle.match_stream.specs.declared.store.Store.{Store}
+use Rattle.match_pruning.specs.declared.join.Join.{Join}
+use Rattle.match_pruning.specs.declared.join.Join.TheVariants as join
+use Rattle.match_pruning.specs.PartialMatchTree.{PartialMatchTree, hold, trees_in}
+use Rattle.match_pruning.specs.declared.store.Store.{Store}
 use Rattle.match_stream.specs.inner.Nodes.{store_list, store_lists}
-use Rattle.match_stream.specs.inner.UpToOrder.{AreSameMultiset, AreSameSides, AreSameLevels, IsSameUpToOrder}
-use Rattle.match_stream.specs.inner.Retains.{alive, retains}
+use Rattle.match_pruning.specs.inner.UpToOrder.{AreSameMultiset, AreSameSides, AreSameLevels, IsSameUpToOrder}
+use Rattle.match_pruning.specs.inner.Retains.{alive, retains}
 use Rattle.match_stream.specs.inner.Shape.{fits, same_window, have_windows}
-use Rattle.match_stream.specs.inner.Steps.{kept, SideStores, State, a_leaf, a_join, a_choice, a_limit, a_chain, sides_kept, no_levels, levels_above, all_levels, expired}
+use Rattle.match_pruning.specs.inner.Steps.{kept, SideStores, State, a_leaf, a_join, a_choice, a_limit, a_chain, sides_kept, no_levels, levels_above, all_levels, expired}
 use Rattle.match_stream.proofs.AliveLemmas.{retains_before}
-use Rattle.match_stream.proofs.RetainsLemmas.{le_both, le_self}
+use Rattle.match_pruning.proofs.RetainsLemmas.{le_both, le_self}
 use Rattle.match_stream.proofs.StoreLemmas.{AreHeld}
 use Rattle.match_stream.proofs.StepLemmas.{Counted, SidesStand, LevelsStand, AllLevelsStand, Stands}
 use Rattle.match_stream.proofs.AnswerLemmas.{held_counts}

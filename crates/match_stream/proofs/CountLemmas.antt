@@ -10,10 +10,10 @@ use Rattle.match_bindings.specs.Span.{earliest}
 use Rattle.match_bindings.specs.Test.{are_repeats, is_binding}
 use Rattle.match_bindings.specs.Once.{bit, count}
 use Rattle.match_pruning.specs.Stores.{Part, a_side, a_level, Store, stores_of}
-use Rattle.match_stream.specs.PartialMatchTree.{PartialMatchTree, trees_in}
+use Rattle.match_pruning.specs.PartialMatchTree.{PartialMatchTree, trees_in}
 use Rattle.match_stream.specs.RetainedPart.{MayHold, HoldsRetained, AreRetained, time_of, held_count}
 use Rattle.match_stream.specs.Answer.{EndsAtLast, IsAnswer, IsRetainedCount}
-use Rattle.match_stream.specs.inner.Retains.{retains}
+use Rattle.match_pruning.specs.inner.Retains.{retains}
 use Rattle.match_stream.proofs.ShapeLemmas.{Rule, to_held}
 use Rattle.match_stream.proofs.AnswerLemmas.{held_counts, same_length, trees_length}
 

@@ -7,12 +7,12 @@ use Rattle.std.proofs.lemmas.List.Edits.{map_over_more}
 use Rattle.match_bindings.specs.declared.bind.Bind.{Bind}
 use Rattle.match_bindings.specs.declared.bind.Bind.TheVariants.{One as Only}
 use Rattle.match_bindings.specs.BindTree.{BindTree, tree_of}
-use Rattle.match_stream.specs.declared.partial_match.PartialMatch.{PartialMatch}
-use Rattle.match_stream.specs.PartialMatchTree.{PartialMatchTree}
-use Rattle.match_stream.specs.inner.PartialMatches.{partial_match_tree}
-use Rattle.match_stream.specs.inner.Steps.{held_with}
-use Rattle.match_stream.specs.inner.Numbers.{numbers}
-use Rattle.match_stream.proofs.PicksLemmas.{once_one}
+use Rattle.match_pruning.specs.declared.partial_match.PartialMatch.{PartialMatch}
+use Rattle.match_pruning.specs.PartialMatchTree.{PartialMatchTree}
+use Rattle.match_pruning.specs.inner.PartialMatches.{partial_match_tree}
+use Rattle.match_pruning.specs.inner.Steps.{held_with}
+use Rattle.match_pruning.specs.inner.Numbers.{numbers}
+use Rattle.match_pruning.proofs.PicksLemmas.{once_one}
 
 -- where the items before i are changed, as they are seen, then with the i-th those before i + 1
 pub changed_more : {X W : Type 0} (see : X → W) (f : W → W) (xs ys : List X) (i : ℕ) (x x' : X) → i < length xs →

@@ -13,12 +13,12 @@ use Rattle.match_bindings.specs.Test.{are_repeats, is_binding}
 use Rattle.match_bindings.specs.Once.{same, count}
 use Rattle.match_pruning.specs.declared.window.Window.{Window}
 use Rattle.match_pruning.specs.Stores.{window_of}
-use Rattle.match_stream.specs.declared.join.Join.TheVariants as join
-use Rattle.match_stream.specs.PartialMatchTree.{PartialMatchTree, hold}
-use Rattle.match_stream.specs.inner.Retains.{retains}
-use Rattle.match_stream.specs.inner.Steps.{SideStores, State, a_leaf, a_join, a_choice, a_limit, a_chain}
+use Rattle.match_pruning.specs.declared.join.Join.TheVariants as join
+use Rattle.match_pruning.specs.PartialMatchTree.{PartialMatchTree, hold}
+use Rattle.match_pruning.specs.inner.Retains.{retains}
+use Rattle.match_pruning.specs.inner.Steps.{SideStores, State, a_leaf, a_join, a_choice, a_limit, a_chain}
 use Rattle.match_bindings.proofs.OnceLemmas.{same_self}
-use Rattle.match_stream.proofs.NumberLemmas.{both_parts}
+use Rattle.match_pruning.proofs.NumberLemmas.{both_parts}
 use Rattle.match_stream.proofs.StoreLemmas.{AreHeld, exactly_same, held_same, bit_positive}
 use Rattle.match_stream.proofs.StepLemmas.{SidesStand, LevelsStand, AllLevelsStand, Stands, all_of, without}
 

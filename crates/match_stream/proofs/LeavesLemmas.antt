@@ -9,14 +9,14 @@ use Rattle.std.proofs.lemmas.Bool.{eqb-true, and_parts}
 use Rattle.std.proofs.lemmas.Bool.Decides.{Decides-int_eq}
 use Rattle.match_bindings.specs.BindTree.{First, Second, firsts}
 use Rattle.match_pruning.specs.declared.window.Window.{Window}
-use Rattle.match_stream.specs.declared.row.Row.{Row}
-use Rattle.match_stream.specs.PartialMatchTree.{PartialMatchTree}
+use Rattle.match_pruning.specs.declared.row.Row.{Row}
+use Rattle.match_pruning.specs.PartialMatchTree.{PartialMatchTree}
 use Rattle.match_stream.specs.RetainedPart.{held_count}
-use Rattle.match_stream.specs.inner.Retains.{retains}
-use Rattle.match_stream.specs.inner.Steps.{a_leaf, a_choice, held_with, truth_at, row_alone, new_at_leaf, leaves_state, step_new, step_state, contents_of, expired}
-use Rattle.match_stream.specs.inner.Needed.{PendingLeftTrees, is_needed, needed}
+use Rattle.match_pruning.specs.inner.Retains.{retains}
+use Rattle.match_pruning.specs.inner.Steps.{a_leaf, a_choice, held_with, truth_at, row_alone, new_at_leaf, leaves_state, step_new, step_state, contents_of, expired}
+use Rattle.match_pruning.specs.inner.Needed.{PendingLeftTrees, is_needed, needed}
 use Rattle.match_stream.specs.inner.Totals.{held_after}
-use Rattle.match_stream.specs.inner.UpToOrder.{IsSameUpToOrder}
+use Rattle.match_pruning.specs.inner.UpToOrder.{IsSameUpToOrder}
 use Rattle.match_stream.proofs.TotalLemmas.{either_needed}
 use Rattle.match_stream.proofs.UnderFirstsLemmas.{under_none, choice_under}
 

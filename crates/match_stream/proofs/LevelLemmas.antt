@@ -1,13 +1,13 @@
 -- Levels one after another, and those that aren't made.
 use Rattle.std.proofs.Common.{◌≡◌, subst, ℕ, zero, suc, ◌+◌, ◌-◌, ◌≤◌, ◌<◌, List, [], ◌∷◌, ◌++◌, length, refl, sym, ◌∙◌, ap, arith, ℤ, append-nil, length-append}
 use Rattle.match_pruning.specs.declared.window.Window.{Window}
-use Rattle.match_stream.specs.declared.join.Join.TheVariants as join
-use Rattle.match_stream.specs.declared.partial_match.PartialMatch.{PartialMatch}
-use Rattle.match_stream.specs.PartialMatchTree.{PartialMatchTree}
-use Rattle.match_stream.specs.inner.PartialMatches.{partial_match_trees}
+use Rattle.match_pruning.specs.declared.join.Join.TheVariants as join
+use Rattle.match_pruning.specs.declared.partial_match.PartialMatch.{PartialMatch}
+use Rattle.match_pruning.specs.PartialMatchTree.{PartialMatchTree}
+use Rattle.match_pruning.specs.inner.PartialMatches.{partial_match_trees}
 use Rattle.match_stream.specs.RetainedPart.{held_count}
-use Rattle.match_stream.specs.inner.Steps.{kept, stored, joins, levels_new, levels_after, no_levels, levels_above, all_levels, risen, raised, counted}
-use Rattle.match_stream.specs.inner.Needed.{PendingLeftTrees, needed, chosen}
+use Rattle.match_pruning.specs.inner.Steps.{kept, stored, joins, levels_new, levels_after, no_levels, levels_above, all_levels, risen, raised, counted}
+use Rattle.match_pruning.specs.inner.Needed.{PendingLeftTrees, needed, chosen}
 use Rattle.match_stream.specs.inner.Totals.{AdmitLevels}
 
 pub new_append : (w : Window) (t : ℤ) (first new : List PartialMatchTree) (xs ys : List (List PartialMatchTree)) →

@@ -1,7 +1,5 @@
-pub mod RetainsLemmas
 pub mod LevelLemmas
 pub mod AliveLemmas
-pub mod NumberLemmas
 pub mod JoinLemmas
 pub mod StoreLemmas
 pub mod StepLemmas
@@ -10,15 +8,11 @@ pub mod LogLemmas
 pub mod ShapeLemmas
 pub mod AnswerLemmas
 pub mod TakeLemmas
-pub mod RowNumbersLemmas
 pub mod CountLemmas
 pub mod ListingLemmas
 pub mod PrefixLemmas
 pub mod WithinLemmas
-pub mod HeapLemmas
 pub mod ArrangedLemmas
-pub mod OldestLemmas
-pub mod NeededLemmas
 pub mod TotalLemmas
 pub mod AdmitLemmas
 pub mod OverLemmas
@@ -27,8 +21,3 @@ pub mod InPlaceLemmas
 pub mod UnderFirstsLemmas
 pub mod NonmatchingLemmas
 pub mod LeavesLemmas
-pub mod PicksLemmas
-pub mod CompletionBoundLemmas
-pub mod EarliestStartLemmas
-pub mod SkipIndexLemmas
-pub mod GreedyCompletionLemmas

@@ -14,7 +14,7 @@ use Rattle.match_bindings.specs.Flat.{comes_before, Ascends}
 use Rattle.match_bindings.specs.Listing.{IsListing}
 use Rattle.match_stream.specs.Answer.{IsAnswer, AnswersAfter, AreAnswers, joined_answers}
 use Rattle.match_bindings.proofs.OnceLemmas.{same_self, count_append}
-use Rattle.match_stream.proofs.NumberLemmas.{greatest_binding}
+use Rattle.match_pruning.proofs.NumberLemmas.{greatest_binding}
 use Rattle.match_stream.proofs.StoreLemmas.{bit_positive, sum_bits}
 use Rattle.match_stream.proofs.LastingLemmas.{lasting}
 use Rattle.match_stream.proofs.LogLemmas.{holds_inside, length_more, continues, nothing}

@@ -13,12 +13,12 @@ use Rattle.match_bindings.specs.Test.{are_repeats, is_binding}
 use Rattle.match_bindings.proofs.IsBindingLemmas.{le_true}
 use Rattle.match_pruning.specs.declared.window.Window.{Window}
 use Rattle.match_pruning.specs.Stores.{window_of}
-use Rattle.match_stream.specs.declared.row.Row.{Row}
+use Rattle.match_pruning.specs.declared.row.Row.{Row}
 use Rattle.match_stream.specs.RetainedPart.{time_of}
 use Rattle.match_stream.specs.MatcherState.{last_of, Falls}
-use Rattle.match_stream.specs.inner.Retains.{retains}
-use Rattle.match_stream.specs.inner.Steps.{State, step_new, step_state, no_levels, empty_sides, empty_state}
-use Rattle.match_stream.proofs.RetainsLemmas.{le_false, le_trans, le_self}
+use Rattle.match_pruning.specs.inner.Retains.{retains}
+use Rattle.match_pruning.specs.inner.Steps.{State, step_new, step_state, no_levels, empty_sides, empty_state}
+use Rattle.match_pruning.proofs.RetainsLemmas.{le_false, le_trans, le_self}
 use Rattle.match_stream.proofs.StoreLemmas.{AreHeld}
 use Rattle.match_stream.proofs.StepLemmas.{SidesStand, LevelsStand, AllLevelsStand, Stands, all_of, ends, Given, step_law}
 use Rattle.match_stream.proofs.LastingLemmas.{Continues, lasting_stands, no_sets, any_time}

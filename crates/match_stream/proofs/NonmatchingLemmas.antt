@@ -2,11 +2,11 @@
 use Rattle.std.proofs.Common.{◌≡◌, ℕ, ◌+◌, List, [], ◌++◌, refl, sym, ◌∙◌, ap, arith, append-nil}
 use Rattle.std.specs.Prelude.{Bool, map}
 use Rattle.match_bindings.specs.BindTree.{First, Second, firsts}
-use Rattle.match_stream.specs.declared.row.Row.{Row}
-use Rattle.match_stream.specs.PartialMatchTree.{PartialMatchTree}
+use Rattle.match_pruning.specs.declared.row.Row.{Row}
+use Rattle.match_pruning.specs.PartialMatchTree.{PartialMatchTree}
 use Rattle.match_stream.specs.RetainedPart.{held_count}
-use Rattle.match_stream.specs.inner.Steps.{State, a_leaf, a_choice, a_join, a_limit, a_chain, held_with, step_new, step_state, contents_of, IsNonmatching}
-use Rattle.match_stream.specs.inner.Needed.{PendingLeftTrees, needed}
+use Rattle.match_pruning.specs.inner.Steps.{State, a_leaf, a_choice, a_join, a_limit, a_chain, held_with, step_new, step_state, contents_of, IsNonmatching}
+use Rattle.match_pruning.specs.inner.Needed.{PendingLeftTrees, needed}
 use Rattle.match_stream.specs.inner.Totals.{held_after}
 
 module _ (row : Row) (truths : List Bool) where

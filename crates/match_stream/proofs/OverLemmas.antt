@@ -12,11 +12,11 @@ use Rattle.match_bindings.specs.Test.{is_binding}
 use Rattle.match_bindings.specs.Once.{bit, count}
 use Rattle.match_bindings.proofs.OnceLemmas.{count_filter}
 use Rattle.match_stream.specs.declared.run.Run.{Run}
-use Rattle.match_stream.specs.PartialMatchTree.{trees_in}
+use Rattle.match_pruning.specs.PartialMatchTree.{trees_in}
 use Rattle.match_stream.specs.RetainedPart.{held_count}
 use Rattle.match_stream.specs.MatcherState.{with_row}
 use Rattle.match_stream.specs.Answer.{EndsAtLast, IsAnswer, IsRetainedCount}
-use Rattle.match_stream.specs.inner.Steps.{step_new, step_state, contents_of}
+use Rattle.match_pruning.specs.inner.Steps.{step_new, step_state, contents_of}
 use Rattle.match_stream.specs.inner.Nodes.{state_of}
 use Rattle.match_stream.specs.inner.Runs.{next_row, retained_after}
 use Rattle.match_stream.proofs.StepLemmas.{ends}

@@ -12,19 +12,19 @@ use Rattle.match_bindings.specs.Log.{LastIsBy, IsInOrder, observed_in}
 use Rattle.match_bindings.specs.Flat.{comes_before}
 use Rattle.std.specs.List.Sorted.{IsSortedBy}
 use Rattle.match_pruning.specs.declared.window.Window.{Window}
-use Rattle.match_stream.specs.declared.join.Join.{Join}
-use Rattle.match_stream.specs.declared.join.Join.TheVariants as join
-use Rattle.match_stream.specs.declared.row.Row.{Row}
-use Rattle.match_stream.specs.PartialMatchTree.{PartialMatchTree}
+use Rattle.match_pruning.specs.declared.join.Join.{Join}
+use Rattle.match_pruning.specs.declared.join.Join.TheVariants as join
+use Rattle.match_pruning.specs.declared.row.Row.{Row}
+use Rattle.match_pruning.specs.PartialMatchTree.{PartialMatchTree}
 use Rattle.match_stream.specs.RetainedPart.{time_of}
 use Rattle.match_stream.specs.MatcherState.{last_of}
 use Rattle.match_stream.specs.Answer.{AnswersAfter}
 use Rattle.match_stream.specs.Passing.{AreNonmatching, no_answers}
-use Rattle.match_stream.specs.inner.Retains.{retains}
-use Rattle.match_stream.specs.inner.Steps.{held_with, joins, kept, SideStores, State, a_leaf, a_join, a_choice, a_limit, a_chain, truth_at, sides_kept, sides_after, joins_new, levels_new, levels_after, no_levels, counted, step_new, step_state, expired}
+use Rattle.match_pruning.specs.inner.Retains.{retains}
+use Rattle.match_pruning.specs.inner.Steps.{held_with, joins, kept, SideStores, State, a_leaf, a_join, a_choice, a_limit, a_chain, truth_at, sides_kept, sides_after, joins_new, levels_new, levels_after, no_levels, counted, step_new, step_state, expired}
 use Rattle.match_stream.proofs.AliveLemmas.{retains_before}
 use Rattle.match_stream.proofs.StepLemmas.{Stands, all_of}
-use Rattle.match_stream.proofs.RetainsLemmas.{le_trans, le_self}
+use Rattle.match_pruning.proofs.RetainsLemmas.{le_trans, le_self}
 use Rattle.match_stream.proofs.LogLemmas.{row_after, take_law}
 use Rattle.match_stream.proofs.ShapeLemmas.{Rule}
 use Rattle.match_stream.proofs.AnswerLemmas.{Ascend, answer_law}
@@ -154,7 +154,7 @@ pass_law rule sift_up p log r [] last z nonmatching order e st =
     let same : r.last ≡ last = cc in (
       subst (λ (y : State). Stands (observed_in (log ++ r ∷ [])) (all_of (observed_in (log ++ r ∷ []))) (time_of (log ++ r ∷ [])) no_bounds p y)
           (nonmatching_state (row_after log r) r.truths nonmatching.0 z ∙ ap (λ t. expired t z) same) law.1,
-      (answer_law rule sift_up p log r (step_new (row_after log r) r.truths z) [] law.0 (λ x. ap (λ y. Rattle.match_bindings.specs.Once.count x (Rattle.match_stream.specs.PartialMatchTree.trees_in y)) (sym none)) nothing_sorted, tt),
+      (answer_law rule sift_up p log r (step_new (row_after log r) r.truths z) [] law.0 (λ x. ap (λ y. Rattle.match_bindings.specs.Once.count x (Rattle.match_pruning.specs.PartialMatchTree.trees_in y)) (sym none)) nothing_sorted, tt),
     )
 pass_law rule sift_up p log r (q ∷ rest) last z nonmatching order e st =
     let first = first_in_order log r (q ∷ rest) order in
@@ -169,7 +169,7 @@ pass_law rule sift_up p log r (q ∷ rest) last z nonmatching order e st =
           (subst (λ (y : State). Stands (observed_in ((log ++ r ∷ []) ++ q ∷ rest)) (all_of (observed_in ((log ++ r ∷ []) ++ q ∷ rest))) (time_of ((log ++ r ∷ []) ++ q ∷ rest)) no_bounds p y)
           (expired_later r.last last early z) more.0),
       (
-        answer_law rule sift_up p log r (step_new (row_after log r) r.truths z) [] law.0 (λ x. ap (λ y. Rattle.match_bindings.specs.Once.count x (Rattle.match_stream.specs.PartialMatchTree.trees_in y)) (sym none)) nothing_sorted,
+        answer_law rule sift_up p log r (step_new (row_after log r) r.truths z) [] law.0 (λ x. ap (λ y. Rattle.match_bindings.specs.Once.count x (Rattle.match_pruning.specs.PartialMatchTree.trees_in y)) (sym none)) nothing_sorted,
         more.1,
       ),
     )

@@ -12,13 +12,13 @@ use Rattle.match_bindings.specs.Flat.{comes_before, Ascends}
 use Rattle.match_bindings.specs.Listing.{IsListing}
 use Rattle.match_bindings.proofs.OnceLemmas.{same_self, count_append, count_filter}
 use Rattle.match_bindings.proofs.FlatLemmas.{tail_ascends}
-use Rattle.match_stream.proofs.NumberLemmas.{has_greatest, greatest_binding, old_binding}
+use Rattle.match_pruning.proofs.NumberLemmas.{has_greatest, greatest_binding, old_binding}
 use Rattle.match_stream.proofs.StoreLemmas.{bit_positive}
 use Rattle.match_stream.proofs.LastingLemmas.{lasting}
 use Rattle.match_stream.proofs.LogLemmas.{holds_inside, length_more, continues}
 use Rattle.match_stream.proofs.ListingLemmas.{ByTest, lesser_first, ascends_append}
 
--- in a ascending list each tree comes before all after left it
+-- in an ascending list each tree comes before all after it
 abbrev pub Ordered : Type 0
 Ordered = (x : BindTree) (xs : List BindTree) → Ascends (x ∷ xs) → (y : BindTree) → 0 < count y xs → comes_before x y ≡ true
 

@@ -15,14 +15,14 @@ use Rattle.match_bindings.specs.Once.{bit, count}
 use Rattle.match_bindings.proofs.IsBindingLemmas.{le_true, true_le}
 use Rattle.match_pruning.specs.declared.window.Window.{Window}
 use Rattle.match_pruning.specs.Stores.{Part, a_side, Store, window_of, side, level, levels, stores_under}
-use Rattle.match_stream.specs.declared.row.Row.{Row}
-use Rattle.match_stream.specs.declared.join.Join.TheVariants as join
-use Rattle.match_stream.specs.PartialMatchTree.{PartialMatchTree, hold, trees_in}
+use Rattle.match_pruning.specs.declared.row.Row.{Row}
+use Rattle.match_pruning.specs.declared.join.Join.TheVariants as join
+use Rattle.match_pruning.specs.PartialMatchTree.{PartialMatchTree, hold, trees_in}
 use Rattle.match_stream.specs.RetainedPart.{MayHold, IsRetained, HoldsRetained, AreRetained}
-use Rattle.match_stream.specs.inner.Retains.{retains}
-use Rattle.match_stream.specs.inner.Steps.{held_with, SideStores, State, a_leaf, a_join, a_choice, a_limit, a_chain, step_new, step_state, levels_after, no_levels, empty_state, contents_of}
+use Rattle.match_pruning.specs.inner.Retains.{retains}
+use Rattle.match_pruning.specs.inner.Steps.{held_with, SideStores, State, a_leaf, a_join, a_choice, a_limit, a_chain, step_new, step_state, levels_after, no_levels, empty_state, contents_of}
 use Rattle.match_stream.specs.inner.Shape.{same_bool, same_count, same_time, same_window, have_windows, fits}
-use Rattle.match_stream.proofs.RetainsLemmas.{gone_expired, expired_gone, le_both, le_self}
+use Rattle.match_pruning.proofs.RetainsLemmas.{gone_expired, expired_gone, le_both, le_self}
 use Rattle.match_stream.proofs.LevelLemmas.{length_after}
 use Rattle.match_stream.proofs.StoreLemmas.{AreHeld}
 use Rattle.match_stream.proofs.StepLemmas.{SidesStand, LevelsStand, AllLevelsStand, Stands, all_of}

@@ -15,20 +15,20 @@ use Rattle.match_bindings.proofs.IsBindingLemmas.{le_true}
 use Rattle.match_bindings.proofs.CandidatesLemmas.{pair_joins, more_joins}
 use Rattle.match_pruning.specs.declared.window.Window.{Window}
 use Rattle.match_pruning.specs.Stores.{window_of}
-use Rattle.match_stream.specs.declared.join.Join.{Join}
-use Rattle.match_stream.specs.declared.join.Join.TheVariants as join
-use Rattle.match_stream.specs.declared.row.Row.{Row}
-use Rattle.match_stream.specs.PartialMatchTree.{PartialMatchTree, hold}
-use Rattle.match_stream.specs.inner.Retains.{alive, retains}
-use Rattle.match_stream.specs.inner.Steps.{held_with, joined_tree, may_join, joins, kept, SideStores, State, a_leaf, a_join, a_choice, a_limit, a_chain, truth_at, new_at_leaf, joins_new, sides_after, levels_new, levels_after, counted, step_new, step_state}
+use Rattle.match_pruning.specs.declared.join.Join.{Join}
+use Rattle.match_pruning.specs.declared.join.Join.TheVariants as join
+use Rattle.match_pruning.specs.declared.row.Row.{Row}
+use Rattle.match_pruning.specs.PartialMatchTree.{PartialMatchTree, hold}
+use Rattle.match_pruning.specs.inner.Retains.{alive, retains}
+use Rattle.match_pruning.specs.inner.Steps.{held_with, joined_tree, may_join, joins, kept, SideStores, State, a_leaf, a_join, a_choice, a_limit, a_chain, truth_at, new_at_leaf, joins_new, sides_after, levels_new, levels_after, counted, step_new, step_state}
 use Rattle.match_bindings.proofs.ListLemmas.{map_append}
 use Rattle.match_bindings.proofs.PairsLemmas.{pairs}
 use Rattle.match_bindings.proofs.OnceLemmas.{same_self, count_append, count_others, count_under, count_not_under}
 use Rattle.match_stream.proofs.AliveLemmas.{alive_min, alive_within, alive_between, after_left_alive, after_left_ahead}
-use Rattle.match_stream.proofs.NumberLemmas.{latest_new, latest_binding, has_greatest, greatest_binding, old_set, apart}
+use Rattle.match_pruning.proofs.NumberLemmas.{latest_new, latest_binding, has_greatest, greatest_binding, old_set, apart}
 use Rattle.match_stream.proofs.JoinLemmas.{join_law, level_law}
 use Rattle.match_stream.proofs.StoreLemmas.{AreHeld, held_same, joins_are, both_joins_are, under_are, bit_positive, sets_made, kept_law, added_law, stored_law}
-use Rattle.match_stream.proofs.RetainsLemmas.{le_both}
+use Rattle.match_pruning.proofs.RetainsLemmas.{le_both}
 
 -- ---- what stands before and after a row
 

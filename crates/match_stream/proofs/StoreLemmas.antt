@@ -9,11 +9,11 @@ use Rattle.match_bindings.specs.Test.{are_repeats}
 use Rattle.match_bindings.specs.Once.{bit, same, count, Exactly}
 use Rattle.match_bindings.specs.declared.bounds.Bounds.{Bounds}
 use Rattle.match_pruning.specs.declared.window.Window.{Window}
-use Rattle.match_stream.specs.declared.join.Join.{Join}
-use Rattle.match_stream.specs.declared.join.Join.TheVariants as join
-use Rattle.match_stream.specs.PartialMatchTree.{PartialMatchTree, hold}
-use Rattle.match_stream.specs.inner.Retains.{alive, retains}
-use Rattle.match_stream.specs.inner.Steps.{held_with, joined_tree, joined, may_join, join_row, joins, kept}
+use Rattle.match_pruning.specs.declared.join.Join.{Join}
+use Rattle.match_pruning.specs.declared.join.Join.TheVariants as join
+use Rattle.match_pruning.specs.PartialMatchTree.{PartialMatchTree, hold}
+use Rattle.match_pruning.specs.inner.Retains.{alive, retains}
+use Rattle.match_pruning.specs.inner.Steps.{held_with, joined_tree, joined, may_join, join_row, joins, kept}
 use Rattle.match_bindings.proofs.ListLemmas.{map_append, map_map, map_agree, filter_map}
 use Rattle.match_bindings.proofs.PairsLemmas.{pairs}
 use Rattle.match_bindings.proofs.OnceLemmas.{same_self, count_append, count_filter}

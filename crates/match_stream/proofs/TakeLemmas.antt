@@ -9,18 +9,18 @@ use Rattle.match_bindings.specs.Log.{LastIsBy, IsInOrder, observed_in}
 use Rattle.match_stream.specs.declared.ending.Ending.{Ending}
 use Rattle.match_stream.specs.declared.ending.MatchRefusal.{MatchRefusal}
 use Rattle.match_stream.specs.declared.ending.MatchRefusal.TheVariants as refusal
-use Rattle.match_stream.specs.declared.row.Row.{Row}
+use Rattle.match_pruning.specs.declared.row.Row.{Row}
 use Rattle.match_stream.specs.declared.run.Run.{Run}
-use Rattle.match_stream.specs.PartialMatchTree.{trees_in}
+use Rattle.match_pruning.specs.PartialMatchTree.{trees_in}
 use Rattle.match_stream.specs.RetainedPart.{IsRetainedPart, held_count, time_of}
 use Rattle.match_stream.specs.Answer.{IsAnswer, IsRetainedCount}
 use Rattle.match_stream.specs.MatcherState.{with_row, Falls, last_of}
-use Rattle.match_stream.specs.inner.Steps.{State, step_new, step_state, contents_of, expired}
+use Rattle.match_pruning.specs.inner.Steps.{State, step_new, step_state, contents_of, expired}
 use Rattle.match_stream.specs.inner.Nodes.{state_of}
 use Rattle.match_stream.specs.inner.Shape.{fits}
-use Rattle.match_stream.specs.inner.UpToOrder.{IsSameUpToOrder}
+use Rattle.match_pruning.specs.inner.UpToOrder.{IsSameUpToOrder}
 use Rattle.match_stream.specs.inner.Runs.{next_row, AreSteps, retained_after}
-use Rattle.match_stream.proofs.RetainsLemmas.{le_self}
+use Rattle.match_pruning.proofs.RetainsLemmas.{le_self}
 use Rattle.match_stream.proofs.StoreLemmas.{AreHeld}
 use Rattle.match_stream.proofs.StepLemmas.{Stands, all_of, ends}
 use Rattle.match_stream.proofs.LogLemmas.{not_falls, row_after, early_stands, take_from}

@@ -8,16 +8,16 @@ use Rattle.std.proofs.lemmas.List.{length-map}
 use Rattle.std.proofs.lemmas.List.Elements.{filter-append}
 use Rattle.match_bindings.specs.BindTree.{BindTree, One, Pair, First, Second, Empty, Single, More, has, disjoint}
 use Rattle.match_pruning.specs.declared.window.Window.{Window}
-use Rattle.match_stream.specs.declared.join.Join.{Join}
-use Rattle.match_stream.specs.declared.join.Join.TheVariants as join
-use Rattle.match_stream.specs.declared.row.Row.{Row}
-use Rattle.match_stream.specs.PartialMatchTree.{PartialMatchTree}
+use Rattle.match_pruning.specs.declared.join.Join.{Join}
+use Rattle.match_pruning.specs.declared.join.Join.TheVariants as join
+use Rattle.match_pruning.specs.declared.row.Row.{Row}
+use Rattle.match_pruning.specs.PartialMatchTree.{PartialMatchTree}
 use Rattle.match_stream.specs.RetainedPart.{held_count}
-use Rattle.match_stream.specs.inner.Retains.{retains, is_ahead, in_seconds, from_start}
-use Rattle.match_stream.specs.inner.Steps.{held_with, joined, may_join, join_row, joins, kept, SideStores, State, a_join, a_choice, a_chain, sides_kept, sides_count, sides_stored, joins_both, levels_new, levels_after, all_levels, no_levels, levels_above, counted, step_new, step_state, contents_of}
-use Rattle.match_stream.specs.inner.Needed.{PendingLeftTrees, is_needed, needed, closed, pending_lefts_right, pending_lefts_part, chosen}
+use Rattle.match_pruning.specs.inner.Retains.{retains, is_ahead, in_seconds, from_start}
+use Rattle.match_pruning.specs.inner.Steps.{held_with, joined, may_join, join_row, joins, kept, SideStores, State, a_join, a_choice, a_chain, sides_kept, sides_count, sides_stored, joins_both, levels_new, levels_after, all_levels, no_levels, levels_above, counted, step_new, step_state, contents_of}
+use Rattle.match_pruning.specs.inner.Needed.{PendingLeftTrees, is_needed, needed, closed, pending_lefts_right, pending_lefts_part, chosen}
 use Rattle.match_stream.specs.inner.Totals.{held_after, retained_at, AdmitsRight, AdmitLevels, Admits}
-use Rattle.match_stream.proofs.NeededLemmas.{needed_all}
+use Rattle.match_pruning.proofs.NeededLemmas.{needed_all}
 
 -- ---- lists
 

@@ -2,8 +2,8 @@
 use Rattle.std.proofs.Common.{◌≡◌, ℕ, zero, suc, ◌+◌, List, [], ◌∷◌, ◌++◌, refl, sym, ◌∙◌, ap, arith, append_assoc}
 use Rattle.std.specs.Prelude.{map}
 use Rattle.match_bindings.specs.BindTree.{BindTree, First, Second, firsts}
-use Rattle.match_stream.specs.PartialMatchTree.{PartialMatchTree}
-use Rattle.match_stream.specs.inner.Steps.{held_with}
+use Rattle.match_pruning.specs.PartialMatchTree.{PartialMatchTree}
+use Rattle.match_pruning.specs.inner.Steps.{held_with}
 
 pub under_none : (xs : List PartialMatchTree) → map (held_with (firsts 0)) xs ≡ xs
 under_none [] = refl

@@ -14,15 +14,15 @@ use Rattle.match_bindings.specs.Span.{earliest, later_by}
 use Rattle.match_bindings.specs.Once.{same, count}
 use Rattle.match_bindings.proofs.IsBindingLemmas.{lt_true}
 use Rattle.match_pruning.specs.Stores.{Store, level, levels, stores_under}
-use Rattle.match_stream.specs.PartialMatchTree.{PartialMatchTree, hold}
+use Rattle.match_pruning.specs.PartialMatchTree.{PartialMatchTree, hold}
 use Rattle.match_stream.specs.RetainedPart.{HoldsRetained, AreRetained, IsRetainedPart, time_of}
-use Rattle.match_stream.specs.RowNumbers.{any_has, is_kept}
-use Rattle.match_stream.specs.inner.Retains.{in_seconds, from_start, before_stop, is_ahead, retains}
+use Rattle.match_pruning.specs.RowNumbers.{any_has, is_kept}
+use Rattle.match_pruning.specs.inner.Retains.{in_seconds, from_start, before_stop, is_ahead, retains}
 use Rattle.match_bindings.proofs.OnceLemmas.{same_self}
 use Rattle.match_stream.proofs.StoreLemmas.{bit_positive}
 use Rattle.match_stream.proofs.ShapeLemmas.{Rule, to_held}
 use Rattle.match_stream.proofs.CountLemmas.{may_hold, may_rule}
-use Rattle.match_stream.proofs.RetainsLemmas.{le_self}
+use Rattle.match_pruning.proofs.RetainsLemmas.{le_self}
 
 -- ---- all stores are that narrow
 

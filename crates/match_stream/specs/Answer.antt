@@ -7,7 +7,7 @@ use Rattle.match_bindings.specs.Log.{IsInOrder, observed_in}
 use Rattle.match_bindings.specs.Binding.{IsBinding}
 use Rattle.match_bindings.specs.Once.{count}
 use Rattle.match_bindings.specs.Flat.{Ascends}
-use Rattle.match_stream.specs.PartialMatchTree.{PartialMatchTree}
+use Rattle.match_pruning.specs.PartialMatchTree.{PartialMatchTree}
 use Rattle.match_stream.specs.RetainedPart.{IsRetainedPart, held_count}
 use Rattle.match_stream.specs.MatcherState.{MatcherState, Represents}
 

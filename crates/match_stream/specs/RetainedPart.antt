@@ -10,7 +10,7 @@ use Rattle.match_bindings.specs.Binding.{AreRepeats, IsBinding}
 use Rattle.match_bindings.specs.Once.{count}
 use Rattle.match_pruning.specs.Stores.{Part, a_side, a_level, Store, stores_of}
 use Rattle.match_pruning.specs.Expiry.{HasExpired}
-use Rattle.match_stream.specs.PartialMatchTree.{PartialMatchTree, hold, trees_in}
+use Rattle.match_pruning.specs.PartialMatchTree.{PartialMatchTree, hold, trees_in}
 
 -- a side's store may hold bindings of that side; a level's store sets of bindings, as they occur in
 -- a REPEATS

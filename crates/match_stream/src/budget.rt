@@ -1,12 +1,12 @@
 ghost use Rattle.std.specs.Prelude.{◌≡◌, ◌+◌, ◌<◌, ◌^◌, OnOk, Err, length};
-ghost use Rattle.match_stream.specs.declared.stop.Stop.TheVariants as stop;
-ghost use Rattle.match_stream.specs.inner.PartialMatches.{partial_match_trees};
-ghost use Rattle.match_stream.specs.inner.Steps.{kept};
+ghost use Rattle.match_pruning.specs.declared.stop.Stop.TheVariants as stop;
+ghost use Rattle.match_pruning.specs.inner.PartialMatches.{partial_match_trees};
+ghost use Rattle.match_pruning.specs.inner.Steps.{kept};
 
-use crate::partial_match::PartialMatch;
-use crate::stop::Stop;
-use crate::store::is_retained;
 use match_pruning::Window;
+use match_pruning::partial_match::PartialMatch;
+use match_pruning::stop::Stop;
+use match_pruning::store::is_retained;
 use stix_times::Instant;
 
 /// How many more partial matches the matcher may hold at this row before it exceeds its limit.

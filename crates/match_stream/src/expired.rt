@@ -1,14 +1,14 @@
 //! Removes expired partial matches from the stores of an operator tree.
 
 ghost use Rattle.std.specs.Prelude.{◌≡◌, map, length};
-ghost use Rattle.match_stream.specs.inner.Steps.{kept, all_levels, expired};
+ghost use Rattle.match_pruning.specs.inner.Steps.{kept, all_levels, expired};
 ghost use Rattle.match_stream.specs.inner.Nodes.{store_lists, state_of};
-ghost use Rattle.match_stream.specs.inner.UpToOrder.{AreSameLevels, IsSameUpToOrder};
+ghost use Rattle.match_pruning.specs.inner.UpToOrder.{AreSameLevels, IsSameUpToOrder};
 
 use crate::levels::Levels;
 use crate::node::Node;
-use crate::store::Store;
 use match_pruning::Window;
+use match_pruning::store::Store;
 use stix_times::Instant;
 
 /// Removes what has expired from all stores of a node, and leaves the rest of each store in any

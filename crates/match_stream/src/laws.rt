@@ -8,8 +8,8 @@ ghost use Rattle.match_bindings.specs.Span.{later_by};
 ghost use Rattle.match_bindings.specs.BindTree.{BindTree};
 ghost use Rattle.match_bindings.specs.Log.{observed_in};
 ghost use Rattle.match_bindings.specs.Listing.{IsListing};
-ghost use Rattle.match_stream.specs.PartialMatchTree.{PartialMatchTree};
-ghost use Rattle.match_stream.specs.RowNumbers.{is_kept};
+ghost use Rattle.match_pruning.specs.PartialMatchTree.{PartialMatchTree};
+ghost use Rattle.match_pruning.specs.RowNumbers.{is_kept};
 ghost use Rattle.match_stream.specs.RetainedPart.{IsRetainedPart, time_of};
 ghost use Rattle.match_stream.specs.Answer.{IsRetainedCount, AreAnswers, joined_answers};
 

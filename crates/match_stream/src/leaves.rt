@@ -7,21 +7,21 @@
 ghost use Rattle.std.specs.Prelude.{◌≡◌, ◌+◌, ◌<◌, ◌≤ℤ◌, ◌≤◌, ◌^◌, ◌++◌, ◌∷◌, [], ℕ, true, false, IsTrue, IfOk, IfSome, OnOk, nat_eq};
 ghost use Rattle.std.specs.List.{IsDistinct};
 ghost use Rattle.match_bindings.specs.BindTree.{Second, firsts, tree_of};
-ghost use Rattle.match_stream.specs.inner.PartialMatches.{partial_match_tree, partial_match_trees};
-ghost use Rattle.match_stream.specs.inner.Retains.{retains};
-ghost use Rattle.match_stream.specs.inner.Steps.{held_with, a_leaf, a_choice, row_alone, truth_at, IsNonmatching, step_new};
-ghost use Rattle.match_stream.specs.inner.Needed.{is_needed, needed};
-ghost use Rattle.match_stream.specs.inner.PendingLefts.{pending_lefts_of};
-ghost use Rattle.match_stream.specs.inner.Numbers.{numbers};
+ghost use Rattle.match_pruning.specs.inner.PartialMatches.{partial_match_tree, partial_match_trees};
+ghost use Rattle.match_pruning.specs.inner.Retains.{retains};
+ghost use Rattle.match_pruning.specs.inner.Steps.{held_with, a_leaf, a_choice, row_alone, truth_at, IsNonmatching, step_new};
+ghost use Rattle.match_pruning.specs.inner.Needed.{is_needed, needed};
+ghost use Rattle.match_pruning.specs.inner.PendingLefts.{pending_lefts_of};
+ghost use Rattle.match_pruning.specs.inner.Numbers.{numbers};
 
-use crate::needed::is_needed;
-use crate::partial_match::PartialMatch;
-use crate::pending_left::PendingLeft;
-use crate::row::Row;
-use crate::store::is_retained;
 use flow_values::NoMemory;
 use match_bindings::Bind;
 use match_pruning::Window;
+use match_pruning::needed::is_needed;
+use match_pruning::partial_match::PartialMatch;
+use match_pruning::pending_left::PendingLeft;
+use match_pruning::row::Row;
+use match_pruning::store::is_retained;
 use std::alloc::Global;
 
 /// A leaf (bracket) of a pattern and the leaves after it, each on the right of an `OR` of all
@@ -135,7 +135,7 @@ impl Leaves {
     }
 
     /// The partial matches that end at the row, whether or not they are needed.
-    #[tactic(auto, using(crate::proofs::PicksLemmas::once_one))]
+    #[tactic(auto, using(match_pruning::proofs::PicksLemmas::once_one))]
     fn all_new(
         &self,
         alloc: Global,
@@ -168,7 +168,7 @@ fn holds(truths: &[bool], leaf: u32) -> bool
 }
 
 /// The partial match that binds the row alone.
-#[tactic(auto, using(crate::proofs::PicksLemmas::once_one))]
+#[tactic(auto, using(match_pruning::proofs::PicksLemmas::once_one))]
 fn singleton(row: &Row) -> PartialMatch
     requires span { row.now.first ≤ℤ row.now.last }
     ensures { partial_match_tree result ≡ row_alone row.now }
@@ -207,7 +207,7 @@ fn partial_match(bind: Bind, row: &Row) -> PartialMatch
 }
 
 /// Appends the row alone, under one `Second` and `above` `First`s.
-#[tactic(auto, using(crate::proofs::PicksLemmas::once_second, crate::proofs::PicksLemmas::once_one))]
+#[tactic(auto, using(match_pruning::proofs::PicksLemmas::once_second, match_pruning::proofs::PicksLemmas::once_one))]
 fn push_second(
     alloc: Global,
     above: u32,
@@ -223,7 +223,7 @@ fn push_second(
 }
 
 /// Appends a binding of the row alone, under `above` `First`s.
-#[tactic(auto, using(crate::proofs::PicksLemmas::once_firsts))]
+#[tactic(auto, using(match_pruning::proofs::PicksLemmas::once_firsts))]
 fn push_under(
     alloc: Global,
     above: u32,

@@ -1,7 +1,7 @@
 ghost use Rattle.std.specs.Prelude.{◌≡◌, ◌-◌, ◌≤◌, [], length};
 
-use crate::store::Store;
 use match_pruning::Window;
+use match_pruning::store::Store;
 use std::alloc::Global;
 
 /// The stores of a `REPEATS n`: index j - 1 holds sets of j parts. A store is created with its

@@ -9,10 +9,8 @@
 //! of a binding, and answers every binding, each once. Memory stays within `retained_limit` partial
 //! matches.
 //!
-//! Three proved shortcuts keep dense logs affordable. `skip_index` is a skip index over sorted
-//! keys. `needed` tries a greedy completion and an admissible bound before its exhaustive search.
-//! `heap` is a 4-ary heap by expiry. `laws` states that the answers to the rows of a log,
-//! concatenated, are the listing of `match_bindings`.
+//! `match_pruning` has the stores and joins, and what keeps dense logs affordable. `laws` states that
+//! the answers to the rows of a log, concatenated, are the listing of `match_bindings`.
 //!
 //! ```text
 //! let mut matcher = Matcher::new(alloc, &pattern, 100_000)?;
@@ -23,37 +21,18 @@
 //! ```
 #![tactic(auto)]
 
-mod block;
 mod budget;
-mod completion_bound;
-mod earliest_start;
 mod ending;
 mod expired;
-mod greedy_completion;
-mod heap;
-mod join;
-mod join_filter;
-mod joining;
-mod key;
 pub mod laws;
 mod leaves;
 mod level_step;
 mod levels;
 mod matcher;
-mod matching;
-mod needed;
 mod node;
-mod numbers;
-mod partial_match;
-mod pending_left;
-mod query;
-mod row;
 mod row_numbers;
 mod run;
 mod sides;
-mod skip_index;
-mod stop;
-mod store;
 
 pub use ending::{Ending, MatchRefusal};
 pub use matcher::Matcher;

@@ -10,7 +10,7 @@ ghost use Rattle.match_stream.specs.MatcherState.{Represents, with_row};
 ghost use Rattle.match_stream.specs.Answer.{AnswersRow, IsOverLimitAtRow, AnswersAfter};
 ghost use Rattle.match_stream.specs.Passing.{ContinuesWithoutMatch, no_answers};
 ghost use Rattle.match_bindings.specs.NumberedPattern.{numbered_pattern};
-ghost use Rattle.match_stream.specs.RowNumbers.{AreKept};
+ghost use Rattle.match_pruning.specs.RowNumbers.{AreKept};
 
 use crate::node::empty_node;
 use crate::row_numbers::kept_numbers;
@@ -93,7 +93,7 @@ impl<'p> Matcher<'p> {
     ) -> Result<Items<Bind>, MatchRefusal>
         requires span { first ≤ℤ last }
         // The row numbers fit a u64.
-        requires budget { self.old.ended ≡ None → self.old.rows + 1 < 2 ^ 64 }
+        requires counts { self.old.ended ≡ None → self.old.rows + 1 < 2 ^ 64 }
         // For every log that the matcher represented: it represents the log with this row, and
         // answers it.
         ensures answers { (log : List LogEntry) → Represents self.old log → IsInOrder log
@@ -143,7 +143,7 @@ impl<'p> Matcher<'p> {
     /// no binding ends at such a row. Looks at each store once, and takes no memory.
     pub fn pass(&mut self, rows: u64, last: Instant) -> Result<(), MatchRefusal>
         requires some { 1 ≤ rows }
-        requires budget { self.old.ended ≡ None → self.old.rows + rows < 2 ^ 64 }
+        requires counts { self.old.ended ≡ None → self.old.rows + rows < 2 ^ 64 }
         // The same state as after `rows` calls of `take` at which no bracket holds.
         ensures represents { (log nonmatching : List LogEntry) → Represents self.old log
             → ContinuesWithoutMatch log nonmatching rows last

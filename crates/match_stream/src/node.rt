@@ -12,29 +12,29 @@ ghost use Rattle.std.specs.Box.{box_value};
 ghost use Rattle.pattern_types.specs.Leaves.{leaves};
 ghost use Rattle.match_bindings.specs.NumberedPattern.{numbered_from};
 ghost use Rattle.match_bindings.specs.BindTree.{One, Second, firsts};
-ghost use Rattle.match_stream.specs.inner.PartialMatches.{partial_match_tree, partial_match_trees};
+ghost use Rattle.match_pruning.specs.inner.PartialMatches.{partial_match_tree, partial_match_trees};
 ghost use Rattle.match_pruning.specs.Stores.{window_of};
-ghost use Rattle.match_stream.specs.inner.Steps.{held_with, a_leaf, a_join, a_choice, a_limit, a_chain, all_levels, empty_sides, step_new, step_state, empty_state, IsNonmatching};
-ghost use Rattle.match_stream.specs.inner.Needed.{needed, closed, pending_lefts_right, pending_lefts_part};
-ghost use Rattle.match_stream.specs.inner.PendingLefts.{pending_left_trees, pending_lefts_of};
+ghost use Rattle.match_pruning.specs.inner.Steps.{held_with, a_leaf, a_join, a_choice, a_limit, a_chain, all_levels, empty_sides, step_new, step_state, empty_state, IsNonmatching};
+ghost use Rattle.match_pruning.specs.inner.Needed.{needed, closed, pending_lefts_right, pending_lefts_part};
+ghost use Rattle.match_pruning.specs.inner.PendingLefts.{pending_left_trees, pending_lefts_of};
 ghost use Rattle.match_stream.specs.inner.Totals.{held_after, retained_at, Admits, IsOverAt};
 ghost use Rattle.match_stream.specs.inner.Nodes.{side_stores, leaves_of, levels_state, state_of};
-ghost use Rattle.match_stream.specs.declared.stop.Stop.TheVariants as stop;
+ghost use Rattle.match_pruning.specs.declared.stop.Stop.TheVariants as stop;
 
 use crate::budget::Budget;
-use crate::join::Join;
-use crate::join_filter::JoinFilter;
 use crate::leaves::Leaves;
 use crate::levels::Levels;
-use crate::partial_match::PartialMatch;
-use crate::pending_left::PendingLeft;
-use crate::row::Row;
 use crate::sides::Sides;
-use crate::stop::Stop;
-use crate::store::{Store, store_window};
 use flow_values::NoMemory;
 use match_bindings::{Bind, Bounds};
 use match_pruning::Window;
+use match_pruning::join::Join;
+use match_pruning::join_filter::JoinFilter;
+use match_pruning::partial_match::PartialMatch;
+use match_pruning::pending_left::PendingLeft;
+use match_pruning::row::Row;
+use match_pruning::stop::Stop;
+use match_pruning::store::{Store, store_window};
 use pattern_types::{Pattern, leaf_count};
 use std::alloc::Global;
 use std::mem;
@@ -651,7 +651,7 @@ fn add_seconds(
 }
 
 /// Wraps each binding in `count` `First`s.
-#[tactic(auto, using(crate::proofs::InPlaceLemmas::once_only, crate::proofs::PicksLemmas::once_firsts))]
+#[tactic(auto, using(crate::proofs::InPlaceLemmas::once_only, match_pruning::proofs::PicksLemmas::once_firsts))]
 fn wrap_firsts(alloc: Global, count: u32, held: &mut Vec<PartialMatch>) -> Result<(), NoMemory>
     ensures { OnOk result (partial_match_trees held.new.items
         ≡ map (held_with (firsts count)) (partial_match_trees held.old.items)) }
@@ -665,7 +665,7 @@ fn wrap_firsts(alloc: Global, count: u32, held: &mut Vec<PartialMatch>) -> Resul
 }
 
 /// Wraps each binding in a `Second`.
-#[tactic(auto, using(crate::proofs::InPlaceLemmas::once_only, crate::proofs::PicksLemmas::once_second))]
+#[tactic(auto, using(crate::proofs::InPlaceLemmas::once_only, match_pruning::proofs::PicksLemmas::once_second))]
 fn wrap_seconds(alloc: Global, held: &mut Vec<PartialMatch>) -> Result<(), NoMemory>
     ensures { OnOk result (partial_match_trees held.new.items
         ≡ map (held_with Second) (partial_match_trees held.old.items)) }

@@ -1,16 +1,16 @@
 //! The numbers of the rows that a matcher keeps.
 
 ghost use Rattle.std.specs.Prelude.{◌≡◌, ◌++◌, IfOk, OnOk};
-ghost use Rattle.match_stream.specs.RowNumbers.{AreKept};
-ghost use Rattle.match_stream.specs.inner.Steps.{all_levels, contents_of};
+ghost use Rattle.match_pruning.specs.RowNumbers.{AreKept};
+ghost use Rattle.match_pruning.specs.inner.Steps.{all_levels, contents_of};
 ghost use Rattle.match_stream.specs.inner.Nodes.{store_list, store_lists, state_of};
-ghost use Rattle.match_stream.specs.inner.Numbers.{store_numbers, all_numbers};
+ghost use Rattle.match_pruning.specs.inner.Numbers.{store_numbers, all_numbers};
 
 use crate::levels::Levels;
 use crate::node::Node;
-use crate::numbers::push_numbers;
-use crate::store::Store;
 use flow_values::NoMemory;
+use match_pruning::numbers::push_numbers;
+use match_pruning::store::Store;
 use std::alloc::Global;
 
 /// The numbers in the stores of a node, ascending, each once.
@@ -25,7 +25,7 @@ pub(crate) fn kept_numbers(alloc: Global, node: &Node) -> Result<Vec<u64>, NoMem
 }
 
 /// Appends the numbers in the stores of a node.
-#[tactic(auto, using(crate::proofs::RowNumbersLemmas::numbers_append))]
+#[tactic(auto, using(match_pruning::proofs::RowNumbersLemmas::numbers_append))]
 fn push_node(node: &Node, out: &mut Vec<u64>) -> Result<(), NoMemory>
     ensures { OnOk result (out.new.items ≡ out.old.items
         ++ all_numbers (contents_of (state_of node.now))) }
@@ -52,7 +52,7 @@ fn push_node(node: &Node, out: &mut Vec<u64>) -> Result<(), NoMemory>
 }
 
 /// Appends the numbers in the stores of a `REPEATS`.
-#[tactic(auto, using(crate::proofs::RowNumbersLemmas::numbers_levels))]
+#[tactic(auto, using(match_pruning::proofs::RowNumbersLemmas::numbers_levels))]
 fn push_levels(levels: &Levels, out: &mut Vec<u64>) -> Result<(), NoMemory>
     ensures { OnOk result (out.new.items ≡ out.old.items
         ++ all_numbers (all_levels levels.now.count (store_lists levels.now.stores.items))) }

@@ -1,19 +1,19 @@
 ghost use Rattle.std.specs.Prelude.{◌≡◌, ◌<◌, ◌+◌, ◌^◌, ◌↔◌, ℕ, ℤ, ◌≤ℤ◌, ◌<ℤ◌, Err, Some, map, IfOk, OnOk};
 ghost use Rattle.match_bindings.specs.BindTree.{tree_of};
 ghost use Rattle.match_stream.specs.declared.ending.Ending.TheVariants as ending;
-ghost use Rattle.match_stream.specs.PartialMatchTree.{trees_in};
-ghost use Rattle.match_stream.specs.inner.PartialMatches.{partial_match_trees};
-ghost use Rattle.match_stream.specs.declared.stop.Stop.TheVariants as stop;
+ghost use Rattle.match_pruning.specs.PartialMatchTree.{trees_in};
+ghost use Rattle.match_pruning.specs.inner.PartialMatches.{partial_match_trees};
+ghost use Rattle.match_pruning.specs.declared.stop.Stop.TheVariants as stop;
 
 use crate::Ending;
 use crate::budget::Budget;
 use crate::expired::clear;
 use crate::node::{Node, step_alone};
-use crate::partial_match::PartialMatch;
-use crate::row::Row;
-use crate::stop::Stop;
 use flow_values::{Items, NoMemory};
 use match_bindings::{Bind, in_order};
+use match_pruning::partial_match::PartialMatch;
+use match_pruning::row::Row;
+use match_pruning::stop::Stop;
 use std::alloc::Global;
 use stix_times::Instant;
 
@@ -57,7 +57,7 @@ impl Run {
         truths: &[bool],
     ) -> Result<Items<Bind>, Ending>
         requires span { first ≤ℤ last }
-        requires budget { self.old.rows + 1 < 2 ^ 64 }
+        requires counts { self.old.rows + 1 < 2 ^ 64 }
         ensures in_order { (before now : ℤ) → ¬ (result ≡ Err (ending.OutOfOrder before now)) }
         ensures over_limit { (number retained_limit : ℕ)
             → result ≡ Err (ending.OverLimit number retained_limit)

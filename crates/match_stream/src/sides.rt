@@ -1,21 +1,21 @@
 ghost use Rattle.std.specs.Prelude.{◌≡◌, ◌+◌, ◌<◌, false, length, IfOk, OnOk, Err};
 ghost use Rattle.match_pruning.specs.Stores.{window_of};
-ghost use Rattle.match_stream.specs.inner.PartialMatches.{partial_match_trees};
-ghost use Rattle.match_stream.specs.inner.Steps.{joins_both, sides_kept, sides_stored, sides_count, empty_sides};
-ghost use Rattle.match_stream.specs.inner.Demands.{join_filtered};
-ghost use Rattle.match_stream.specs.declared.stop.Stop.TheVariants as stop;
+ghost use Rattle.match_pruning.specs.inner.PartialMatches.{partial_match_trees};
+ghost use Rattle.match_pruning.specs.inner.Steps.{joins_both, sides_kept, sides_stored, sides_count, empty_sides};
+ghost use Rattle.match_pruning.specs.inner.JoinFilters.{join_filtered};
+ghost use Rattle.match_pruning.specs.declared.stop.Stop.TheVariants as stop;
 ghost use Rattle.match_stream.specs.inner.Nodes.{side_stores};
-ghost use Rattle.match_stream.specs.inner.UpToOrder.{AreSameSides};
+ghost use Rattle.match_pruning.specs.inner.UpToOrder.{AreSameSides};
 
 use crate::budget::Budget;
-use crate::join::Join;
-use crate::join_filter::JoinFilter;
-use crate::partial_match::PartialMatch;
-use crate::stop::Stop;
-use crate::store::{Store, store_window};
 use flow_values::NoMemory;
 use match_bindings::Bounds;
 use match_pruning::Window;
+use match_pruning::join::Join;
+use match_pruning::join_filter::JoinFilter;
+use match_pruning::partial_match::PartialMatch;
+use match_pruning::stop::Stop;
+use match_pruning::store::{Store, store_window};
 use std::alloc::Global;
 use stix_times::Instant;
 

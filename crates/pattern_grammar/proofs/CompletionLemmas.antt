@@ -29,7 +29,7 @@ prefix_start = record { more = some SquareOpen ∷ prefix_test.more ++ some Squa
 pub prefix_whole : {V : Type 0} {Spells : List Token → V → Type 0} {ts : List Token} (v : V) → Spells ts v → Prefix Spells ts
 prefix_whole v x = record { more = []; value = v; spells = rw append-nil x }
 
--- a line behind another
+-- a line after another
 pub prefix_behind : {V W : Type 0} {A : List Token → V → Type 0} {B : List Token → W → Type 0} (a b : List Token) (f : V → W) → ((us : List Token) (v : V) → A us v → B (a ++ us) (f v)) → Prefix A b → Prefix B (a ++ b)
 prefix_behind a b f join x = record { more = x.more; value = f x.value; spells = rw (append_assoc a b x.more) (join (b ++ x.more) x.value x.spells) }
 

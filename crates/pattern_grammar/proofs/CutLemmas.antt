@@ -2,13 +2,13 @@
 use Rattle.std.proofs.Common.{◌≡◌, List, [], ◌∷◌, ◌++◌, ◌⊎◌, inl, inr, refl, sym}
 use Rattle.pattern_lexer.specs.declared.token.Token.{Token}
 
--- the first cut, into x and y, falls behind the second, into ts and more, or on it
+-- the first cut, into x and y, is after the second, into ts and more, or on it
 pub record Longer (x y ts more : List Token) : Type 0 where
   pub between : List Token
   pub longer : x ≡ ts ++ between
   pub left : more ≡ between ++ y
 
--- one of the cuts falls behind the other
+-- one of the cuts is after the other
 pub cut : (x y ts more : List Token) → x ++ y ≡ ts ++ more → Longer x y ts more ⊎ Longer ts more x y
 cut [] y ts more e = inr (record { between = ts; longer = refl; left = e })
 cut (a ∷ x) y [] more e = inl (record { between = a ∷ x; longer = refl; left = sym e })

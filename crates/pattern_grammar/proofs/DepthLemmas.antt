@@ -13,7 +13,7 @@ use Rattle.pattern_grammar.specs.inner.Machine.{IsFirstAt}
 use Rattle.pattern_grammar.proofs.CompletionLemmas.{prefix_whole}
 use Rattle.pattern_grammar.proofs.DerivesLemmas.{completes_prefix}
 
--- where a token stands in a list with one more behind it: it is that one, or stands before it
+-- where a token stands in a list with one more after it: it is that one, or stands before it
 pub data Standing (ts : List Token) (last : Token) (before : List Token) (token : Token) (after : List Token) : Type 0 where
   behind : ts ≡ before → last ≡ token → after ≡ [] → Standing ts last before token after
   within : (between : List Token) → ts ≡ before ++ token ∷ between → Standing ts last before token after

@@ -20,7 +20,7 @@ many_more : {a : Part} {ts us : List Token} → Derives (many a) ts → Derives 
 many_more {us = us} no_more y = rw (← append-nil us) (one_more y no_more)
 many_more {us = ws} (one_more {ts = ts} {us = us} x z) y = rw (append_assoc ts us ws) (one_more x (many_more z y))
 
--- a line with one part more behind those that are repeated
+-- a line with one part more after those that are repeated
 further_part : {a b : Part} {ts us : List Token} → Derives (a then many b) ts → Derives b us → Derives (a then many b) (ts ++ us)
 further_part {us = ws} (is_both {ts = ts} {us = us} x z) y = rw (append_assoc ts us ws) (is_both x (many_more z y))
 
@@ -104,7 +104,7 @@ pub record Spelled {V : Type 0} (Spells : List Token → V → Type 0) (ts : Lis
   pub value : V
   pub spells : Spells ts value
 
--- behind other tokens
+-- after other tokens
 onto : {V : Type 0} {Spells : List Token → V → Type 0} (a b c : List Token) → Spelled Spells ((a ++ b) ++ c) → Spelled Spells (a ++ (b ++ c))
 onto a b c x = record { value = x.value; spells = rw (← append_assoc a b c) x.spells }
 

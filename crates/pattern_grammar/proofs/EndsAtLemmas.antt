@@ -26,7 +26,7 @@ dead (t ∷ ts) = dead ts
 lost : (s : Option (List Expected)) (t : Token) (r more : List Token) → go s (t ∷ r) ≡ None → state_after s (t ∷ more) ≡ None
 lost s t r more h = ap (λ o. state_after o more) (sym (go_is s t r) ∙ h) ∙ dead more
 
--- a list that goes on where it may not isn't spelled
+-- a list that continues where it may not isn't spelled
 no_more : (read : List Token) (t : Token) (r more : List Token) → go (state_after (Some (expects_pattern [])) read) (t ∷ r) ≡ None → (p : Tree) → ¬ IsPattern (read ++ t ∷ more) p
 no_more read t r more h p x =
     let e : state_after (Some (expects_pattern [])) (read ++ t ∷ more) ≡ None = state_after-append (Some (expects_pattern [])) read (t ∷ more) ∙ lost _ t r more h in

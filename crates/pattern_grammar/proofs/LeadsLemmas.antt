@@ -26,7 +26,7 @@ leads_then {f} {g} {h} x y r a b = record { proceed = λ k. ap (λ s. go s r) (s
 pub halts_then : {f g : List Expected → List Expected} (x y r : List Token) → Leads f g x (y ++ r) → Halts g y r → Halts f (x ++ y) r
 halts_then {f} {g} x y r a b = record { stop = λ k. ap (λ s. go s r) (state_after-append (Some (f k)) x y) ∙ resume (state_after (Some (f k)) x) (Some (g k)) y r (a.proceed k) ∙ b.stop k }
 
--- the same with more expected behind it
+-- the same with more expected after it
 pub leads_before : {f g : List Expected → List Expected} {x r : List Token} (m : List Expected → List Expected) → Leads f g x r → Leads (λ k. f (m k)) (λ k. g (m k)) x r
 leads_before m a = record { proceed = λ k. a.proceed (m k) }
 

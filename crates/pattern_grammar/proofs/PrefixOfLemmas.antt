@@ -1,4 +1,4 @@
--- What is a prefix goes on to something derived, and what begins something derived is a prefix.
+-- What is a prefix extends to something derived, and what begins something derived is a prefix.
 use Rattle.std.proofs.Common.{◌≡◌, true, List, [], ◌∷◌, ◌++◌, inl, inr, refl, append_assoc}
 use denote.Enum.Bare.{true_same}
 use Rattle.pattern_lexer.specs.contracts.token.TokenKind.{the_type}
@@ -113,7 +113,7 @@ some_part (a or b) = some_left (some_part a)
 some_part (many a) = some_many
 some_part (maybe a) = some_maybe
 
--- a prefix goes on to something derived
+-- a prefix extends to something derived
 pub record Completion (a : Part) (ts : List Token) : Type 0 where
   pub more : List Token
   pub derived : Derives a (ts ++ more)

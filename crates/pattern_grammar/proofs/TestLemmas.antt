@@ -76,7 +76,7 @@ pub as_check : (ts : List Token) → Lacks (Only kind.Not) ts → Leads (λ k. l
 as_check [] h = record { proceed = λ k. refl }
 as_check (t ∷ ts) h = record { proceed = λ k. rw h refl }
 
--- with NOT, it begins behind it
+-- with NOT, it begins after it
 pub negated : (o : Token) (r : List Token) → IsA (Only kind.Not) o → Leads (λ k. line turn ∷ k) expects_check (o ∷ []) r
 negated o r h = record { proceed = λ k. rw h refl }
 

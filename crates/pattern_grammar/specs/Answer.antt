@@ -1,4 +1,4 @@
--- What reading all of the tokens answers, and where in a text they are refused.
+-- The result of parsing all of the tokens, and the byte offset of a refusal.
 use Rattle.std.specs.Prelude.{◌≡◌, List, [], ◌∷◌, ◌++◌, ℕ, Result, Ok, Err}
 use Rattle.pattern_lexer.specs.declared.token.Token.{Token}
 use Rattle.pattern_grammar.specs.declared.stop.Stop.{Stop, TheVariants.Memory, TheVariants.Syntax}
@@ -7,16 +7,16 @@ use Rattle.pattern_grammar.specs.{Prefixes.PrefixOf, Prefixes.line, Prefixes.pat
 use Rattle.pattern_grammar.specs.declared.refusal.SyntaxRefusal.TheVariants as refused
 use Rattle.pattern_grammar.specs.Depth.{NoneTooMany, FirstTooMany}
 
--- the tokens begin a pattern: they are a prefix of its line
+-- the tokens are a viable prefix of a pattern
 abbrev pub BeginsPattern : List Token → Type 0
 BeginsPattern = PrefixOf (line pattern)
 
--- some longer list, or the tokens themselves, spell a pattern
+-- some extension of the tokens is a pattern
 abbrev pub Completes : List Token → Type 0
 Completes = Prefix IsPattern
 
--- the tokens before the rest begin a pattern, and with the first of the rest they don't; with no rest
--- they spell none
+-- the tokens before the rest are a viable prefix, and with the first of the rest they aren't; with
+-- no rest they aren't a pattern
 abbrev pub EndsAt : List Token → List Token → Type 0
 EndsAt read [] = (p : Tree) → ¬ IsPattern read p
 EndsAt read (t ∷ rest) = ¬ BeginsPattern (read ++ t ∷ [])
@@ -31,36 +31,36 @@ abbrev pub SyntaxError : List Token → Stop → Type 0
 SyntaxError ts Memory = Unit {0}
 SyntaxError ts (Syntax rest) = SyntaxErrorAt ts rest.now
 
--- where the rest begins in a text of this length
+-- the byte offset of the rest in a text of this length
 abbrev pub offset : List Token → ℕ → ℕ
 offset [] end = end
 offset (t ∷ ts) end = t.from
 
--- the tokens before the rest begin a pattern, with its first they don't, and none of them is one too
--- many
+-- the tokens before the rest are a viable prefix, with its first they aren't, and none of them
+-- exceeds a limit
 pub record SyntaxAt (ts : List Token) (end at : ℕ) : Type 0 where
   pub rest : List Token
   pub syntax_error : SyntaxErrorAt ts rest
   pub shallow : NoneTooMany syntax_error.read
   pub here : at ≡ offset rest end
 
--- the tokens through the first that is one too many begin a pattern
+-- the tokens through the first that exceeds a limit are a viable prefix
 pub record DeepAt (ts : List Token) (at : ℕ) : Type 0 where
   pub first : FirstTooMany ts
   pub prefix : BeginsPattern (first.before ++ first.token ∷ [])
   pub here : at ≡ first.token.from
 
--- why the tokens of a text of this length are no pattern's
+-- why the tokens of a text of this length aren't a pattern
 abbrev pub IsMisread : List Token → ℕ → SyntaxRefusal → Type 0
 IsMisread ts end (refused.Syntax at) = SyntaxAt ts end at
 IsMisread ts end (refused.TooDeep at) = DeepAt ts at
 
--- the tokens spell the tree, and none of them is one too many
+-- the tokens have this syntax tree, and none of them exceeds a limit
 pub record IsTreeOf (ts : List Token) (tree : Tree) : Type 0 where
   pub spells : IsPattern ts tree
   pub shallow : NoneTooMany ts
 
--- what reading the tokens of a text of this length answers
+-- the result of parsing the tokens of a text of this length
 abbrev pub AnswersTree : List Token → ℕ → Result PatternTree SyntaxRefusal → Type 0
 AnswersTree ts end (Ok tree) = IsTreeOf ts (shape tree)
 AnswersTree ts end (Err refusal) = IsMisread ts end refusal

@@ -1,4 +1,5 @@
--- Which token is one too many: a `(` while MAX_DEPTH parentheses are open, or the first of a qualifier behind MAX_DEPTH of them.
+-- The limits on nesting. A token exceeds one if it is a `(` while MAX_DEPTH parentheses are open,
+-- or the first of a qualifier after MAX_DEPTH of them.
 use Rattle.std.specs.Prelude.{◌≡◌, ℕ, ◌+◌, ◌≤◌, ◌⊎◌, List, [], ◌∷◌, ◌++◌, count_by}
 use Rattle.pattern_lexer.specs.declared.token.Token.{Token}
 use Rattle.pattern_lexer.specs.declared.token.TokenKind.TheVariants.{RoundOpen, RoundClose, Among}
@@ -6,7 +7,7 @@ use Rattle.pattern_grammar.specs.declared.class.TokenClass.{TokenClass, TheVaria
 use Rattle.pattern_grammar.specs.declared.depth.TheConstants.{MAX_DEPTH}
 use Rattle.pattern_grammar.specs.TokenClass.{is_in, IsA}
 
--- how many of the tokens are of the class
+-- the number of tokens of the class
 abbrev pub how_many : TokenClass → List Token → ℕ
 how_many class ts = count_by (λ t. is_in class t.kind) ts
 
@@ -17,26 +18,26 @@ pub record EndsWithIn (ts : List Token) : Type 0 where
   pub spelled : ts ≡ prefix ++ last ∷ []
   pub among : IsA (Only Among) last
 
--- a `(` while so many more `(` than `)` stand before it, but not the one directly behind IN
+-- a `(` while MAX_DEPTH more `(` than `)` precede it, but not the one directly after IN
 pub record IsDeepOpen (before : List Token) (token : Token) : Type 0 where
   pub opens : IsA (Only RoundOpen) token
   pub groups : ¬ EndsWithIn before
   pub deep : how_many (Only RoundClose) before + MAX_DEPTH ≤ how_many (Only RoundOpen) before
 
--- the first token of a qualifier, behind so many
+-- the first token of a qualifier after MAX_DEPTH of them
 pub record IsDeepQualifier (before : List Token) (token : Token) : Type 0 where
   pub qualifies : IsA Qualifying token
   pub deep : MAX_DEPTH ≤ how_many Qualifying before
 
--- the token is one too many behind those
+-- the token after those exceeds a limit
 abbrev pub IsTooMany : List Token → Token → Type 0
 IsTooMany before token = IsDeepOpen before token ⊎ IsDeepQualifier before token
 
--- none of the tokens is one too many
+-- none of the tokens exceeds a limit
 abbrev pub NoneTooMany : List Token → Type 0
 NoneTooMany ts = (before : List Token) (token : Token) (after : List Token) → ts ≡ before ++ token ∷ after → ¬ IsTooMany before token
 
--- the first token that is one too many, and what stands around it
+-- the first token that exceeds a limit, and the tokens around it
 pub record FirstTooMany (ts : List Token) : Type 0 where
   pub before : List Token
   pub token : Token
@@ -45,6 +46,6 @@ pub record FirstTooMany (ts : List Token) : Type 0 where
   pub none_before : NoneTooMany before
   pub too_many : IsTooMany before token
 
--- none but the last is one too many
+-- none but the last exceeds a limit
 abbrev pub IsShallow : List Token → Type 0
 IsShallow ts = (before : List Token) (token : Token) (after : List Token) → ts ≡ before ++ token ∷ after → IsTooMany before token → after ≡ []

@@ -1,5 +1,5 @@
--- The grammar of patterns (STIX 2.1, section 9): which tokens spell what, one relation for each line
--- and one rule for each way to write it.
+-- The grammar of patterns (STIX 2.1, section 9) as relations from tokens to syntax trees: one
+-- relation for each nonterminal, one constructor for each alternative.
 use Rattle.std.specs.Prelude.{List, [], ◌∷◌, ◌++◌, true, false}
 use Rattle.pattern_lexer.specs.declared.token.Token.{Token}
 use Rattle.pattern_lexer.specs.declared.token.TokenKind.TheVariants as kind
@@ -16,7 +16,7 @@ pub data IsStep : List Token → StepTree → Type 0 where
   step_name : (a b : Token) → IsA (Only kind.Dot) a → IsA Name b → IsStep (a ∷ b ∷ []) (step.Name b)
   step_index : (a b c : Token) → IsA (Only kind.SquareOpen) a → IsA Index b → IsA (Only kind.SquareClose) c → IsStep (a ∷ b ∷ c ∷ []) (step.Index b)
 
--- the path with one step more
+-- the path with one more step
 abbrev pub further : PathTree → StepTree → PathTree
 further path next = record { root = path.root; steps = path.steps ++ next ∷ [] }
 

@@ -1,19 +1,19 @@
--- The lines of the grammar (STIX 2.1, section 9) as they are written, what is derived from them, and
--- what begins so: the prefixes.
+-- The grammar (STIX 2.1, section 9) as production rules, the derivable token lists, and their
+-- prefixes.
 use Rattle.std.specs.Prelude.{List, [], ◌∷◌, ◌++◌}
 use Rattle.pattern_lexer.specs.declared.token.{Token.Token, TokenKind.TokenKind}
 use Rattle.pattern_lexer.specs.declared.token.TokenKind.TheVariants.{SquareOpen, SquareClose, RoundOpen, RoundClose, Dot, Colon, Comma, And, Or, Not, FollowedBy, Within, Seconds, Repeats, Times, Start, Stop, Among, Exists, Number, String, Timestamp}
 use Rattle.pattern_grammar.specs.{declared.class.TokenClass.TokenClass, TokenClass.IsA}
 use Rattle.pattern_grammar.specs.declared.class.TokenClass.TheVariants.{Only, Root, Name, Index, Equality, Order, Textual, Ordered, Constant}
 
--- the names of the lines
+-- the nonterminals
 pub data Nonterminal : Type 0 where
   pattern ors ands unit qualifier cor cand test compare path : Nonterminal
 
 infixr 20 ◌then◌
 infixr 10 ◌or◌
--- what stands in a line: a token of a class, another line, one part after another, a choice, a part
--- that is repeated, a part that may be absent
+-- the right side of a production: a token of a class, a nonterminal, a sequence, a choice, a
+-- repeated part, an optional part
 pub data Part : Type 0 where
   one : TokenClass → Part
   line : Nonterminal → Part
@@ -58,22 +58,22 @@ pub data Derives : Part → List Token → Type 0 where
   absent : {a : Part} → Derives (maybe a) []
   present : {a : Part} {ts : List Token} → Derives a ts → Derives (maybe a) ts
 
--- the tokens are a prefix of the part
+-- the tokens are a prefix of some list derived from the part
 pub data PrefixOf : Part → List Token → Type 0 where
   -- of a token: nothing, or the token
   before_one : {class : TokenClass} → PrefixOf (one class) []
   after_one : {class : TokenClass} (t : Token) → IsA class t → PrefixOf (one class) (t ∷ [])
   of_line : {l : Nonterminal} {ts : List Token} → PrefixOf (rule l) ts → PrefixOf (line l) ts
-  -- of parts in sequence: a prefix of the first, or the first and a prefix of what follows it
+  -- of a sequence: a prefix of the first part, or the first part and a prefix of the second
   in_first : {a b : Part} {ts : List Token} → PrefixOf a ts → PrefixOf (a then b) ts
   in_second : {a b : Part} {ts us : List Token} → Derives a ts → PrefixOf b us → PrefixOf (a then b) (ts ++ us)
   -- of a choice: a prefix of one side
   of_left : {a b : Part} {ts : List Token} → PrefixOf a ts → PrefixOf (a or b) ts
   of_right : {a b : Part} {ts : List Token} → PrefixOf b ts → PrefixOf (a or b) ts
-  -- of a part that is repeated: nothing, a prefix of it, or the part and a prefix of more
+  -- of a repeated part: nothing, a prefix of it, or the part and a prefix of more
   before_many : {a : Part} → PrefixOf (many a) []
   in_many : {a : Part} {ts : List Token} → PrefixOf a ts → PrefixOf (many a) ts
   in_more : {a : Part} {ts us : List Token} → Derives a ts → PrefixOf (many a) us → PrefixOf (many a) (ts ++ us)
-  -- of a part that may be absent: nothing, or a prefix of it
+  -- of an optional part: nothing, or a prefix of it
   before_maybe : {a : Part} → PrefixOf (maybe a) []
   in_maybe : {a : Part} {ts : List Token} → PrefixOf a ts → PrefixOf (maybe a) ts

@@ -1,4 +1,4 @@
--- What a refusal of tokens is called, and where it stands.
+-- The name of a refusal, and its byte offset.
 use Rattle.std.specs.Prelude.{ℕ, List, codes}
 use Rattle.pattern_grammar.specs.declared.refusal.SyntaxRefusal.{SyntaxRefusal, TheVariants.Syntax, TheVariants.TooDeep}
 
@@ -7,7 +7,7 @@ abbrev pub name_of : SyntaxRefusal → List ℕ
 name_of (Syntax at) = codes "Syntax"
 name_of (TooDeep at) = codes "TooDeep"
 
--- its place
+-- its byte offset
 abbrev pub place_of : SyntaxRefusal → ℕ
 place_of (Syntax at) = at
 place_of (TooDeep at) = at

@@ -1,4 +1,4 @@
--- The kinds of tokens that may stand at a place of the grammar.
+-- Sets of token kinds that the grammar allows at one point.
 use denote.Enum.Bare.{sameb}
 use Rattle.std.specs.Prelude.{◌≡◌, Bool, true, ◌||◌}
 use Rattle.pattern_lexer.specs.{contracts.token.TokenKind.the_type, declared.token.Token.Token, declared.token.TokenKind.TokenKind}
@@ -6,7 +6,7 @@ use Rattle.pattern_lexer.specs.declared.token.TokenKind.TheVariants.{SquareOpen,
 use Rattle.pattern_grammar.specs.declared.class.TokenClass.{TokenClass}
 use Rattle.pattern_grammar.specs.declared.class.TokenClass.TheVariants.{Only, Root, Name, Index, Equality, Order, Textual, Ordered, Constant, Qualifying, Stepping}
 
--- the two kinds are one
+-- the two kinds are equal
 abbrev pub same : TokenKind → TokenKind → Bool
 same a b = sameb the_type a b
 
@@ -14,8 +14,8 @@ same a b = sameb the_type a b
 abbrev pub is_ordered : TokenKind → Bool
 is_ordered kind = same Number kind || same String kind || same Hex kind || same Binary kind || same Timestamp kind
 
--- the kind is one of the class: of the types of objects, of properties, of what stands in the brackets of a
--- path, of operators, of constants, of what a qualifier begins with, of what a further step of a path does
+-- the class has the kind. The classes are object types, properties, indices in brackets, operators,
+-- constants, and the first tokens of qualifiers and of further steps
 abbrev pub is_in : TokenClass → TokenKind → Bool
 is_in (Only expected) kind = same expected kind
 is_in Root kind = same Word kind || same HyphenWord kind

@@ -1,4 +1,4 @@
--- Syntax trees without where they lie in memory: chains of an operator go from the left.
+-- Syntax trees as plain inductive types. Chains of an operator associate to the left.
 use Rattle.std.specs.Prelude.{List, [], ◌∷◌}
 use Rattle.pattern_lexer.specs.declared.token.Token.{Token}
 use Rattle.pattern_grammar.specs.declared.{qualifier.Qualifier.Qualifier, comparison.TestTree.TestTree}
@@ -8,7 +8,7 @@ use Rattle.pattern_grammar.specs.declared.comparison.Conjunction.{Conjunction, f
 use Rattle.pattern_grammar.specs.declared.comparison.Operand.{Operand, fold-Operand}
 use Rattle.pattern_grammar.specs.declared.pattern.PatternTree.{PatternTree, fold-PatternTree, TheOpen.PatternTree-F}
 
--- what stands in the brackets of a pattern
+-- the comparison expression in the brackets of a pattern
 pub data Comparison : Type 0 where
   test : TestTree → Comparison
   group : Token → Comparison → Comparison
@@ -20,12 +20,12 @@ pub data Tree : Type 0 where
   both either followed : Tree → Tree → Tree
   qualified : Tree → Qualifier → Tree
 
--- joined from the left, one after another
+-- a left fold of the operator
 abbrev pub joined : {V : Type 0} → (V → V → V) → V → List V → V
 joined join first [] = first
 joined join first (next ∷ others) = joined join (join first next) others
 
--- one level, whose parts are read already
+-- one level, whose parts are converted already
 abbrev pub comparison_level : ComparisonTree-F Comparison Comparison Comparison → Comparison
 comparison_level tree = joined any tree.first tree.others
 

@@ -3,16 +3,16 @@ ghost use Rattle.pattern_grammar.specs.TokenClass.{is_in, is_ordered};
 
 use pattern_lexer::TokenKind;
 
-/// The kinds of tokens that may stand at a place of the grammar.
+/// A set of token kinds that the grammar allows at one point.
 #[derive(Clone, Copy, Debug, PartialEq, Eq)]
 pub enum TokenClass {
-    /// This one.
+    /// This kind only.
     Only(TokenKind),
     /// A type of object: Word, HyphenWord.
     Root,
     /// A property: Word, String.
     Name,
-    /// What stands in the brackets of a path: Number, `*`.
+    /// The index in the brackets of a path: Number, `*`.
     Index,
     /// `=`, `!=`.
     Equality,
@@ -22,16 +22,16 @@ pub enum TokenClass {
     Textual,
     /// Number, String, Hex, Binary, Timestamp.
     Ordered,
-    /// An ordered one, true, false.
+    /// One of `Ordered`, true, false.
     Constant,
-    /// What a qualifier begins with: WITHIN, REPEATS, START.
+    /// The first token of a qualifier: WITHIN, REPEATS, START.
     Qualifying,
-    /// What a further step of a path begins with: `.`, `[`.
+    /// The first token of a further step of a path: `.`, `[`.
     Stepping,
 }
 
 impl TokenClass {
-    /// Whether a token of the kind is of the class.
+    /// Whether the class has this kind.
     pub fn holds(self, kind: TokenKind) -> bool
         ensures { result ≡ is_in self kind }
     {
@@ -69,7 +69,7 @@ impl TokenClass {
     }
 }
 
-/// Whether a token of the kind is a constant that has an order.
+/// Whether the kind is that of a constant with an order.
 fn is_ordered(kind: TokenKind) -> bool
     ensures { result ≡ is_ordered kind }
 {

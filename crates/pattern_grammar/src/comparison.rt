@@ -2,7 +2,7 @@ use crate::PathTree;
 use flow_values::Items;
 use pattern_lexer::Token;
 
-/// What is asked of a value (STIX 2.1, section 9.6.1).
+/// The test of a value (STIX 2.1, section 9.6.1).
 #[derive(Debug, Drop)]
 pub enum CheckTree {
     /// `=`, `!=`, `<`, `<=`, `>` or `>=` and a constant.
@@ -15,27 +15,27 @@ pub enum CheckTree {
     Exists,
 }
 
-/// One comparison: a path, and what is asked of the values there.
+/// One comparison: an object path, and a test of the values there.
 #[derive(Debug, Drop)]
 pub struct TestTree {
-    /// The token that it begins with: the path's, or EXISTS or NOT.
+    /// Its first token: the path's, or EXISTS or NOT.
     pub first: Token,
-    /// Where the values stand.
+    /// The path to the values.
     pub path: PathTree,
     /// Whether `NOT` is written.
     pub negated: bool,
-    /// What is asked.
+    /// The test.
     pub check: CheckTree,
 }
 
-/// What stands in the brackets of a pattern (STIX 2.1, section 9.6): conjunctions, joined by `OR`. A
-/// chain is a list, so that a tree nests no deeper than its parentheses.
+/// The comparison expression in the brackets of a pattern (STIX 2.1, section 9.6): conjunctions,
+/// joined by `OR`. A chain is a list, so the tree is no deeper than its parentheses.
 #[cycle(comparison)]
 #[derive(Debug, Drop)]
 pub struct ComparisonTree {
     /// The first conjunction.
     pub first: Conjunction,
-    /// Those after it.
+    /// The others, in order.
     pub others: Items<Conjunction>,
 }
 
@@ -45,16 +45,16 @@ pub struct ComparisonTree {
 pub struct Conjunction {
     /// The first operand.
     pub first: Operand,
-    /// Those after it.
+    /// The others, in order.
     pub others: Items<Operand>,
 }
 
-/// What `AND` joins.
+/// An operand of `AND`.
 #[cycle(comparison)]
 #[derive(Debug, Drop)]
 pub enum Operand {
-    /// One test.
+    /// A single test.
     Test(TestTree),
-    /// Parentheses, with the first of them.
+    /// A comparison expression in parentheses, with its opening one.
     Group(Token, Box<ComparisonTree>),
 }

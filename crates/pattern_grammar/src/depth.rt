@@ -1,3 +1,6 @@
+//! Limits on nesting, checked by counting tokens before parsing. The parser recurses only at an
+//! open parenthesis, so the count bounds its stack.
+
 ghost use Rattle.std.specs.Prelude.{◌≡◌, ◌<◌, ◌^◌, ◌↔◌, IsTrue, List, [], ◌∷◌, ◌++◌, length, IfSome, IfNone};
 ghost use Rattle.pattern_lexer.specs.declared.token.Token.{Token};
 ghost use Rattle.pattern_grammar.specs.Depth.{IsDeepOpen, IsDeepQualifier, IsTooMany, NoneTooMany};
@@ -6,24 +9,24 @@ ghost use Rattle.pattern_grammar.specs.inner.Machine.{CountsOf, IsFirstAt};
 use crate::TokenClass;
 use pattern_lexer::{Token, TokenKind};
 
-/// How many parentheses may be open, and how many qualifiers a pattern may have.
+/// The greatest nesting of parentheses, and the greatest number of qualifiers of a pattern.
 pub const MAX_DEPTH: usize = 64;
 
-/// What stands before a token.
+/// Counts over the tokens before a given one.
 #[derive(Clone, Copy)]
 struct Counts {
-    /// How many `(`.
+    /// The number of `(`.
     opened: usize,
-    /// How many `)`.
+    /// The number of `)`.
     closed: usize,
-    /// How many first tokens of qualifiers.
+    /// The number of first tokens of qualifiers.
     qualifiers: usize,
-    /// Whether the last of them is `IN`.
+    /// Whether the last token is `IN`.
     after_in: bool,
 }
 
 impl Counts {
-    /// Nothing stands there.
+    /// The counts before the first token.
     fn none() -> Counts
         ensures { CountsOf [] result }
     {
@@ -35,35 +38,39 @@ impl Counts {
         }
     }
 
-    /// Whether the token opens a parenthesis too many.
+    /// Whether the token opens a parenthesis past the limit. The one after `IN` doesn't count.
     fn is_deep_open(self, token: Token) -> bool
-        ensures { (before : List Token) → CountsOf before self → IsTrue result ↔ IsDeepOpen before token }
+        ensures { (before : List Token) → CountsOf before self
+            → IsTrue result ↔ IsDeepOpen before token }
     {
         TokenClass::Only(TokenKind::RoundOpen).holds(token.kind)
             && !self.after_in
             && self.opened.saturating_sub(self.closed) >= MAX_DEPTH
     }
 
-    /// Whether the token begins a qualifier too many.
+    /// Whether the token begins a qualifier past the limit.
     fn is_deep_qualifier(self, token: Token) -> bool
-        ensures { (before : List Token) → CountsOf before self → IsTrue result ↔ IsDeepQualifier before token }
+        ensures { (before : List Token) → CountsOf before self
+            → IsTrue result ↔ IsDeepQualifier before token }
     {
         TokenClass::Qualifying.holds(token.kind) && self.qualifiers >= MAX_DEPTH
     }
 
-    /// Whether the token is one too many.
+    /// Whether the token exceeds a limit.
     fn is_too_many(self, token: Token) -> bool
-        ensures { (before : List Token) → CountsOf before self → IsTrue result ↔ IsTooMany before token }
+        ensures { (before : List Token) → CountsOf before self
+            → IsTrue result ↔ IsTooMany before token }
     {
         self.is_deep_open(token) || self.is_deep_qualifier(token)
     }
 
-    /// What stands before the token behind this one.
+    /// The counts after this token.
     fn with(self, token: Token) -> Counts
         requires opened { self.opened < 2 ^ 63 }
         requires closed { self.closed < 2 ^ 63 }
         requires qualifiers { self.qualifiers < 2 ^ 63 }
-        ensures { (before : List Token) → CountsOf before self → CountsOf (before ++ token ∷ []) result }
+        ensures { (before : List Token) → CountsOf before self
+            → CountsOf (before ++ token ∷ []) result }
     {
         let opens = TokenClass::Only(TokenKind::RoundOpen).holds(token.kind);
         let closes = TokenClass::Only(TokenKind::RoundClose).holds(token.kind);
@@ -77,7 +84,7 @@ impl Counts {
     }
 }
 
-/// How many tokens stand before the first that is one too many.
+/// The number of tokens before the first that exceeds a limit.
 pub(crate) fn first_too_many(tokens: &[Token]) -> Option<usize>
     ensures some { IfSome result (IsFirstAt tokens.now) }
     ensures below { IfSome result (λ count. count < length tokens.now) }

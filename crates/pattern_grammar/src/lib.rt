@@ -1,6 +1,17 @@
-//! The grammar of patterns (STIX 2.1, section 9) over tokens: `parse` gives the syntax tree that a
-//! list of tokens spells, or the first token that doesn't fit. `Grammar` of specs/ has one rule for
-//! each line of the grammar; `prefixes`, `one_language`, `one_pattern` and `one_answer` are laws about it.
+//! The parser of STIX 2.1 patterns (section 9), by recursive descent over tokens. `parse` returns
+//! the syntax tree, or the first token that doesn't fit. `read_tree` also limits the nesting, and
+//! turns tokens into byte offsets.
+//!
+//! specs/Grammar.antt states the grammar with one relation for each production. The theorems
+//! `prefixes`, `one_language`, `one_pattern` and `one_answer` are about it: the error is always at
+//! the end of the longest viable prefix, and the grammar is unambiguous.
+//!
+//! ```ignore
+//! match read_tree(alloc, tokens.as_slice(), text.len())? {
+//!     Ok(tree) => handle(tree),
+//!     Err(refusal) => report(refusal.name(), refusal.at()), // "Syntax", 12
+//! }
+//! ```
 #![tactic(auto)]
 
 mod class;

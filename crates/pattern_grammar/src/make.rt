@@ -17,7 +17,7 @@ pub(crate) fn make_group(
     Ok(Operand::Group(round, Box::new(alloc, inside)?))
 }
 
-/// Patterns joined by `AND`: the first, and those after it.
+/// Patterns joined by `AND`.
 pub(crate) fn make_both(
     alloc: Global,
     first: PatternTree,
@@ -31,7 +31,7 @@ pub(crate) fn make_both(
     Ok(PatternTree::Both(Box::new(alloc, first)?, others))
 }
 
-/// Patterns joined by `OR`: the first, and those after it.
+/// Patterns joined by `OR`.
 pub(crate) fn make_either(
     alloc: Global,
     first: PatternTree,
@@ -45,7 +45,7 @@ pub(crate) fn make_either(
     Ok(PatternTree::Either(Box::new(alloc, first)?, others))
 }
 
-/// Patterns joined by `FOLLOWEDBY`: the first, and those after it.
+/// Patterns joined by `FOLLOWEDBY`.
 pub(crate) fn make_then(
     alloc: Global,
     first: PatternTree,
@@ -59,7 +59,7 @@ pub(crate) fn make_then(
     Ok(PatternTree::Then(Box::new(alloc, first)?, others))
 }
 
-/// A pattern and a qualifier.
+/// A pattern with a qualifier.
 pub(crate) fn make_qualified(
     alloc: Global,
     pattern: PatternTree,

@@ -14,7 +14,8 @@ fn constants<'a>(
     alloc: Global,
     tokens: &'a [Token],
 ) -> Result<(Items<Token>, &'a [Token]), Stop<'a>>
-    ensures ok { IfOk result (λ x. Found AreConstants expects_constants done tokens.now x.0 x.1.now) }
+    ensures ok { IfOk result
+        (λ x. Found AreConstants expects_constants done tokens.now x.0 x.1.now) }
     ensures err { IfErr result (λ e. Refused AreConstants expects_constants tokens.now e) }
 {
     let Some((first, mut rest)) = eat(tokens, TokenClass::Constant) else {

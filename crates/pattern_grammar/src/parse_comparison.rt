@@ -1,3 +1,5 @@
+//! A recursive-descent parser for comparison expressions, one function for each production.
+
 ghost use Rattle.std.specs.Prelude.{IfOk, IfErr};
 ghost use Rattle.pattern_grammar.specs.Grammar.{IsTest, IsCand, IsCor};
 ghost use Rattle.pattern_grammar.specs.Tree.{compared, conjunction, operand, test};
@@ -78,7 +80,8 @@ fn plain_test<'a>(alloc: Global, tokens: &'a [Token]) -> Result<(TestTree, &'a [
 /// `test = "(" cor ")" | [NOT] EXISTS path | path [NOT] compare`
 #[cycle(comparison)]
 fn test<'a>(alloc: Global, tokens: &'a [Token]) -> Result<(Operand, &'a [Token]), Stop<'a>>
-    ensures ok { IfOk result (λ x. Found IsTest expects_test done tokens.now (operand x.0) x.1.now) }
+    ensures ok { IfOk result
+        (λ x. Found IsTest expects_test done tokens.now (operand x.0) x.1.now) }
     ensures err { IfErr result (λ e. Refused IsTest expects_test tokens.now e) }
 {
     if let Some((open, inside)) = eat(tokens, TokenClass::Only(TokenKind::RoundOpen)) {
@@ -97,7 +100,8 @@ fn test<'a>(alloc: Global, tokens: &'a [Token]) -> Result<(Operand, &'a [Token])
 /// `cand = test { AND test }`
 #[cycle(comparison)]
 fn cand<'a>(alloc: Global, tokens: &'a [Token]) -> Result<(Conjunction, &'a [Token]), Stop<'a>>
-    ensures ok { IfOk result (λ x. Found IsCand expects_cand done tokens.now (conjunction x.0) x.1.now) }
+    ensures ok { IfOk result
+        (λ x. Found IsCand expects_cand done tokens.now (conjunction x.0) x.1.now) }
     ensures err { IfErr result (λ e. Refused IsCand expects_cand tokens.now e) }
 {
     let (first, mut rest) = test(alloc, tokens)?;

@@ -1,3 +1,7 @@
+//! A recursive-descent parser for the productions of observation expressions, one function for
+//! each. The grammar is LL(1): the next token decides the alternative, so the parser never
+//! backtracks, and its error is at the end of the longest viable prefix.
+
 ghost use Rattle.std.specs.Prelude.{List, IfOk, IfErr};
 ghost use Rattle.pattern_grammar.specs.Grammar.{IsPattern, IsOrs, IsAnds, IsUnit, IsStart, IsQualifier};
 ghost use Rattle.pattern_grammar.specs.Tree.{Tree, shape};
@@ -16,7 +20,8 @@ use std::alloc::Global;
 
 /// `qualifier = WITHIN Number SECONDS | REPEATS Number TIMES | START Timestamp STOP Timestamp`
 fn qualifier<'a>(tokens: &'a [Token]) -> Result<(Qualifier, &'a [Token]), Stop<'a>>
-    ensures ok { IfOk result (λ x. Found IsQualifier expects_qualifier done tokens.now x.0 x.1.now) }
+    ensures ok { IfOk result
+        (λ x. Found IsQualifier expects_qualifier done tokens.now x.0 x.1.now) }
     ensures err { IfErr result (λ e. Refused IsQualifier expects_qualifier tokens.now e) }
 {
     if let Some((_, rest)) = eat(tokens, TokenClass::Only(TokenKind::Within)) {
@@ -55,7 +60,8 @@ fn qualifier<'a>(tokens: &'a [Token]) -> Result<(Qualifier, &'a [Token]), Stop<'
 /// `"[" cor "]"`
 fn leaf<'a>(alloc: Global, tokens: &'a [Token]) -> Result<(PatternTree, &'a [Token]), Stop<'a>>
     requires { Lacks (TokenClass.Only TokenKind.RoundOpen) tokens.now }
-    ensures ok { IfOk result (λ x. Found IsStart expects_start done tokens.now (shape x.0) x.1.now) }
+    ensures ok { IfOk result
+        (λ x. Found IsStart expects_start done tokens.now (shape x.0) x.1.now) }
     ensures err { IfErr result (λ e. Refused IsStart expects_start tokens.now e) }
 {
     let Some((_, inside)) = eat(tokens, TokenClass::Only(TokenKind::SquareOpen)) else {
@@ -72,7 +78,8 @@ fn leaf<'a>(alloc: Global, tokens: &'a [Token]) -> Result<(PatternTree, &'a [Tok
 /// `"[" cor "]" | "(" pattern ")"`
 #[cycle(pattern)]
 fn start<'a>(alloc: Global, tokens: &'a [Token]) -> Result<(PatternTree, &'a [Token]), Stop<'a>>
-    ensures ok { IfOk result (λ x. Found IsStart expects_start done tokens.now (shape x.0) x.1.now) }
+    ensures ok { IfOk result
+        (λ x. Found IsStart expects_start done tokens.now (shape x.0) x.1.now) }
     ensures err { IfErr result (λ e. Refused IsStart expects_start tokens.now e) }
 {
     if let Some((_, inside)) = eat(tokens, TokenClass::Only(TokenKind::RoundOpen)) {
@@ -153,7 +160,8 @@ fn ors<'a>(alloc: Global, tokens: &'a [Token]) -> Result<(PatternTree, &'a [Toke
 /// `pattern = ors { FOLLOWEDBY ors }`
 #[cycle(pattern)]
 fn whole<'a>(alloc: Global, tokens: &'a [Token]) -> Result<(PatternTree, &'a [Token]), Stop<'a>>
-    ensures ok { IfOk result (λ x. Found IsPattern expects_pattern done tokens.now (shape x.0) x.1.now) }
+    ensures ok { IfOk result
+        (λ x. Found IsPattern expects_pattern done tokens.now (shape x.0) x.1.now) }
     ensures err { IfErr result (λ e. Refused IsPattern expects_pattern tokens.now e) }
 {
     let (first, mut rest) = ors(alloc, tokens)?;
@@ -171,9 +179,10 @@ fn whole<'a>(alloc: Global, tokens: &'a [Token]) -> Result<(PatternTree, &'a [To
     Ok((tree, rest))
 }
 
-/// The syntax tree that all of the tokens spell, or the first that doesn't fit. No token but the last may
-/// be one too many, so that the parser calls itself no deeper than the limits count.
+/// The syntax tree of all of the tokens, or the first token that doesn't fit. Only the last token
+/// may exceed a limit of `depth`, so the limits bound the recursion.
 pub fn parse<'a>(alloc: Global, tokens: &'a [Token]) -> Result<PatternTree, Stop<'a>>
+    // Bounds the depth of the recursion, and so the stack.
     requires { IsShallow tokens.now }
     ensures ok { IfOk result (λ p. IsPattern tokens.now (shape p)) }
     ensures err { IfErr result (λ e. SyntaxError tokens.now e) }

@@ -10,11 +10,11 @@ pub enum StepTree {
     Index(Token),
 }
 
-/// An object path (STIX 2.1, section 9.7): an object's type, and the steps from the object.
+/// An object path (STIX 2.1, section 9.7): an object type, and the steps from the object.
 #[derive(Debug, Drop)]
 pub struct PathTree {
     /// The type of the object.
     pub root: Token,
-    /// The steps, the first one a name.
+    /// The steps; the first one is a name.
     pub steps: Items<StepTree>,
 }

@@ -1,13 +1,13 @@
 use pattern_lexer::Token;
 
-/// A qualifier: what limits the observations of a pattern (STIX 2.1, section 9.4).
+/// A qualifier of a pattern (STIX 2.1, section 9.5.1).
 #[derive(Clone, Copy, Debug, PartialEq, Eq)]
 pub enum Qualifier {
-    /// `WITHIN x SECONDS`, with its number.
+    /// `WITHIN x SECONDS`: the token of `x`.
     Within(Token),
-    /// `REPEATS n TIMES`, with its number.
+    /// `REPEATS n TIMES`: the token of `n`.
     Repeats(Token),
-    /// `START .. STOP ..`, with its first word and its times.
+    /// `START .. STOP ..`: the token `START`, and those of both times.
     Between {
         start: Token,
         from: Token,

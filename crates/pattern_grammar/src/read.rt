@@ -8,8 +8,8 @@ use flow_values::NoMemory;
 use pattern_lexer::Token;
 use std::alloc::Global;
 
-/// The syntax tree that the tokens of a text spell, where `end` is the text's length; or Syntax or
-/// TooDeep, whichever stands first.
+/// The syntax tree of the tokens of a text of length `end`. `Syntax` or `TooDeep` with a byte
+/// offset, whichever comes first in the text.
 pub fn read_tree(
     alloc: Global,
     tokens: &[Token],
@@ -31,7 +31,7 @@ pub fn read_tree(
     }
 }
 
-/// Why the tokens are refused, where one of them is one too many.
+/// The refusal of tokens of which one exceeds a limit.
 fn refusal_through(
     alloc: Global,
     tokens: &[Token],
@@ -51,7 +51,7 @@ fn refusal_through(
                 at: tokens[before].from,
             });
         }
-        // A pattern begins a pattern.
+        // A whole pattern is a viable prefix too.
         Ok(tree) => {
             drop(tree);
             return Ok(SyntaxRefusal::TooDeep {
@@ -61,7 +61,7 @@ fn refusal_through(
     }
 }
 
-/// Where the tokens begin in a text of this length.
+/// The byte offset of the first of these tokens in a text of this length.
 fn start_of(tokens: &[Token], end: usize) -> usize
     ensures { result ≡ offset tokens.now end }
 {

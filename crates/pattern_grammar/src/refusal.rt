@@ -1,12 +1,12 @@
 ghost use Rattle.std.specs.Prelude.{◌≡◌};
 ghost use Rattle.pattern_grammar.specs.SyntaxRefusal.{name_of, place_of};
 
-/// Why the tokens of a text spell no pattern. A place `at` counts the text's bytes from 0.
+/// Why the tokens of a text aren't a pattern. `at` is a byte offset, from 0.
 #[derive(Clone, Copy, Debug, PartialEq, Eq, Hash)]
 pub enum SyntaxRefusal {
-    /// The tokens before this one begin a pattern, and with this one they don't.
+    /// The tokens before this one are a viable prefix, and with this one they aren't.
     Syntax { at: usize },
-    /// More than 64 parentheses are open, or this is the 65th qualifier.
+    /// This token opens the 65th nested parenthesis, or begins the 65th qualifier.
     TooDeep { at: usize },
 }
 
@@ -21,7 +21,7 @@ impl SyntaxRefusal {
         }
     }
 
-    /// Where the text is refused.
+    /// The byte offset of the refusal.
     pub fn at(self) -> usize
         ensures { result ≡ place_of self }
     {

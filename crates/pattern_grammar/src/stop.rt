@@ -4,13 +4,12 @@ ghost use Rattle.pattern_grammar.specs.declared.stop.Stop.TheVariants.{Memory};
 use flow_values::NoMemory;
 use pattern_lexer::Token;
 
-/// Why tokens aren't read: the token that doesn't fit is the first of the rest, and where there is no
-/// rest, they end too early.
+/// Why the parser stopped.
 #[derive(Clone, Copy, Debug)]
 pub enum Stop<'a> {
-    /// Memory ran out.
+    /// Out of memory.
     Memory,
-    /// The first of these tokens doesn't fit.
+    /// The first of these tokens doesn't fit, or, if there are none, the tokens end too early.
     Syntax(&'a [Token]),
 }
 

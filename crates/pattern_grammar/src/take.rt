@@ -6,7 +6,7 @@ use crate::{Stop, TokenClass};
 use flow_values::Items;
 use pattern_lexer::Token;
 
-/// The first token and those after it, where it is of the class.
+/// Splits off the first token, if it is of the class.
 pub(crate) fn eat<'a>(tokens: &'a [Token], class: TokenClass) -> Option<(Token, &'a [Token])>
     ensures some { IfSome result (λ x. BeginsLine class x.0 tokens.now x.1.now) }
     ensures none { IfNone result (Lacks class tokens.now) }
@@ -17,12 +17,13 @@ pub(crate) fn eat<'a>(tokens: &'a [Token], class: TokenClass) -> Option<(Token, 
     }
 }
 
-/// Adds what was parsed to the list, and gives the tokens after it.
+/// Adds a parsed value to the list, and returns the tokens after it.
 pub(crate) fn add<'a, T: Drop>(
     list: &mut Items<T>,
     parsed: Result<(T, &'a [Token]), Stop<'a>>,
 ) -> Result<&'a [Token], Stop<'a>>
-    ensures ok { IfOk result (λ rest. IsOkAnd parsed.entry (λ x. (list.new ≡ list.old ++ x.0 ∷ []) × (rest ≡ x.1))) }
+    ensures ok { IfOk result
+        (λ rest. IsOkAnd parsed.entry (λ x. (list.new ≡ list.old ++ x.0 ∷ []) × (rest ≡ x.1))) }
     ensures err { IfErr result (λ e. (e ≡ Memory) ⊎ IsErrAnd parsed.entry (λ y. y ≡ e)) }
 {
     let (item, rest) = parsed?;

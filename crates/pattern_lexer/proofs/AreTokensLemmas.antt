@@ -50,7 +50,7 @@ placed text bytes at kind after utf8 same l begins =
     let first = subst (λ (xs : List ℕ). IsFirst xs kind begins.0 after) whole begins.1 in
     placed_by text at kind begins.0 after (record { kind = kind; from = at; to = length bytes - length after }) (ap (λ (xs : List ℕ). record { kind = kind; from = at; to = length xs - length after }) same) utf8 l first
 
--- the refusal of a token that stands for nothing
+-- the refusal of a token that has no value
 pub invalid_value_fault : (kind : TokenKind) (place : ℕ) (whole part after : List ℕ) → IsFirst whole kind part after → IsUsable kind part after → ¬ HasValue kind part → IsRefusalAt place whole (invalid_value_refusal kind place)
 invalid_value_fault Number place whole part after first usable none = (refl, record { text = part; after = after; first = first; usable = usable; invalid_value = none })
 invalid_value_fault Timestamp place whole part after first usable none = (refl, record { text = part; after = after; first = first; usable = usable; invalid_value = none })

@@ -1,4 +1,4 @@
--- The text of a Number, a Hex or a Binary stands for one value at most.
+-- The text of a Number, a Hex or a Binary represents one value at most.
 use Rattle.std.proofs.Common.{◌≡◌, ℕ, ℤ, List, Result, Ok, codes, refl, sym, ap, ◌∙◌}
 use Rattle.hex.specs.Hex.{decode_of}
 use Rattle.base64.specs.Engines.{standard}

@@ -139,7 +139,7 @@ pub run_name : (whole front after : List ℕ) → IsRun IsHyphenWordPart whole f
 run_name whole [] after run starts = absurd (run.ends (start_part whole after run.spelled starts))
 run_name whole (c ∷ front) after run starts = record { starts = start_of whole c (front ++ after) run.spelled starts; parts = run.all }
 
--- texts in quotes behind a letter
+-- texts in quotes after a letter
 pub quote_no_part : IsHyphenWordPart 39 → ⊥
 quote_no_part (inl (inl (inl (inl h)))) = absurd (omega (arith, h.0))
 quote_no_part (inl (inl (inl (inr h)))) = absurd (omega (arith, h.0))
@@ -289,7 +289,7 @@ no_words_by whole inside text after w none e (of_words words h) =
 pub no_words : (whole inside : List ℕ) → whole ≡ 39 ∷ inside → ((words more : List ℕ) → inside ≢ flat_map escaped words ++ 39 ∷ more) → HasNoToken whole
 no_words whole inside w none kind text after e token = no_words_by whole inside text after w none e (shape kind text token)
 
--- the number of a first byte and some digits behind its sign
+-- the number of a first byte and some digits after its sign
 abbrev number_text : (c : ℕ) → ((c ≡ 43) ⊎ (c ≡ 45)) ⊎ ((c ≢ 43) × (c ≢ 45)) → List ℕ → List ℕ
 number_text c (inl sign) front = c ∷ front
 number_text c (inr none) front = front

@@ -9,7 +9,7 @@ use Rattle.pattern_lexer.specs.Values.{IsNumberText, IsStringText, IsPrefixedTex
 use Rattle.pattern_lexer.specs.Table.{IsToken}
 use Rattle.pattern_lexer.specs.inner.Steps.{IsName, letter_kind, single_kind, double_kind}
 
--- a token is a punctuation, a name, a text in quotes behind a letter, a number or a text in quotes
+-- a token is a punctuation mark, a name, a text in quotes after a letter, a number or a text in quotes
 pub data Shape : List ℕ → Type 0 where
   of_single : {text : List ℕ} (c : ℕ) → IsSome (single_kind c) → text ≡ c ∷ [] → Shape text
   of_double : {text : List ℕ} (c : ℕ) → IsSome (double_kind c) → text ≡ c ∷ 61 ∷ [] → Shape text

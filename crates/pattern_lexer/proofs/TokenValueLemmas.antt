@@ -1,4 +1,4 @@
--- Whether a token stands for something, by what its value's call answers.
+-- Whether a token has a value, by what its value's call answers.
 use Rattle.std.proofs.Common.{◌≡◌, ◌↔◌, ℕ, List, Bool, Option, Some, None, IfSome, IfNone, MatchOption, Result, Ok, Err, IfOk, IsTrue, subst, sym}
 use Rattle.std.specs.Option.{is_some}
 use Rattle.pattern_lexer.specs.declared.token.Token.{Token}

@@ -121,7 +121,7 @@ no_fault place whole r kind text after (endless h e) first usable value = usable
 no_fault place whole r kind text after (useless w h e) first usable value = usable.used w (carry (λ k t a. IsUnsupported w k t a) whole h.kind kind h.text text h.after after h.first first h.left_out)
 no_fault place whole r kind text after (invalid_value k h e) first usable value = h.invalid_value (carry (λ k t a. HasValue k t) whole kind k text h.text after h.after first h.first value)
 
--- how a reading ends: with blanks, or with a refusal behind them
+-- how a reading ends: with blanks, or with a refusal after them
 pub record Faulty (size : ℕ) (rest : List ℕ) (refusal : TokenRefusal) : Type 0 where
   pub blanks : List ℕ
   pub left : List ℕ

@@ -1,4 +1,4 @@
--- What `unescaped` reads, piece by piece, stands for the words so far.
+-- What `unescaped` reads, piece by piece, represents the words so far.
 use Rattle.std.proofs.Common.{◌≡◌, ◌≢◌, ℕ, Bool, true, false, List, [], ◌∷◌, ◌++◌, inl, inr, flat_map, if◌then◌else◌, refl, sym, ap, ◌∙◌, append_assoc, Contains, All, arith, Bor, Some, None, lit<}
 use Rattle.std.proofs.lemmas.List.Elements.{All-head, All-tail, All-cons, All-contains, All-from_get_or}
 use Rattle.std.proofs.lemmas.Str.Pattern.{IsSplitOnceResult, split_parts}
@@ -28,7 +28,7 @@ one_special : (b : Bool) (x : ℕ) (xs : List ℕ) → b ≡ true → (if b then
 one_special true x xs e = refl
 one_special false x xs e = absurd (cc)
 
--- what has neither `'` nor `\` stands for itself
+-- what has neither `'` nor `\` is its own value
 pub plain_same : (plain : List ℕ) → All (λ c. c ≢ 39) plain → All (λ c. c ≢ 92) plain → flat_map escaped plain ≡ plain
 plain_same [] q b = refl
 plain_same (x ∷ xs) q b =
@@ -67,7 +67,7 @@ ahead (x ∷ xs) (y ∷ ys) rest e =
     let h = same_first (special x) (special y) x y (flat_map escaped xs ++ rest) (flat_map escaped ys) refl refl (sym (append_assoc (escaped x) (flat_map escaped xs) rest) ∙ e) in
     ahead xs ys rest h.1
 
--- what a text without a backslash at its front stands for begins with the same character, no `'`
+-- what a text without a backslash at its front represents begins with the same character, no `'`
 same_plain : (b : Bool) (x y : ℕ) (xs ys : List ℕ) → special y ≡ b → x ≢ 92 → x ∷ xs ≡ (if b then 92 ∷ y ∷ [] else y ∷ []) ++ ys → (x ≢ 39) × (xs ≡ ys)
 same_plain true x y xs ys p n e = let h : x ≡ 92 = cc in absurd (n h)
 same_plain false x y xs ys p n e =

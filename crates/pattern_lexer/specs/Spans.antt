@@ -1,9 +1,9 @@
--- What the tokens of a text stand for.
+-- The values of the tokens of a text.
 use Rattle.std.specs.Prelude.{◌≡◌, ◌≤◌, ℕ, List, slice_range, pos}
 use Rattle.std.specs.Str.{IsCharBoundary}
 use Rattle.pattern_lexer.specs.{declared.token.Token.Token, Values.IsIntegerText}
 
--- the token lies in the text, cut between characters
+-- the token's range is in the text, at character boundaries
 pub record IsCut (text : List ℕ) (token : Token) : Type 0 where
   pub ordered : token.from ≤ token.to
   pub from : IsCharBoundary text token.from
@@ -13,12 +13,12 @@ pub record IsCut (text : List ℕ) (token : Token) : Type 0 where
 abbrev pub text_at : List ℕ → Token → List ℕ
 text_at text token = slice_range text token.from token.to
 
--- the token lies in the text, and its text stands for the value
+-- the token is in the text, and its text has the value
 pub record At {V : Type 0} (IsTextOf : List ℕ → V → Type 0) (text : List ℕ) (token : Token) (value : V) : Type 0 where
   pub cut : IsCut text token
   pub is : IsTextOf (text_at text token) value
 
--- a text stands for itself
+-- a text is its own value
 abbrev pub IsItself : List ℕ → List ℕ → Type 0
 IsItself text value = value ≡ text
 

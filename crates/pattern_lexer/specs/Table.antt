@@ -4,7 +4,7 @@ use Rattle.pattern_lexer.specs.{declared.token.TokenKind.TokenKind, Word.IsWord,
 use Rattle.pattern_lexer.specs.declared.token.TokenKind.TheVariants.{Word, HyphenWord, Number, String, Hex, Binary, Timestamp}
 use Rattle.pattern_lexer.specs.Values.{IsNumberText, IsStringText, IsPrefixedText}
 
--- the text is a token of this kind, whether or not it stands for something
+-- the text is a token of this kind, with or without a value
 abbrev pub IsToken : TokenKind → List ℕ → Type 0
 IsToken Word text = IsWord text
 IsToken HyphenWord text = IsHyphenWord text

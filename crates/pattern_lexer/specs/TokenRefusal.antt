@@ -1,4 +1,4 @@
--- What a text's refusal is called, and where it stands.
+-- The name of a refusal, and its byte offset.
 use Rattle.std.specs.Prelude.{ℕ, List, codes}
 use Rattle.pattern_lexer.specs.declared.refusal.TokenRefusal.{TokenRefusal}
 use Rattle.pattern_lexer.specs.declared.refusal.TokenRefusal.TheVariants.{BadToken, LeftOut, BadNumber, BadTime, BadBytes}
@@ -11,7 +11,7 @@ name_of (BadNumber at) = codes "BadNumber"
 name_of (BadTime at) = codes "BadTime"
 name_of (BadBytes at) = codes "BadBytes"
 
--- its place
+-- its byte offset
 abbrev pub place_of : TokenRefusal → ℕ
 place_of (BadToken at) = at
 place_of (LeftOut at word) = at

@@ -1,5 +1,4 @@
--- What the text of a constant's token stands for (STIX 2.1, section 9.2). Of the bytes, 39 is `'`,
--- 48 is `0` and 92 is `\`.
+-- The value of a constant's token (STIX 2.1, section 9.2). Byte 39 is `'`, 48 is `0` and 92 is `\`.
 use Rattle.std.specs.Prelude.{◌≡◌, ◌≢◌, ◌≤◌, ◌⊎◌, ℕ, ◌||◌, ◌==◌, if◌then◌else◌, ℤ, pos, neg_ℤ, ◌≤ℤ◌, List, [], ◌∷◌, ◌++◌, length, slice_get, Some, flat_map, codes, All, Ok}
 use Rattle.std.specs.Str.Parse.{IsNumeral, without_leading_sign, signed_digits_value}
 use Rattle.hex.specs.Hex.{decode_of}
@@ -27,7 +26,7 @@ pub record IsIntegerText (text : List ℕ) (whole : ℤ) : Type 0 where
   pub value : whole ≡ signed_digits_value 10 text
   pub fits : FitsIn64Bits whole
 
--- what stands between `'` and `'`, after a letter or after nothing
+-- the text between `'` and `'`, after a prefix letter or none
 abbrev pub quoted : List ℕ → List ℕ → List ℕ
 quoted letter inside = letter ++ codes "'" ++ inside ++ codes "'"
 
@@ -35,7 +34,7 @@ quoted letter inside = letter ++ codes "'" ++ inside ++ codes "'"
 abbrev pub IsSpecial : ℕ → Type 0
 IsSpecial c = (c ≡ 39) ⊎ (c ≡ 92)
 
--- `\` is written before these
+-- these are escaped by a `\`
 abbrev pub escaped : ℕ → List ℕ
 escaped c = if c == 39 || c == 92 then 92 ∷ c ∷ [] else c ∷ []
 
@@ -43,7 +42,7 @@ escaped c = if c == 39 || c == 92 then 92 ∷ c ∷ [] else c ∷ []
 abbrev pub string_text : List ℕ → List ℕ
 string_text words = quoted [] (flat_map escaped words)
 
--- the String are these
+-- the String has this value
 abbrev pub IsStringText : List ℕ → List ℕ → Type 0
 IsStringText text words = text ≡ string_text words
 
@@ -52,19 +51,19 @@ pub record IsPrefixedText (letter text inside : List ℕ) : Type 0 where
   pub spelled : text ≡ quoted letter inside
   pub unquoted : All (λ c. c ≢ 39) inside
 
--- the Hex is that of the bytes: two hexadecimal digits of either case for each
+-- the Hex has these bytes: two hexadecimal digits of either case for each
 abbrev pub IsHexText : List ℕ → List ℕ → Type 0
 IsHexText text bytes = (digits : List ℕ) × (text ≡ quoted (codes "h") digits) × (decode_of digits ≡ Ok bytes)
 
--- the Binary is that of the bytes: their padded base64 (RFC 4648, section 4)
+-- the Binary has these bytes: their padded base64 (RFC 4648, section 4)
 abbrev pub IsBinaryText : List ℕ → List ℕ → Type 0
 IsBinaryText text bytes = IsBytes bytes × (text ≡ quoted (codes "b") (encode_of standard bytes))
 
--- the Timestamp is that of the instant
+-- the Timestamp has this instant
 abbrev pub IsTimestampText : List ℕ → ℤ → Type 0
 IsTimestampText text instant = (time : List ℕ) × (text ≡ quoted (codes "t") time) × IsTextOf time instant
 
--- the token of this kind stands for something
+-- the token of this kind has a value
 abbrev pub HasValue : TokenKind → List ℕ → Type 0
 HasValue Number text = (whole : ℤ) × IsIntegerText text whole
 HasValue String text = (words : List ℕ) × IsStringText text words

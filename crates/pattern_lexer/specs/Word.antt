@@ -1,4 +1,4 @@
--- The punctuation, the keywords and the words of a pattern's text that name things: tokens of the grammar of STIX 2.1, section 9.
+-- The punctuation, keywords and names of a pattern: tokens of the grammar of STIX 2.1, section 9.
 use Rattle.std.specs.Prelude.{◌≡◌, ℕ, ◌⊎◌, List, [], ◌∷◌, All, Contains, IsSomeAnd, slice_get, codes, map}
 use Rattle.std.specs.Char.{IsAsciiAlphabetic, IsAsciiDigit}
 use Rattle.pattern_lexer.specs.declared.token.TokenKind.{TokenKind}
@@ -16,11 +16,11 @@ IsWordPart c = IsWordStart c ⊎ IsAsciiDigit c
 abbrev pub IsHyphenWordPart : ℕ → Type 0
 IsHyphenWordPart c = IsWordPart c ⊎ (c ≡ 45)
 
--- the text has a byte at the place, and the fact holds of it
+-- the text has a byte at this offset, and it meets the condition
 abbrev pub HasAt : ℕ → (ℕ → Type 0) → List ℕ → Type 0
 HasAt place P text = IsSomeAnd (slice_get text place) P
 
--- how a kind is written that has one text: a punctuation or a keyword
+-- the one spelling of a punctuation mark or keyword
 abbrev pub spelling : TokenKind → List ℕ
 spelling SquareOpen = codes "["
 spelling SquareClose = codes "]"
@@ -55,7 +55,7 @@ spelling TrueWord = codes "true"
 spelling FalseWord = codes "false"
 spelling _ = []
 
--- the words that have a meaning of their own
+-- the keywords
 abbrev pub keywords : List (List ℕ)
 keywords = map spelling (And ∷ Or ∷ Not ∷ FollowedBy ∷ Within ∷ Seconds ∷ Repeats ∷ Times ∷ Start
     ∷ Stop ∷ Among ∷ Like ∷ Subset ∷ Superset ∷ Exists ∷ TrueWord ∷ FalseWord ∷ [])
@@ -66,7 +66,7 @@ pub record IsWord (text : List ℕ) : Type 0 where
   pub parts : All IsWordPart text
   pub free : ¬ (Contains keywords text)
 
--- HyphenWord = the same with "-" allowed after the first character, and with at least one "-"
+-- HyphenWord = a Word that may have "-" after the first character, and has at least one
 pub record IsHyphenWord (text : List ℕ) : Type 0 where
   pub starts : HasAt 0 IsWordStart text
   pub parts : All IsHyphenWordPart text

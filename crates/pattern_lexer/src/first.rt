@@ -8,14 +8,14 @@ use crate::number_runs::first_number;
 use crate::punctuation::first_punctuation;
 use crate::quoted::first_string;
 
-/// The token that begins some bytes: its kind, and what follows it.
+/// A token at the start of some bytes: its kind, and the bytes after it.
 #[derive(Clone, Copy)]
 pub struct First<'a> {
     pub kind: TokenKind,
     pub after: &'a [u8],
 }
 
-/// The longest token that begins the bytes.
+/// The longest token at the start of the bytes.
 pub fn first_of(bytes: &[u8]) -> Option<First<'_>>
     ensures some { IfSome result (λ found. BeginsToken bytes.now found.kind found.after.now) }
     ensures none { IfNone result (HasNoToken bytes.now) }

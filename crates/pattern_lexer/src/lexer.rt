@@ -1,3 +1,6 @@
+//! A hand-written lexer by maximal munch (longest match). The first byte selects the
+//! token, so one scan finds the longest one.
+
 ghost use Rattle.std.specs.Prelude.{◌<◌, ◌≤◌, IfOk, length};
 ghost use Rattle.pattern_lexer.specs.Reading.{Reads};
 ghost use Rattle.pattern_lexer.specs.inner.Steps.{ArePassed, ReadsAt};
@@ -9,8 +12,8 @@ use crate::{Token, TokenRefusal};
 use flow_values::{Items, NoMemory};
 use std::alloc::Global;
 
-/// The tokens of a text, each the longest at its place, with blanks between them; or the first refusal
-/// from the left.
+/// Tokenizes a pattern by longest match, from the left. The inner error is the first refusal.
+/// Linear in the length of the text.
 pub fn tokens(alloc: Global, text: &str) -> Result<Result<Items<Token>, TokenRefusal>, NoMemory>
     ensures { IfOk result (Reads text.now) }
 {
@@ -28,7 +31,7 @@ pub fn tokens(alloc: Global, text: &str) -> Result<Result<Items<Token>, TokenRef
     Ok(Ok(tokens))
 }
 
-/// The place behind the blanks that stand at a place.
+/// The offset after the white space at an offset.
 fn past_blanks(text: &str, at: usize) -> usize
     requires { at ≤ length text.now }
     ensures { ArePassed text.now at result }
@@ -37,7 +40,7 @@ fn past_blanks(text: &str, at: usize) -> usize
     text.len() - rest.len()
 }
 
-/// The token at a place in the text, or its refusal.
+/// The token at an offset, or its refusal.
 fn token_at(alloc: Global, text: &str, at: usize) -> Result<Result<Token, TokenRefusal>, NoMemory>
     requires { at < length text.now }
     ensures { IfOk result (ReadsAt text.now at) }

@@ -1,11 +1,11 @@
-//! What follows from the definitions: the contract is the law, and the function does nothing.
+//! Consequences of the definitions: the contract is a theorem, and its function does nothing.
 
 ghost use Rattle.std.specs.Prelude.{◌≡◌, ℕ, List, Result};
 ghost use Rattle.pattern_lexer.specs.declared.token.Token.{Token};
 ghost use Rattle.pattern_lexer.specs.declared.refusal.TokenRefusal.{TokenRefusal};
 ghost use Rattle.pattern_lexer.specs.Reading.{Reads};
 
-/// A text has tokens or a refusal of them, and one of these.
+/// A text has tokens or a refusal, exactly one of them.
 pub fn one_reading()
     ensures { (text : List ℕ) (first second : Result (List Token) TokenRefusal) → Reads text first
         → Reads text second → first ≡ second }

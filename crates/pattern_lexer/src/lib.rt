@@ -1,10 +1,17 @@
-//! Tokens of a pattern's text (STIX 2.1, section 9): their kinds, and why a text has none.
+//! The lexer of STIX 2.1 patterns (section 9). `tokens` splits a text into the longest tokens from
+//! the left, or returns the first refusal with its byte offset. A `Token` is a kind and a byte
+//! range.
 //!
-//! `integer_of`, `string_of`, `hex_of`, `binary_of` and `timestamp_of` give what the text of one token stands
-//! for; `integer_at` and the like take that text from the place of a token in a pattern's text.
+//! `integer_at`, `string_at`, `hex_at`, `binary_at` and `timestamp_at` return the value of a token
+//! in its text. `integer_of` and its siblings do the same for the token's own text.
 //!
-//! From a pattern's text to its tokens (STIX 2.1, section 9): `tokens` cuts a text into the longest
-//! tokens from the left, or tells the first place where it can't and why.
+//! ```ignore
+//! let text = "[file:size = 25]";
+//! match tokens(alloc, text)? {
+//!     Ok(tokens) => handle(tokens.as_slice()), // `[`, `file`, `:`, `size`, ..
+//!     Err(refusal) => report(refusal.name(), refusal.at()),
+//! }
+//! ```
 #![tactic(auto)]
 
 mod first;

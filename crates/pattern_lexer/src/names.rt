@@ -8,7 +8,7 @@ use crate::first::First;
 use crate::quoted::first_prefixed;
 use crate::runs::{CharacterClass, split_run};
 
-/// The token of the bytes that begin with a letter or `_`.
+/// The name or keyword at the start of bytes that begin with a letter or `_`.
 pub fn first_name(bytes: &[u8]) -> First<'_>
     requires { HasAt 0 IsWordStart bytes.now }
     ensures { BeginsToken bytes.now result.kind result.after.now }

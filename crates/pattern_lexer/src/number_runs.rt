@@ -8,7 +8,8 @@ use crate::TokenKind;
 use crate::first::First;
 use crate::runs::{CharacterClass, split_run};
 
-/// The number that begins with a digit or a sign: a sign alone is none.
+/// The number at the start of bytes that begin with a digit or a sign. `None` for a sign without
+/// digits.
 pub fn first_number(bytes: &[u8]) -> Option<First<'_>>
     requires { HasAt 0 IsNumberStart bytes.now }
     ensures some { IfSome result (λ found. BeginsToken bytes.now found.kind found.after.now) }

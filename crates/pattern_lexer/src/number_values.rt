@@ -3,7 +3,7 @@ ghost use Rattle.pattern_lexer.specs.Spans.{IsIndex, IsCount};
 
 use crate::{Token, integer_at};
 
-/// The place in a list that the token stands for: 0 to 4294967295. Takes no memory.
+/// The list index of a token: 0 to 4294967295. Allocates nothing.
 pub fn index_at(text: &str, token: Token) -> Option<u32>
     ensures some { IfSome result (IsIndex text.now token) }
     ensures none { IfNone result ((place : ℕ) → ¬ IsIndex text.now token place) }
@@ -14,7 +14,7 @@ pub fn index_at(text: &str, token: Token) -> Option<u32>
     u32::try_from(whole).ok()
 }
 
-/// The count that the token stands for: 1 to 4294967295. Takes no memory.
+/// The count of a token: 1 to 4294967295. Allocates nothing.
 pub fn count_at(text: &str, token: Token) -> Option<u32>
     ensures some { IfSome result (IsCount text.now token) }
     ensures none { IfNone result ((count : ℕ) → ¬ IsCount text.now token count) }

@@ -6,7 +6,7 @@ use crate::TokenKind;
 use crate::first::First;
 use crate::runs::strip_byte;
 
-/// The longest punctuation that begins the bytes.
+/// The longest punctuation mark or operator at the start of the bytes.
 pub fn first_punctuation(bytes: &[u8]) -> Option<First<'_>>
     requires { StartsAsPunctuation bytes.now }
     ensures some { IfSome result (λ found. BeginsToken bytes.now found.kind found.after.now) }
@@ -20,17 +20,19 @@ pub fn first_punctuation(bytes: &[u8]) -> Option<First<'_>>
     Some(First { kind, after: more })
 }
 
-/// The punctuation of two bytes, of which the second is `=`.
+/// The two-byte operator whose second byte is `=`.
 fn double_punctuation(first: u8, more: &[u8]) -> Option<First<'_>>
-    ensures some { IfSome result (λ found. (double_kind first ≡ Some found.kind) × (more.now ≡ 61 ∷ found.after.now)) }
-    ensures none { IfNone result ((after : List ℕ) → IsSome (double_kind first) → more.now ≢ 61 ∷ after) }
+    ensures some { IfSome result (λ found. (double_kind first ≡ Some found.kind)
+        × (more.now ≡ 61 ∷ found.after.now)) }
+    ensures none { IfNone result ((after : List ℕ) → IsSome (double_kind first)
+        → more.now ≢ 61 ∷ after) }
 {
     let after = strip_byte(more, b'=')?;
     let kind = kind_before_equal(first)?;
     Some(First { kind, after })
 }
 
-/// The kind of the punctuation that is this byte.
+/// The kind of a one-byte mark.
 fn kind_of_punctuation(byte: u8) -> Option<TokenKind>
     ensures { result ≡ single_kind byte }
 {
@@ -50,7 +52,7 @@ fn kind_of_punctuation(byte: u8) -> Option<TokenKind>
     }
 }
 
-/// The kind of the punctuation that is this byte and `=`.
+/// The kind of the mark of this byte and `=`.
 fn kind_before_equal(byte: u8) -> Option<TokenKind>
     ensures { result ≡ double_kind byte }
 {

@@ -8,7 +8,7 @@ use crate::TokenKind;
 use crate::first::First;
 use crate::runs::{CharacterClass, split_run, strip_byte};
 
-/// The text in quotes that begins with a `'`.
+/// The string literal at the start of bytes that begin with `'`.
 pub fn first_string(bytes: &[u8]) -> Option<First<'_>>
     requires { HasAt 0 (λ c. c ≡ 39) bytes.now }
     ensures some { IfSome result (λ found. BeginsToken bytes.now found.kind found.after.now) }
@@ -21,10 +21,12 @@ pub fn first_string(bytes: &[u8]) -> Option<First<'_>>
     })
 }
 
-/// What follows the first `'` without a backslash before it.
+/// The bytes after the first unescaped `'`.
 fn after_words(inside: &[u8]) -> Option<&[u8]>
-    ensures some { IfSome result (λ after. (words : List ℕ) × (inside.now ≡ flat_map escaped words ++ 39 ∷ after.now)) }
-    ensures none { IfNone result ((words more : List ℕ) → inside.now ≢ flat_map escaped words ++ 39 ∷ more) }
+    ensures some { IfSome result (λ after. (words : List ℕ)
+        × (inside.now ≡ flat_map escaped words ++ 39 ∷ after.now)) }
+    ensures none { IfNone result ((words more : List ℕ)
+        → inside.now ≢ flat_map escaped words ++ 39 ∷ more) }
 {
     let mut rest = inside;
     while let Some((first, more)) = rest.split_first() {
@@ -37,7 +39,7 @@ fn after_words(inside: &[u8]) -> Option<&[u8]>
     None
 }
 
-/// What follows the `'` or `\` that begins the bytes.
+/// The bytes after a leading `'` or `\`.
 fn after_special(bytes: &[u8]) -> Option<&[u8]>
     ensures some { IfSome result (λ after. (c : ℕ) × IsSpecial c × (bytes.now ≡ c ∷ after.now)) }
     ensures none { IfNone result ((c : ℕ) (after : List ℕ) → IsSpecial c → bytes.now ≢ c ∷ after) }
@@ -48,7 +50,7 @@ fn after_special(bytes: &[u8]) -> Option<&[u8]>
     }
 }
 
-/// The bytes or the timestamp, a text in quotes behind a letter, that begins the bytes.
+/// The literal with a prefix letter at the start of the bytes: `h'..'`, `b'..'` or `t'..'`.
 pub fn first_prefixed(bytes: &[u8]) -> Option<First<'_>>
     ensures some { IfSome result (λ found. BeginsToken bytes.now found.kind found.after.now) }
     ensures none { IfNone result (HasNoPrefixed bytes.now) }
@@ -59,16 +61,18 @@ pub fn first_prefixed(bytes: &[u8]) -> Option<First<'_>>
     Some(First { kind, after })
 }
 
-/// What follows the first `'`.
+/// The bytes after the first `'`.
 fn after_unquoted(quoted: &[u8]) -> Option<&[u8]>
-    ensures some { IfSome result (λ after. (inside : List ℕ) × All (λ c. c ≢ 39) inside × (quoted.now ≡ inside ++ 39 ∷ after.now)) }
-    ensures none { IfNone result ((inside after : List ℕ) → All (λ c. c ≢ 39) inside → quoted.now ≢ inside ++ 39 ∷ after) }
+    ensures some { IfSome result (λ after. (inside : List ℕ) × All (λ c. c ≢ 39) inside
+        × (quoted.now ≡ inside ++ 39 ∷ after.now)) }
+    ensures none { IfNone result ((inside after : List ℕ) → All (λ c. c ≢ 39) inside
+        → quoted.now ≢ inside ++ 39 ∷ after) }
 {
     let (_inside, rest) = split_run(quoted, CharacterClass::Unquoted);
     strip_byte(rest, b'\'')
 }
 
-/// The kind of what a quote behind the letter opens.
+/// The kind of a literal with this prefix letter.
 fn kind_of_letter(letter: u8) -> Option<TokenKind>
     ensures { result ≡ letter_kind letter }
 {

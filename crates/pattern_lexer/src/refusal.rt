@@ -1,7 +1,7 @@
 ghost use Rattle.std.specs.Prelude.{◌≡◌};
 ghost use Rattle.pattern_lexer.specs.TokenRefusal.{name_of, place_of};
 
-/// What the standard has and no pattern here may use.
+/// Syntax of the standard that this implementation doesn't support.
 #[derive(Clone, Copy, Debug, PartialEq, Eq, Hash)]
 pub enum LeftWord {
     /// The word `MATCHES`.
@@ -14,18 +14,18 @@ pub enum LeftWord {
     LessGreater,
 }
 
-/// Why a text has no tokens. A place `at` counts bytes from 0.
+/// Why a text has no tokens. `at` is a byte offset, from 0.
 #[derive(Clone, Copy, Debug, PartialEq, Eq, Hash)]
 pub enum TokenRefusal {
-    /// No token begins here, or a number runs into a letter.
+    /// No token begins here, or a letter follows a number directly.
     BadToken { at: usize },
-    /// The token is one that no pattern here may use.
+    /// The token is not supported here.
     LeftOut { at: usize, word: LeftWord },
-    /// The number has a leading zero, or is outside the signed 64-bit range.
+    /// The number has a leading zero, or doesn't fit a signed 64-bit integer.
     BadNumber { at: usize },
-    /// The timestamp names no instant.
+    /// The timestamp literal isn't a valid timestamp.
     BadTime { at: usize },
-    /// The bytes are no pairs of hexadecimal digits, or no padded base64.
+    /// The literal isn't pairs of hexadecimal digits, or isn't padded base64.
     BadBytes { at: usize },
 }
 
@@ -43,7 +43,7 @@ impl TokenRefusal {
         }
     }
 
-    /// Where the text is refused.
+    /// The byte offset of the refusal.
     pub fn at(self) -> usize
         ensures { result ≡ place_of self }
     {

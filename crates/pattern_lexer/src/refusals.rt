@@ -12,17 +12,18 @@ use crate::{
 use flow_values::NoMemory;
 use std::alloc::Global;
 
-/// Whether a number runs into a letter or `_`.
+/// Whether a number is directly followed by a letter or `_`.
 pub fn runs_on(kind: TokenKind, after: &[u8]) -> bool
     ensures { IsTrue result ↔ RunsOn kind after.now }
 {
     kind == TokenKind::Number && matches!(after, [b'a'..=b'z' | b'A'..=b'Z' | b'_', ..])
 }
 
-/// What the token is that no pattern here may use.
+/// The unsupported syntax that the token begins, if any.
 pub fn left_word(kind: TokenKind, text: &[u8], after: &[u8]) -> Option<LeftWord>
     ensures some { IfSome result (λ word. IsUnsupported word kind text.now after.now) }
-    ensures none { IfNone result ((word : LeftWord) → ¬ IsUnsupported word kind text.now after.now) }
+    ensures none { IfNone result ((word : LeftWord)
+        → ¬ IsUnsupported word kind text.now after.now) }
 {
     if text == b"MATCHES".as_slice() {
         return Some(LeftWord::Matches);
@@ -35,7 +36,7 @@ pub fn left_word(kind: TokenKind, text: &[u8], after: &[u8]) -> Option<LeftWord>
     }
 }
 
-/// Whether the token stands for something.
+/// Whether the token has a value.
 pub fn has_value(alloc: Global, text: &str, token: Token) -> Result<bool, NoMemory>
     requires cut { IsCut text.now token }
     requires token { IsToken token.kind (text_at text.now token) }
@@ -52,7 +53,8 @@ pub fn has_value(alloc: Global, text: &str, token: Token) -> Result<bool, NoMemo
 
 fn is_hex(alloc: Global, text: &str, token: Token) -> Result<bool, NoMemory>
     requires { IsCut text.now token }
-    ensures { IfOk result (λ is. IsTrue is ↔ ((bytes : List ℕ) × IsHexText (text_at text.now token) bytes)) }
+    ensures { IfOk result (λ is. IsTrue is
+        ↔ ((bytes : List ℕ) × IsHexText (text_at text.now token) bytes)) }
 {
     let bytes = hex_at(alloc, text, token)?;
     Ok(bytes.is_some())
@@ -60,13 +62,14 @@ fn is_hex(alloc: Global, text: &str, token: Token) -> Result<bool, NoMemory>
 
 fn is_base64(alloc: Global, text: &str, token: Token) -> Result<bool, NoMemory>
     requires { IsCut text.now token }
-    ensures { IfOk result (λ is. IsTrue is ↔ ((bytes : List ℕ) × IsBinaryText (text_at text.now token) bytes)) }
+    ensures { IfOk result (λ is. IsTrue is
+        ↔ ((bytes : List ℕ) × IsBinaryText (text_at text.now token) bytes)) }
 {
     let bytes = binary_at(alloc, text, token)?;
     Ok(bytes.is_some())
 }
 
-/// The refusal of a token that stands for nothing.
+/// The refusal of a token without a value.
 pub fn invalid_value(kind: TokenKind, at: usize) -> TokenRefusal
     ensures { result ≡ invalid_value_refusal kind at }
 {

@@ -1,16 +1,16 @@
 ghost use Rattle.std.specs.Prelude.{◌≡◌, ◌≢◌, ◌∷◌, ◌↔◌, IsTrue, List, ℕ, IfSome, IfNone};
 ghost use Rattle.pattern_lexer.specs.inner.Steps.{InClass, IsRun};
 
-/// The bytes that stand together.
+/// A class of bytes that the lexer scans as a run.
 #[derive(Clone, Copy)]
 pub enum CharacterClass {
-    /// Spaces and the ends of lines.
+    /// White space: spaces, tabs and line ends.
     Blank,
-    /// The digits.
+    /// Decimal digits.
     Digit,
-    /// What follows the first letter of a name.
+    /// The bytes of a name after the first.
     NamePart,
-    /// All but `'`.
+    /// All bytes but `'`.
     Unquoted,
 }
 
@@ -29,7 +29,7 @@ impl CharacterClass {
     }
 }
 
-/// The longest front of the bytes that is of the class, and the rest.
+/// Splits off the longest prefix of bytes in the class.
 pub fn split_run(bytes: &[u8], class: CharacterClass) -> (&[u8], &[u8])
     ensures { IsRun (InClass class) bytes.now result.0.now result.1.now }
 {
@@ -40,7 +40,7 @@ pub fn split_run(bytes: &[u8], class: CharacterClass) -> (&[u8], &[u8])
     bytes.split_at(end)
 }
 
-/// What follows the byte that begins the bytes.
+/// The bytes after a leading `first`.
 pub fn strip_byte(bytes: &[u8], first: u8) -> Option<&[u8]>
     ensures some { IfSome result (λ after. bytes.now ≡ first ∷ after.now) }
     ensures none { IfNone result ((after : List ℕ) → bytes.now ≢ first ∷ after) }

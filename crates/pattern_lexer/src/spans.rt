@@ -8,7 +8,7 @@ use flow_values::{Items, NoMemory, Text};
 use std::alloc::Global;
 use stix_times::Instant;
 
-/// The token's text, where the token lies in the text.
+/// The token's text. `None` if its range isn't in the text.
 pub fn text_of<'a>(text: &'a str, token: Token) -> Option<&'a str>
     ensures some { IfSome result (λ part. At IsItself text.now token part.now) }
     ensures none { IfNone result (¬ IsCut text.now token) }
@@ -22,7 +22,7 @@ pub fn text_of<'a>(text: &'a str, token: Token) -> Option<&'a str>
     Some(&text[token.from..token.to])
 }
 
-/// The whole number that the token stands for.
+/// The integer of a token.
 pub fn integer_at(text: &str, token: Token) -> Option<i64>
     ensures some { IfSome result (At IsIntegerText text.now token) }
     ensures none { IfNone result ((whole : ℤ) → ¬ At IsIntegerText text.now token whole) }
@@ -30,7 +30,7 @@ pub fn integer_at(text: &str, token: Token) -> Option<i64>
     integer_of(text_of(text, token)?)
 }
 
-/// The instant that the token stands for.
+/// The instant of a token.
 pub fn timestamp_at(text: &str, token: Token) -> Option<Instant>
     ensures some { IfSome result (At IsTimestampText text.now token) }
     ensures none { IfNone result ((instant : ℤ) → ¬ At IsTimestampText text.now token instant) }
@@ -38,7 +38,7 @@ pub fn timestamp_at(text: &str, token: Token) -> Option<Instant>
     timestamp_of(text_of(text, token)?)
 }
 
-/// The words that the token stands for.
+/// The string of a token, with escapes resolved.
 pub fn string_at(alloc: Global, text: &str, token: Token) -> Result<Option<Text>, NoMemory>
     ensures { IfOk result (λ found. FindsExactly (At IsStringText text.now token) found) }
 {
@@ -48,7 +48,7 @@ pub fn string_at(alloc: Global, text: &str, token: Token) -> Result<Option<Text>
     }
 }
 
-/// The bytes that the token, a Hex, stands for.
+/// The bytes of a hexadecimal token.
 pub fn hex_at(alloc: Global, text: &str, token: Token) -> Result<Option<Items<u8>>, NoMemory>
     ensures { IfOk result (λ found. FindsExactly (At IsHexText text.now token) found) }
 {
@@ -58,7 +58,7 @@ pub fn hex_at(alloc: Global, text: &str, token: Token) -> Result<Option<Items<u8
     }
 }
 
-/// The bytes that the token, a Binary, stands for.
+/// The bytes of a base64 token.
 pub fn binary_at(alloc: Global, text: &str, token: Token) -> Result<Option<Items<u8>>, NoMemory>
     ensures { IfOk result (λ found. FindsExactly (At IsBinaryText text.now token) found) }
 {

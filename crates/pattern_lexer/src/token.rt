@@ -1,4 +1,5 @@
-/// What a token is, in the order of the table of tokens: the punctuation, the keywords, then the other kinds.
+/// The kind of a token, in the order of the table of tokens: punctuation, keywords, then the
+/// others.
 #[derive(Clone, Copy, Debug, PartialEq, Eq, Hash)]
 pub enum TokenKind {
     /// `[`
@@ -79,13 +80,13 @@ pub enum TokenKind {
     Timestamp,
 }
 
-/// A token: its text is the slice of the source from `from` to before `to`.
+/// A token. Its text is the byte range `from..to` of the source.
 #[derive(Clone, Copy, Debug, PartialEq, Eq, Hash)]
 pub struct Token {
     /// What the token is.
     pub kind: TokenKind,
-    /// Where its text begins, in bytes.
+    /// The byte offset of its start.
     pub from: usize,
-    /// Where its text ends, in bytes.
+    /// The byte offset of its end.
     pub to: usize,
 }

@@ -1,11 +1,11 @@
-//! What follows from the definitions: the contract is the law, and the function does nothing.
+//! Consequences of the definitions: the contract is a theorem, and its function does nothing.
 
 ghost use Rattle.std.specs.Prelude.{◌≡◌, ℕ, ℤ, List};
 ghost use Rattle.pattern_lexer.specs.Values.{IsIntegerText, IsStringText, IsHexText, IsBinaryText, IsTimestampText};
 
 use stix_times::laws::one_instant;
 
-/// The text of a token stands for one value at most.
+/// The text of a token has at most one value.
 pub fn one_meaning()
     ensures integer { (text : List ℕ) (first second : ℤ) → IsIntegerText text first
         → IsIntegerText text second → first ≡ second }

@@ -5,7 +5,7 @@ ghost use Rattle.pattern_lexer.specs.inner.Escapes.{IsEscapedText, BeginsEscaped
 use flow_values::{NoMemory, Text};
 use std::alloc::Global;
 
-/// What the text stands for that has a backslash before each `'` and `\`.
+/// Resolves the escapes `\'` and `\\`. `None` for a bare `'` or `\`.
 pub fn unescaped(alloc: Global, text: &str) -> Result<Option<Text>, NoMemory>
     ensures { IfOk result (λ words. FindsExactly (IsEscapedText text.now) words) }
 {
@@ -29,7 +29,7 @@ pub fn unescaped(alloc: Global, text: &str) -> Result<Option<Text>, NoMemory>
     Ok(Some(words))
 }
 
-/// The `'` or `\` that begins the text, and what follows it.
+/// Splits off a leading `'` or `\`.
 fn escaped_first<'a>(text: &'a str) -> Option<(&'a str, &'a str)>
     ensures some { IfSome result (λ found. BeginsEscaped text.now found.0.now found.1.now) }
     ensures none { IfNone result (BeginsNone text.now) }

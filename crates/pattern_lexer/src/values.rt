@@ -11,7 +11,8 @@ use hex::FromHexError;
 use std::alloc::Global;
 use stix_times::Instant;
 
-/// The number of a Number's text, where it has no leading zero and fits 64 bits. Takes no memory.
+/// The integer of a Number. `None` if it has a leading zero, or doesn't fit 64 bits. Allocates
+/// nothing.
 pub fn integer_of(text: &str) -> Option<i64>
     ensures some { IfSome result (IsIntegerText text.now) }
     ensures none { IfNone result ((whole : ℤ) → ¬ IsIntegerText text.now whole) }
@@ -22,7 +23,7 @@ pub fn integer_of(text: &str) -> Option<i64>
     text.parse::<i64>().ok()
 }
 
-/// The text of a String' text, without the quotes and the backslashes before `'` and `\`.
+/// The text of a String, without the quotes and with escapes resolved.
 pub fn string_of(alloc: Global, text: &str) -> Result<Option<Text>, NoMemory>
     ensures { IfOk result (λ words. FindsExactly (IsStringText text.now) words) }
 {
@@ -32,7 +33,7 @@ pub fn string_of(alloc: Global, text: &str) -> Result<Option<Text>, NoMemory>
     }
 }
 
-/// The bytes of a Hex's text, where it is pairs of hexadecimal digits.
+/// The bytes of a Hex. `None` if it isn't pairs of hexadecimal digits.
 pub fn hex_of(alloc: Global, text: &str) -> Result<Option<Items<u8>>, NoMemory>
     ensures { IfOk result (λ bytes. FindsExactly (IsHexText text.now) bytes) }
 {
@@ -46,7 +47,7 @@ pub fn hex_of(alloc: Global, text: &str) -> Result<Option<Items<u8>>, NoMemory>
     }
 }
 
-/// The bytes of a Binary's text, where it is standard padded base64.
+/// The bytes of a Binary. `None` if it isn't standard padded base64.
 pub fn binary_of(alloc: Global, text: &str) -> Result<Option<Items<u8>>, NoMemory>
     ensures { IfOk result (λ bytes. FindsExactly (IsBinaryText text.now) bytes) }
 {
@@ -60,7 +61,7 @@ pub fn binary_of(alloc: Global, text: &str) -> Result<Option<Items<u8>>, NoMemor
     }
 }
 
-/// The instant of a Timestamp's text, where it names one. Takes no memory.
+/// The instant of a Timestamp. `None` if it isn't a valid timestamp. Allocates nothing.
 pub fn timestamp_of(text: &str) -> Option<Instant>
     ensures some { IfSome result (IsTimestampText text.now) }
     ensures none { IfNone result ((instant : ℤ) → ¬ IsTimestampText text.now instant) }
@@ -69,15 +70,16 @@ pub fn timestamp_of(text: &str) -> Option<Instant>
     stix_times::read(time).ok()
 }
 
-/// What stands between the opening and the `'` at the end.
+/// The text between the opening and the closing `'`.
 fn inside<'a>(text: &'a str, opening: &str) -> Option<&'a str>
     ensures some { IfSome result (λ inside. text.now ≡ opening.now ++ inside.now ++ codes "'") }
-    ensures none { IfNone result ((inside : List ℕ) → text.now ≢ opening.now ++ inside ++ codes "'") }
+    ensures none { IfNone result ((inside : List ℕ)
+        → text.now ≢ opening.now ++ inside ++ codes "'") }
 {
     text.strip_prefix(opening)?.strip_suffix('\'')
 }
 
-/// Whether a digit follows a leading zero, after the sign where there is one.
+/// Whether a digit follows a leading zero, after an optional sign.
 fn has_leading_zero(text: &str) -> bool
     ensures { IsTrue result ↔ ¬ HasNoLeadingZero (without_leading_sign text.now) }
 {

@@ -1,7 +1,7 @@
 ghost use Rattle.std.specs.Prelude.{◌↔◌, IsTrue, Contains};
 ghost use Rattle.pattern_lexer.specs.Word.{IsWordStart, IsWordPart, HasAt, keywords, IsWord};
 
-/// The words that have a meaning of their own.
+/// The keywords.
 const KEYWORDS: [&str; 17] = [
     "AND",
     "OR",
@@ -53,8 +53,8 @@ fn is_keyword(text: &str) -> bool
     KEYWORDS.contains(&text)
 }
 
-/// Whether the text is a Word: a letter or `_`, then letters, digits and `_`, and no keyword. Takes no
-/// memory.
+/// Whether the text is a Word: a letter or `_`, then letters, digits and `_`, and not a keyword.
+/// Allocates nothing.
 pub fn is_word(text: &str) -> bool
     ensures { IsTrue result ↔ IsWord text.now }
 {

@@ -18,7 +18,7 @@ each_none R (x ∷ xs) [] i d below none h = h
 each_none R (x ∷ xs) (y ∷ ys) zero d below none h = none y h.0
 each_none R (x ∷ xs) (y ∷ ys) (suc i) d below none h = each_none R xs ys i d (omega arith) none h.1
 
--- a name that stands for nothing is no step
+-- a name that has no value is no step
 pub no_step : (text : List ℕ) (token : Token) → ((name : List ℕ) → ¬ IsNameOf text token name) → (other : Step) → ¬ IsStepOf text (Name token) other
 no_step text token none (step.Name name) h = none name h
 no_step text token none _ h = h

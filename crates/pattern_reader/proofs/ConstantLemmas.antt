@@ -1,4 +1,4 @@
--- Constants that tokens don't stand for.
+-- Constants that tokens don't represent.
 use Rattle.std.proofs.Common.{◌≡◌, inl, inr, ℕ, ℤ, List, sym, ◌∙◌}
 use Rattle.pattern_lexer.specs.declared.token.Token.{Token}
 use Rattle.pattern_lexer.specs.declared.token.TokenKind.TheVariants as kind

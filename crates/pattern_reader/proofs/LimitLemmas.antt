@@ -1,4 +1,4 @@
--- What doesn't limit: two times of which one stands for nothing, or of which the first isn't earlier.
+-- What doesn't limit: two times of which one has no value, or of which the first isn't earlier.
 use Rattle.std.proofs.Common.{◌≡◌, ◌↔◌, ℤ, ℕ, List, Bool, true, false, subst}
 use Rattle.std.specs.Prelude.{◌<ℤ◌}
 use Rattle.pattern_lexer.specs.declared.token.Token.{Token}

@@ -33,7 +33,7 @@ use Rattle.pattern_reader.specs.LeafMeaning.{Means, means_test, means_group, mea
 use Rattle.pattern_types.specs.PlainPattern.{PlainPattern, a_leaf}
 use Rattle.pattern_reader.specs.PatternMeaning.{IsLimitOf, MeansPattern, means_leaf, means_both, means_either, means_then, means_limited}
 
--- a text stands for one value at most
+-- a text represents one value at most
 abbrev pub IsOne : {V : Type 0} → (List ℕ → V → Type 0) → Type 0
 IsOne {V} IsTextOf = (text : List ℕ) (first second : V) → IsTextOf text first → IsTextOf text second → first ≡ second
 

@@ -86,7 +86,7 @@ not_refused reading tree misread meaning faulty text p refused.TooWide x y =
     x.meant.narrow (subst IsTooWide e y.1.wide.wide)
 not_refused reading tree misread meaning faulty text p refused.NoMemory x y = y
 
--- of two refusals of one text, none is told earlier than the other
+-- of two refusals of one text, none is reported earlier than the other
 too_long : (text : List ℕ) → MAX_TEXT < length text → length text ≤ MAX_TEXT → ⊥
 too_long text h k = omega (arith, h, k)
 

@@ -1,4 +1,4 @@
--- What working out the meaning of a syntax tree answers.
+-- The result of the analysis of a syntax tree.
 use Rattle.std.specs.Prelude.{ℕ, List}
 use Rattle.pattern_grammar.specs.Tree.{Tree}
 use Rattle.pattern_types.specs.{PlainPattern.PlainPattern, PlainPattern.plain_pattern, Width.IsTooWide, Soundness.IsSoundPattern}
@@ -10,7 +10,7 @@ pub record IsMeant (text : List ℕ) (tree : Tree) (pattern : PlainPattern) : Ty
   pub means : MeansPattern text tree pattern
   pub sound : IsSoundPattern pattern
 
--- and is not too wide
+-- the tree means the sound pattern, which isn't too wide
 pub record IsNarrowlyMeant (text : List ℕ) (tree : Tree) (pattern : PlainPattern) : Type 0 where
   pub meant : IsMeant text tree pattern
   pub narrow : ¬ IsTooWide pattern
@@ -21,7 +21,7 @@ pub record IsWidelyMeant (text : List ℕ) (tree : Tree) : Type 0 where
   pub meant : IsMeant text tree pattern
   pub wide : IsTooWide pattern
 
--- the pattern; or that it is too wide; or, where values are refused, the first of these by place
+-- the pattern; or TooWide; or the first of the refused values, by offset
 abbrev pub Answers : List ℕ → Tree → Meaning → Type 0
 Answers text tree (Sound pattern) = IsNarrowlyMeant text tree (plain_pattern pattern)
 Answers text tree TooWide = IsWidelyMeant text tree

@@ -1,4 +1,4 @@
--- What the parts of a syntax tree mean: the path, the check and the test that their tokens stand for.
+-- The meaning of the parts of a syntax tree: paths and tests, by the values of their tokens.
 use Rattle.std.specs.Prelude.{◌≡◌, ◌≢◌, ◌⊎◌, ℕ, true, false, List}
 use Rattle.std.specs.List.{AllZip}
 use Rattle.pattern_types.specs.BlockText.{IsBlockText}
@@ -14,7 +14,7 @@ use Rattle.pattern_types.specs.declared.constant.Constant.TheVariants as constan
 use Rattle.pattern_types.specs.declared.check.Check.TheVariants as check
 use Rattle.pattern_types.specs.declared.address_block.AddressBlock.{AddressBlock}
 
--- a name is a word, or what stands in quotes
+-- a name is a word, or the string in quotes
 abbrev pub IsNameOf : List ℕ → Token → List ℕ → Type 0
 IsNameOf text token name = ((token.kind ≡ kind.String) × At IsStringText text token name) ⊎ ((token.kind ≢ kind.String) × At IsItself text token name)
 
@@ -41,7 +41,7 @@ pub record IsAddressOf (text : List ℕ) (token : Token) (address : AddressBlock
   pub string : At IsStringText text token address.text
   pub named : IsBlockText address.text address.block
 
--- what is asked of a value
+-- the test of a value
 abbrev pub IsCheckOf : List ℕ → CheckTree → Check → Type 0
 IsCheckOf text (check_tree.Compare operator token) (check.Equal value) = (operator.kind ≡ kind.Equal) × IsConstantOf text token value
 IsCheckOf text (check_tree.Compare operator token) (check.Differ value) = (operator.kind ≡ kind.Differ) × IsConstantOf text token value

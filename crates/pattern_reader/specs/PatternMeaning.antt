@@ -1,4 +1,4 @@
--- What the syntax tree of a pattern means.
+-- The meaning of the syntax tree of a pattern.
 use Rattle.std.specs.Prelude.{ℕ, List}
 use Rattle.pattern_lexer.specs.{Values.IsTimestampText, Spans.At, Spans.IsCount}
 use Rattle.pattern_grammar.specs.declared.qualifier.Qualifier.{Qualifier}
@@ -9,14 +9,14 @@ use Rattle.pattern_types.specs.declared.limit.Limit.TheVariants as limit
 use Rattle.pattern_types.specs.PlainPattern.{PlainPattern, a_leaf, a_both, an_either, a_then, a_limited}
 use Rattle.pattern_reader.specs.LeafMeaning.{Means}
 
--- what a qualifier limits by
+-- the limit of a qualifier
 abbrev pub IsLimitOf : List ℕ → Qualifier → Limit → Type 0
 IsLimitOf text (qualifier.Within number) (limit.Within seconds) = IsCount text number seconds
 IsLimitOf text (qualifier.Repeats number) (limit.Repeats times) = IsCount text number times
 IsLimitOf text (qualifier.Between start from to) (limit.Between begins ends) = At IsTimestampText text from begins × At IsTimestampText text to ends
 IsLimitOf text _ _ = ⊥
 
--- operators join what both sides mean, and qualifiers limit it, the last one outermost
+-- operators join the meanings of both sides, and qualifiers limit a meaning, the last one outermost
 pub data MeansPattern (text : List ℕ) : Tree → PlainPattern → Type 0 where
   means_leaf : {c : Comparison} {f : PlainLeaf} → Means text c f → MeansPattern text (leaf c) (a_leaf f)
   means_both : {p q : Tree} {m n : PlainPattern} → MeansPattern text p m → MeansPattern text q n → MeansPattern text (both p q) (a_both m n)

@@ -1,4 +1,4 @@
--- The refusals of a pattern: their names, their places, and their texts.
+-- The refusals of a pattern: their names, byte offsets, and texts.
 use Rattle.std.specs.Prelude.{ℕ, List, ◌++◌, codes, decimal, Option, Some, None}
 use Rattle.pattern_lexer.specs.TokenRefusal as token
 use Rattle.pattern_grammar.specs.SyntaxRefusal as syntax
@@ -20,7 +20,7 @@ place_of (Syntax refusal) = Some (syntax.place_of refusal)
 place_of (Value refusal) = Some (value.place_of refusal)
 place_of _ = None
 
--- a name, and a place where there is one
+-- a name, and an offset if there is one
 abbrev pub placed_text : List ℕ → Option ℕ → List ℕ
 placed_text name None = name
 placed_text name (Some at) = name ++ (codes " at " ++ decimal at)

@@ -1,4 +1,4 @@
--- Which pattern a text is read as, and why the others are refused.
+-- The pattern that a text is read as, and why other texts are refused.
 use Rattle.std.specs.Prelude.{◌<◌, ◌≤◌, ℕ, List, length}
 use Rattle.pattern_lexer.specs.declared.token.Token.{Token}
 use Rattle.pattern_lexer.specs.Reading.{TokensOf, HasRefusal}
@@ -13,32 +13,32 @@ use Rattle.pattern_reader.specs.declared.pattern_refusal.PatternRefusal.TheVaria
 abbrev pub IsShort : List ℕ → Type 0
 IsShort text = length text ≤ MAX_TEXT
 
--- the tokens of the text spell the tree, within the limits of depth
+-- the tokens of the text have the syntax tree, within the limits of depth
 pub record IsSpelled (text : List ℕ) (tree : Tree) : Type 0 where
   pub tokens : List Token
   pub of_text : TokensOf text tokens
   pub of_tokens : IsTreeOf tokens tree
 
--- the text spells a tree, which means the pattern within all limits
+-- the text has a syntax tree, which means the pattern within all limits
 pub record IsReadAs (text : List ℕ) (pattern : Pattern) : Type 0 where
   pub short : IsShort text
   pub tree : Tree
   pub spelled : IsSpelled text tree
   pub meant : IsNarrowlyMeant text tree (plain_pattern pattern)
 
--- its tokens spell no tree, and here is why
+-- its tokens have no syntax tree, for this refusal
 pub record IsUnspelled (text : List ℕ) (refusal : SyntaxRefusal) : Type 0 where
   pub tokens : List Token
   pub of_text : TokensOf text tokens
   pub misread : IsMisread tokens (length text) refusal
 
--- they spell one in which this value is the first that is refused
+-- they have one in which this value is the first refused one
 pub record IsFaulty (text : List ℕ) (refusal : ValueRefusal) : Type 0 where
   pub tree : Tree
   pub spelled : IsSpelled text tree
   pub earliest : IsEarliest (RefusalOf text tree) refusal
 
--- they spell one that means a pattern that is too wide
+-- they have one that means a pattern that is too wide
 pub record IsWide (text : List ℕ) : Type 0 where
   pub tree : Tree
   pub spelled : IsSpelled text tree

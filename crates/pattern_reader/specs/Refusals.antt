@@ -1,4 +1,4 @@
--- What is refused in a syntax tree by the values of its tokens.
+-- The refused values of a syntax tree.
 use Rattle.std.specs.Prelude.{◌≡◌, ℕ, ◌<◌, ◌⊎◌, List, [], ◌∷◌, length}
 use Rattle.pattern_lexer.specs.{declared.token.Token.Token, declared.token.TokenKind.TokenKind, Spans.At, Spans.IsItself}
 use Rattle.pattern_lexer.specs.declared.token.TokenKind.TheVariants as kind
@@ -11,13 +11,13 @@ use Rattle.pattern_types.specs.{declared.limit.Limit.Limit, declared.path.TheCon
 use Rattle.pattern_reader.specs.{declared.value_refusal.ValueRefusal.ValueRefusal, Meaning.IsStepOf, Meaning.IsCheckOf, PatternMeaning.IsLimitOf}
 use Rattle.pattern_reader.specs.declared.value_refusal.ValueRefusal.TheVariants.{BadCount, LongPath, BadAddress, EmptySpan, NoCommonRoot, NoValue}
 
--- nothing is such, and so this is refused
+-- nothing meets the condition, so this is refused
 pub record Lacks {T : Type 0} (IsOne : T → Type 0) (refused refusal : ValueRefusal) : Type 0 where
   pub none : (one : T) → ¬ IsOne one
   pub here : refusal ≡ refused
 
--- BadCount: no number of a path's item, at the number. NoValue: a name that the text doesn't hold, which
--- is never so for the tokens of a text
+-- BadCount: the list index is out of range, at its token. NoValue: the text doesn't have the name,
+-- which never occurs for tokens of this text
 abbrev pub step_refusal : StepTree → ValueRefusal
 step_refusal (Name token) = NoValue token.from
 step_refusal (Index token) = BadCount token.from
@@ -26,7 +26,7 @@ abbrev pub RefusalOfSteps : List ℕ → List StepTree → ValueRefusal → Type
 RefusalOfSteps text [] refusal = ⊥
 RefusalOfSteps text (step ∷ steps) refusal = Lacks (IsStepOf text step) (step_refusal step) refusal ⊎ RefusalOfSteps text steps refusal
 
--- LongPath: more steps than a path may have, at its first token
+-- LongPath: more than MAX_STEPS steps, at its first token
 pub record IsLongPath (path : PathTree) (refusal : ValueRefusal) : Type 0 where
   pub long : MAX_STEPS < length path.steps
   pub here : refusal ≡ LongPath path.root.from
@@ -34,8 +34,8 @@ pub record IsLongPath (path : PathTree) (refusal : ValueRefusal) : Type 0 where
 abbrev pub RefusalOfPath : List ℕ → PathTree → ValueRefusal → Type 0
 RefusalOfPath text path refusal = IsLongPath path refusal ⊎ (Lacks (At IsItself text path.root) (NoValue path.root.from) refusal ⊎ RefusalOfSteps text path.steps refusal)
 
--- BadAddress: what follows ISSUBSET or ISSUPERSET is no address block, at the block. NoValue: a constant
--- that the text doesn't hold, which is never so for the tokens of a text
+-- BadAddress: the operand of ISSUBSET or ISSUPERSET isn't an address block, at its token. NoValue:
+-- the text doesn't have the constant, which never occurs for tokens of this text
 abbrev pub textual_refusal : TokenKind → ℕ → ValueRefusal
 textual_refusal kind.Subset at = BadAddress at
 textual_refusal kind.Superset at = BadAddress at
@@ -50,7 +50,8 @@ check_refusal _ = NoValue 0
 abbrev pub RefusalOfTest : List ℕ → TestTree → ValueRefusal → Type 0
 RefusalOfTest text one refusal = RefusalOfPath text one.path refusal ⊎ Lacks (IsCheckOf text one.check) (check_refusal one.check) refusal
 
--- the root kinds: of a test its path's, of both parts those common to them, of one of two those of either
+-- the root kinds: the object types that can meet a comparison. For a test its path's, for AND the
+-- intersection, for OR the union
 abbrev pub HasRoot : List ℕ → Comparison → List ℕ → Type 0
 HasRoot text (test t) root = At IsItself text t.path.root root
 HasRoot text (group first c) root = HasRoot text c root
@@ -64,7 +65,7 @@ first_of (group first c) = first
 first_of (all c d) = first_of c
 first_of (any c d) = first_of c
 
--- NoCommonRoot: no root kind is common to the parts joined by AND, at the first token
+-- NoCommonRoot: the operands of AND have no root kind in common, at the first token
 pub record IsRootless (text : List ℕ) (c d : Comparison) (refusal : ValueRefusal) : Type 0 where
   pub rootless : (root : List ℕ) → ¬ (HasRoot text c root × HasRoot text d root)
   pub here : refusal ≡ NoCommonRoot (first_of c).from
@@ -75,12 +76,12 @@ RefusalOfComparison text (group first c) refusal = RefusalOfComparison text c re
 RefusalOfComparison text (all c d) refusal = IsRootless text c d refusal ⊎ (RefusalOfComparison text c refusal ⊎ RefusalOfComparison text d refusal)
 RefusalOfComparison text (any c d) refusal = RefusalOfComparison text c refusal ⊎ RefusalOfComparison text d refusal
 
--- a qualifier limits by this, and may
+-- a qualifier has this limit, which is sound
 pub record IsSoundLimitOf (text : List ℕ) (tree : Qualifier) (limit : Limit) : Type 0 where
   pub means : IsLimitOf text tree limit
   pub sound : IsSoundLimit limit
 
--- BadCount: the number after WITHIN or REPEATS is out of its range, at the number. EmptySpan: the time
+-- BadCount: the number of WITHIN or REPEATS is out of range, at its token. EmptySpan: the time
 -- after START isn't earlier than the one after STOP, at START
 abbrev pub limit_refusal : Qualifier → ValueRefusal
 limit_refusal (Within number) = BadCount number.from

@@ -1,4 +1,4 @@
--- The refusals of values: their names, their places, and which of two stands first.
+-- The refusals of values: their names, byte offsets, and order.
 use Rattle.std.specs.Prelude.{◌≡◌, ℕ, ◌<◌, ◌≤◌, ◌⊎◌, List, Option, MatchOption, codes}
 use Rattle.pattern_reader.specs.declared.value_refusal.ValueRefusal.{ValueRefusal}
 use Rattle.pattern_reader.specs.declared.value_refusal.ValueRefusal.TheVariants.{BadCount, LongPath, BadAddress, EmptySpan, NoCommonRoot, NoValue}
@@ -19,7 +19,7 @@ place_of (EmptySpan at) = at
 place_of (NoCommonRoot at) = at
 place_of (NoValue at) = at
 
--- at one place, LongPath comes first, then NoCommonRoot; the others never share one in a text
+-- at one offset, LongPath comes first, then NoCommonRoot; the others never share one in a text
 abbrev pub rank_of : ValueRefusal → ℕ
 rank_of (LongPath at) = 0
 rank_of (NoCommonRoot at) = 1
@@ -28,7 +28,7 @@ rank_of (BadCount at) = 3
 rank_of (BadAddress at) = 4
 rank_of (NoValue at) = 5
 
--- the first stands before the second, or at its place and no later in rank
+-- the first has the lower offset, or the same one and no higher rank
 abbrev pub Precedes : ValueRefusal → ValueRefusal → Type 0
 Precedes a b = (place_of a < place_of b) ⊎ ((place_of a ≡ place_of b) × (rank_of a ≤ rank_of b))
 
@@ -37,6 +37,6 @@ pub record IsEarliest (IsOne : ValueRefusal → Type 0) (refusal : ValueRefusal)
   pub one : IsOne refusal
   pub first : (other : ValueRefusal) → IsOne other → Precedes refusal other
 
--- the earliest of these, or none where there is none
+-- the earliest of these, or none if there are none
 abbrev pub IsEarliestOf : (ValueRefusal → Type 0) → Option ValueRefusal → Type 0
 IsEarliestOf IsOne found = MatchOption found ((refusal : ValueRefusal) → ¬ IsOne refusal) (IsEarliest IsOne)

@@ -1,3 +1,7 @@
+//! Bottom-up evaluation of attributes over the syntax tree: the leaf, the object types that can
+//! meet it, and the first refusal. Each node is visited once, so the analysis of a chain doesn't
+//! repeat that of its operands.
+
 ghost use Rattle.std.specs.Prelude.{◌≡◌, ◌↔◌, List, ℕ, IfOk};
 ghost use Rattle.pattern_grammar.specs.Tree.{Comparison, test, all, any, compared, conjunction, operand};
 ghost use Rattle.pattern_reader.specs.LeafMeaning.{IsNoAll, IsNoAny};
@@ -17,29 +21,29 @@ use pattern_types::Leaf;
 use std::alloc::Global;
 use std::collections::BTreeSet;
 
-/// What a comparison is judged by, worked out once for each of its parts.
+/// The synthesized attributes of a comparison, computed once for each node of the syntax tree.
 #[derive(Drop)]
 pub(crate) struct Analysis<'a> {
-    /// The place of its first token.
+    /// The byte offset of its first token.
     pub(crate) at: usize,
-    /// Its root kinds.
+    /// The object types that can meet it.
     pub(crate) roots: BTreeSet<&'a str>,
     /// The leaf that it means, or its first refusal.
     pub(crate) leaf: Result<Leaf, ValueRefusal>,
 }
 
-/// What the parts of a chain so far are judged by.
+/// The attributes of the operands of a chain so far.
 #[derive(Drop)]
 struct Chain<'a> {
-    /// The place of the first token.
+    /// The byte offset of the first token.
     at: usize,
-    /// The root kinds.
+    /// The object types that can meet the chain.
     roots: BTreeSet<&'a str>,
-    /// The leaves that the parts mean, or the first refusal.
+    /// The leaves of the operands, or the first refusal.
     parts: Result<Items<Leaf>, ValueRefusal>,
 }
 
-/// Judges a test.
+/// Analyzes a test.
 fn analyze_test<'a>(alloc: Global, text: &'a str, tree: &TestTree) -> Result<Analysis<'a>, NoMemory>
     ensures { IfOk result (IsAnalysis text.now (test tree.now)) }
 {
@@ -52,10 +56,12 @@ fn analyze_test<'a>(alloc: Global, text: &'a str, tree: &TestTree) -> Result<Ana
     })
 }
 
-/// A chain of one part.
+/// A chain of one operand.
 fn chain_of<'a>(alloc: Global, first: Analysis<'a>) -> Result<Chain<'a>, NoMemory>
-    ensures all { IfOk result (λ chain. (text : List ℕ) (c : Comparison) → IsNoAll c → IsAnalysis text c first.entry → IsChain AreAll text c chain) }
-    ensures any { IfOk result (λ chain. (text : List ℕ) (c : Comparison) → IsNoAny c → IsAnalysis text c first.entry → IsChain AreAny text c chain) }
+    ensures all { IfOk result (λ chain. (text : List ℕ) (c : Comparison) → IsNoAll c
+        → IsAnalysis text c first.entry → IsChain AreAll text c chain) }
+    ensures any { IfOk result (λ chain. (text : List ℕ) (c : Comparison) → IsNoAny c
+        → IsAnalysis text c first.entry → IsChain AreAny text c chain) }
 {
     let none = Ok(Items::new(alloc));
     let parts = with_next(none, first.leaf)?;
@@ -66,11 +72,12 @@ fn chain_of<'a>(alloc: Global, first: Analysis<'a>) -> Result<Chain<'a>, NoMemor
     })
 }
 
-/// Whether two comparisons that begin here and have these root kinds in common may be joined by `AND`.
+/// Checks that comparisons joined by `AND` have an object type in common. `NoCommonRoot` otherwise.
 fn rooted(at: usize, roots: &BTreeSet<&str>) -> Result<(), ValueRefusal>
     ensures { (text : List ℕ) (c d : Comparison) → at ≡ (first_of c).from
         → ((root : List ℕ) → Has roots.now root ↔ (HasRoot text c root × HasRoot text d root))
-        → IsOutcome (λ _. (root : List ℕ) × (HasRoot text c root × HasRoot text d root)) (IsRootless text c d) result }
+        → IsOutcome (λ _. (root : List ℕ) × (HasRoot text c root × HasRoot text d root))
+        (IsRootless text c d) result }
 {
     if is_none(roots) {
         return Err(ValueRefusal::NoCommonRoot { at });
@@ -78,9 +85,10 @@ fn rooted(at: usize, roots: &BTreeSet<&str>) -> Result<(), ValueRefusal>
     Ok(())
 }
 
-/// The chain and one part more, joined by `AND`: they are to have a root kind in common.
+/// Appends an operand of `AND`, which must have an object type in common with the chain.
 fn with_all<'a>(alloc: Global, chain: Chain<'a>, next: Analysis<'a>) -> Result<Chain<'a>, NoMemory>
-    ensures { IfOk result (λ more. (text : List ℕ) (c d : Comparison) → IsChain AreAll text c chain.entry
+    ensures { IfOk result (λ more. (text : List ℕ) (c d : Comparison)
+        → IsChain AreAll text c chain.entry
         → IsAnalysis text d next.entry → IsChain AreAll text (all c d) more) }
 {
     let at = chain.at;
@@ -90,9 +98,10 @@ fn with_all<'a>(alloc: Global, chain: Chain<'a>, next: Analysis<'a>) -> Result<C
     Ok(Chain { at, roots, parts })
 }
 
-/// The chain and one part more, joined by `OR`.
+/// Appends an operand of `OR`.
 fn with_any<'a>(chain: Chain<'a>, next: Analysis<'a>) -> Result<Chain<'a>, NoMemory>
-    ensures { IfOk result (λ more. (text : List ℕ) (c d : Comparison) → IsChain AreAny text c chain.entry
+    ensures { IfOk result (λ more. (text : List ℕ) (c d : Comparison)
+        → IsChain AreAny text c chain.entry
         → IsAnalysis text d next.entry → IsChain AreAny text (any c d) more) }
 {
     let at = chain.at;
@@ -101,9 +110,10 @@ fn with_any<'a>(chain: Chain<'a>, next: Analysis<'a>) -> Result<Chain<'a>, NoMem
     Ok(Chain { at, roots, parts })
 }
 
-/// All of a chain of two parts or more.
+/// The conjunction of a chain of two operands or more.
 fn all_of<'a>(chain: Chain<'a>) -> Analysis<'a>
-    ensures { (text : List ℕ) (c d : Comparison) → IsChain AreAll text (all c d) chain.entry → IsAnalysis text (all c d) result }
+    ensures { (text : List ℕ) (c d : Comparison) → IsChain AreAll text (all c d) chain.entry
+        → IsAnalysis text (all c d) result }
 {
     Analysis {
         at: chain.at,
@@ -112,9 +122,10 @@ fn all_of<'a>(chain: Chain<'a>) -> Analysis<'a>
     }
 }
 
-/// Any of a chain of two parts or more.
+/// The disjunction of a chain of two operands or more.
 fn any_of<'a>(chain: Chain<'a>) -> Analysis<'a>
-    ensures { (text : List ℕ) (c d : Comparison) → IsChain AreAny text (any c d) chain.entry → IsAnalysis text (any c d) result }
+    ensures { (text : List ℕ) (c d : Comparison) → IsChain AreAny text (any c d) chain.entry
+        → IsAnalysis text (any c d) result }
 {
     Analysis {
         at: chain.at,
@@ -123,7 +134,7 @@ fn any_of<'a>(chain: Chain<'a>) -> Analysis<'a>
     }
 }
 
-/// Judges an operand.
+/// Analyzes an operand.
 #[cycle(analyze)]
 fn analyze_operand<'a>(
     alloc: Global,
@@ -144,7 +155,7 @@ fn analyze_operand<'a>(
     }
 }
 
-/// Judges a conjunction: its one operand, or all of its operands.
+/// Analyzes a conjunction of one operand or more.
 #[cycle(analyze)]
 fn analyze_conjunction<'a>(
     alloc: Global,
@@ -165,7 +176,7 @@ fn analyze_conjunction<'a>(
     Ok(all_of(chain))
 }
 
-/// Judges a comparison: its one conjunction, or any of its conjunctions.
+/// Analyzes a comparison expression: one conjunction or more, joined by `OR`.
 #[cycle(analyze)]
 pub(crate) fn analyze<'a>(
     alloc: Global,

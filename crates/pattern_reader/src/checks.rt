@@ -40,9 +40,10 @@ fn comparison_of(
     }
 }
 
-/// The address block that the text names.
+/// The address block of a text.
 fn address_of(text: Text) -> Option<AddressBlock>
-    ensures { FindsExactly (λ address. (address.text ≡ text) × IsBlockText address.text address.block) result }
+    ensures { FindsExactly (λ address. (address.text ≡ text)
+        × IsBlockText address.text address.block) result }
 {
     let Some(block) = read_block(text.as_str()) else {
         return None;
@@ -50,7 +51,7 @@ fn address_of(text: Text) -> Option<AddressBlock>
     Some(AddressBlock { text, block })
 }
 
-/// A comparison with words, or with the address block that they name.
+/// A comparison with a string, or with the address block in it.
 fn textual_of(
     alloc: Global,
     text: &str,
@@ -77,7 +78,7 @@ fn textual_of(
     }
 }
 
-/// What a check asks of a value.
+/// The test of a value that a syntax tree means.
 fn check_of(alloc: Global, text: &str, check: &CheckTree) -> Result<Option<Check>, NoMemory>
     ensures { IfOk result (FindsExactly (IsCheckOf text.now check.now)) }
 {
@@ -94,7 +95,7 @@ fn check_of(alloc: Global, text: &str, check: &CheckTree) -> Result<Option<Check
     }
 }
 
-/// Why a check that means nothing is refused.
+/// The refusal of a test without a meaning.
 fn refusal_of(check: &CheckTree) -> ValueRefusal
     ensures { result ≡ check_refusal check.now }
 {
@@ -112,13 +113,14 @@ fn refusal_of(check: &CheckTree) -> ValueRefusal
     }
 }
 
-/// What a test means: a path that isn't too long, and what is asked of the values there.
+/// The test that a syntax tree means. `LongPath` if the path has too many steps.
 pub(crate) fn test_of(
     alloc: Global,
     text: &str,
     tree: &TestTree,
 ) -> Result<Result<Test, ValueRefusal>, NoMemory>
-    ensures { IfOk result (IsOutcome (λ test. IsTestOf text.now tree.now test × IsSoundTest test) (RefusalOfTest text.now tree.now)) }
+    ensures { IfOk result (IsOutcome (λ test. IsTestOf text.now tree.now test × IsSoundTest test)
+        (RefusalOfTest text.now tree.now)) }
 {
     valid_block();
     let path = path_of(alloc, text, &tree.path)?;

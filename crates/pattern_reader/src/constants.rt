@@ -9,7 +9,7 @@ use pattern_lexer::{Token, TokenKind, binary_at, hex_at, integer_at, string_at, 
 use pattern_types::Constant;
 use std::alloc::Global;
 
-/// The constant that the token stands for.
+/// The constant of a token.
 pub(crate) fn constant_of(
     alloc: Global,
     text: &str,
@@ -47,7 +47,8 @@ pub(crate) fn constants_of(
     text: &str,
     tokens: &[Token],
 ) -> Result<Option<Items<Constant>>, NoMemory>
-    ensures { IfOk result (λ found. FindsExactly (AllZip (IsConstantOf text.now) tokens.now) found) }
+    ensures { IfOk result (λ found.
+        FindsExactly (AllZip (IsConstantOf text.now) tokens.now) found) }
 {
     let mut found = Items::new(alloc);
     for token in tokens {

@@ -1,8 +1,16 @@
-//! What the syntax tree of a pattern's text means (STIX 2.1, section 9): `meaning_of` gives the pattern
-//! that it stands for by the values of its tokens, or the first value that may not stand where it does.
+//! Reads STIX 2.1 patterns (section 9). `read_pattern` runs the lexer, the parser and the analysis
+//! of values, and returns the pattern, or the first reason why the text isn't one, with its byte
+//! offset.
 //!
-//! Patterns of STIX 2.1 (section 9) from their text: `read_pattern` reads one, or tells the first reason
-//! why the text is none, with its place.
+//! `meaning_of` is the last step: it turns a syntax tree into a `Pattern`, converts constants, and
+//! checks limits and object types.
+//!
+//! ```ignore
+//! match read_pattern(alloc, "[file:name = 'a.exe']") {
+//!     Ok(pattern) => handle(pattern),
+//!     Err(refusal) => report(refusal.name(), refusal.at()), // "Syntax", Some(5)
+//! }
+//! ```
 #![tactic(auto)]
 
 mod analysis;

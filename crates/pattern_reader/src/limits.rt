@@ -9,7 +9,7 @@ use pattern_lexer::{Token, count_at, one_meaning, timestamp_at};
 use pattern_types::Limit;
 use stix_times::laws::is_before;
 
-/// The span between two times, where the first is earlier.
+/// The time span between two times. `None` if the first isn't earlier.
 fn span_of(text: &str, start: Token, from: Token, to: Token) -> Option<Limit>
     ensures { FindsExactly (IsSoundLimitOf text.now (Qualifier.Between start from to)) result }
 {
@@ -26,7 +26,7 @@ fn span_of(text: &str, start: Token, from: Token, to: Token) -> Option<Limit>
     None
 }
 
-/// What a qualifier limits by, where its numbers are in range and its span isn't empty.
+/// The limit of a qualifier. `None` if a number is out of range, or the time span is empty.
 pub(crate) fn limit_of(text: &str, qualifier: Qualifier) -> Option<Limit>
     ensures { FindsExactly (IsSoundLimitOf text.now qualifier) result }
 {
@@ -37,7 +37,7 @@ pub(crate) fn limit_of(text: &str, qualifier: Qualifier) -> Option<Limit>
     }
 }
 
-/// The refusal of a qualifier that limits by nothing.
+/// The refusal of a qualifier without a limit.
 pub(crate) fn limit_refusal(qualifier: Qualifier) -> ValueRefusal
     ensures { result ≡ limit_refusal qualifier }
 {

@@ -1,13 +1,13 @@
 use crate::ValueRefusal;
 use pattern_types::Pattern;
 
-/// What a syntax tree means.
+/// The meaning of a syntax tree.
 #[derive(Debug, Drop)]
 pub enum Meaning {
-    /// This pattern: no value is refused, and it isn't too wide.
+    /// A valid pattern.
     Sound(Pattern),
-    /// A pattern in which no value is refused, and that is too wide.
+    /// A pattern with valid values that is too wide.
     TooWide,
-    /// None: the first value, by its place, that is refused.
+    /// The first refused value, by its byte offset.
     Refused(ValueRefusal),
 }

@@ -1,3 +1,6 @@
+//! The width of a pattern, computed bottom-up. A part past a limit becomes `None` at once, so no
+//! number overflows.
+
 ghost use Rattle.std.specs.Prelude.{◌≡◌, IfOk};
 ghost use Rattle.std.specs.Box.{box_value};
 ghost use Rattle.pattern_types.specs.PlainLeaf.{plain_leaf};
@@ -10,7 +13,7 @@ use flow_values::NoMemory;
 use pattern_types::{Leaf, Limit, MAX_BRACKETS, MAX_WIDTH, Pattern};
 use std::alloc::Global;
 
-/// An operator on observations.
+/// An observation operator.
 #[derive(Clone, Copy)]
 pub(crate) enum Operator {
     Both,
@@ -18,7 +21,7 @@ pub(crate) enum Operator {
     Then,
 }
 
-/// A pattern that isn't too wide, with its width and how many pairs of brackets it has.
+/// A pattern within the limits, with its width and its number of pairs of brackets.
 #[derive(Drop)]
 pub(crate) struct NarrowPattern {
     pub(crate) pattern: Pattern,
@@ -27,7 +30,7 @@ pub(crate) struct NarrowPattern {
 }
 
 impl NarrowPattern {
-    /// The pattern, which has this measure, unless it is too wide.
+    /// The pattern with this width and number of brackets, or `None` past a limit.
     fn within(pattern: Pattern, width: u64, brackets: u64) -> Option<NarrowPattern>
         requires width { width ≡ width_of (plain_pattern pattern) }
         requires brackets { brackets ≡ brackets_of (plain_pattern pattern) }
@@ -56,7 +59,7 @@ impl NarrowPattern {
         }
     }
 
-    /// Two patterns, joined, unless that is too wide.
+    /// Two patterns, joined by an operator, or `None` past a limit.
     pub(crate) fn joined(
         alloc: Global,
         operator: Operator,
@@ -65,7 +68,8 @@ impl NarrowPattern {
     ) -> Result<Option<NarrowPattern>, NoMemory>
         requires left { IsNarrow left }
         requires right { IsNarrow right }
-        ensures { IfOk result (UnlessTooWide (meant_by operator (plain_pattern left.pattern) (plain_pattern right.pattern))) }
+        ensures { IfOk result (UnlessTooWide
+            (meant_by operator (plain_pattern left.pattern) (plain_pattern right.pattern))) }
     {
         let width = match operator {
             Operator::Both | Operator::Then => left.width + right.width,
@@ -76,7 +80,7 @@ impl NarrowPattern {
         Ok(NarrowPattern::within(pattern, width, brackets))
     }
 
-    /// A pattern that is limited, unless that is too wide.
+    /// A pattern with a qualifier, or `None` past a limit.
     pub(crate) fn limited(
         alloc: Global,
         part: NarrowPattern,
@@ -94,14 +98,15 @@ impl NarrowPattern {
     }
 }
 
-/// Two patterns, joined.
+/// Two patterns, joined by an operator.
 fn join(
     alloc: Global,
     operator: Operator,
     left: Pattern,
     right: Pattern,
 ) -> Result<Pattern, NoMemory>
-    ensures { IfOk result (λ p. plain_pattern p ≡ meant_by operator (plain_pattern left) (plain_pattern right)) }
+    ensures { IfOk result (λ p. plain_pattern p
+        ≡ meant_by operator (plain_pattern left) (plain_pattern right)) }
 {
     let (left, right) = boxed(alloc, left, right)?;
     match operator {
@@ -111,7 +116,7 @@ fn join(
     }
 }
 
-/// Two patterns, each in a box.
+/// Two patterns, boxed.
 fn boxed(
     alloc: Global,
     left: Pattern,
@@ -135,7 +140,7 @@ fn boxed(
     }
 }
 
-/// A pattern that is limited.
+/// A pattern with a qualifier.
 fn limit_to(alloc: Global, part: Pattern, limit: Limit) -> Result<Pattern, NoMemory>
     ensures { IfOk result (λ p. plain_pattern p ≡ a_limited (plain_pattern part) limit) }
 {

@@ -1,10 +1,13 @@
+//! The order of refusals: by byte offset, then by rank. It is total on the refusals of one text, so
+//! the first one is unique.
+
 ghost use Rattle.std.specs.Prelude.{◌≡◌, IsTrue, IsFalse};
 ghost use Rattle.pattern_reader.specs.ValueRefusal.{rank_of, Precedes};
 ghost use Rattle.pattern_reader.specs.inner.Analysis.{IsFirstOfTwo};
 
 use crate::ValueRefusal;
 
-/// Which of two refusals at one place comes first: the lower.
+/// The rank of a refusal among those at one offset: the lowest comes first.
 fn rank(refusal: ValueRefusal) -> usize
     ensures { result ≡ rank_of refusal }
 {
@@ -26,7 +29,7 @@ fn precedes(a: ValueRefusal, b: ValueRefusal) -> bool
     a.at() < b.at() || a.at() == b.at() && rank(a) <= rank(b)
 }
 
-/// The first of two refusals.
+/// The first of two refusals, by offset and then by rank.
 pub(crate) fn first_of_two(a: ValueRefusal, b: ValueRefusal) -> ValueRefusal
     ensures { IsFirstOfTwo a b result }
 {

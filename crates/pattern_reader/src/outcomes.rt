@@ -20,7 +20,7 @@ pub(crate) fn both<A: Drop, B: Drop>(
     }
 }
 
-/// The items and one more, or the first refusal.
+/// The items with one more, or the first refusal.
 pub(crate) fn with_next<T: Drop>(
     items: Result<Items<T>, ValueRefusal>,
     next: Result<T, ValueRefusal>,

@@ -16,7 +16,7 @@ use pattern_lexer::{Token, TokenKind, index_at, string_at, text_of};
 use pattern_types::{MAX_STEPS, Path, Step};
 use std::alloc::Global;
 
-/// The name that the token stands for.
+/// The name of a token.
 fn name_of(alloc: Global, text: &str, token: Token) -> Result<Option<Text>, NoMemory>
     ensures { IfOk result (FindsExactly (IsNameOf text.now token)) }
 {
@@ -32,7 +32,7 @@ fn name_of(alloc: Global, text: &str, token: Token) -> Result<Option<Text>, NoMe
     }
 }
 
-/// The step in brackets that the token stands for.
+/// The step in brackets of a token.
 fn place_of(text: &str, token: Token) -> Option<Step>
     ensures { FindsExactly (IsStepOf text.now (StepTree.Index token)) result }
 {
@@ -46,7 +46,7 @@ fn place_of(text: &str, token: Token) -> Option<Step>
     }
 }
 
-/// What a step means.
+/// The meaning of a step.
 fn step_of(alloc: Global, text: &str, step: StepTree) -> Result<Option<Step>, NoMemory>
     ensures { IfOk result (FindsExactly (IsStepOf text.now step)) }
 {
@@ -59,7 +59,7 @@ fn step_of(alloc: Global, text: &str, step: StepTree) -> Result<Option<Step>, No
     }
 }
 
-/// Why a step that means nothing is refused.
+/// The refusal of a step without a meaning.
 fn refusal_of(step: StepTree) -> ValueRefusal
     ensures { result ≡ step_refusal step }
 {
@@ -69,9 +69,10 @@ fn refusal_of(step: StepTree) -> ValueRefusal
     }
 }
 
-/// No steps yet, of a path that isn't too long.
+/// An empty list of steps, with a check of the path's length. `LongPath` if it has too many steps.
 fn no_steps(alloc: Global, path: &PathTree) -> Result<Items<Step>, ValueRefusal>
-    ensures { IsOutcome (λ steps. (steps ≡ []) × (length path.now.steps ≤ MAX_STEPS)) (IsLongPath path.now) result }
+    ensures { IsOutcome (λ steps. (steps ≡ []) × (length path.now.steps ≤ MAX_STEPS))
+        (IsLongPath path.now) result }
 {
     if path.steps.len() > MAX_STEPS {
         return Err(ValueRefusal::LongPath { at: path.root.from });
@@ -79,13 +80,14 @@ fn no_steps(alloc: Global, path: &PathTree) -> Result<Items<Step>, ValueRefusal>
     Ok(Items::new(alloc))
 }
 
-/// What the steps of a path mean, where they aren't too many.
+/// The meaning of the steps of a path.
 fn steps_of(
     alloc: Global,
     text: &str,
     path: &PathTree,
 ) -> Result<Result<Items<Step>, ValueRefusal>, NoMemory>
-    ensures { IfOk result (IsOutcome (λ steps. AllZip (IsStepOf text.now) path.now.steps steps × (length path.now.steps ≤ MAX_STEPS))
+    ensures { IfOk result (IsOutcome (λ steps. AllZip (IsStepOf text.now) path.now.steps steps
+        × (length path.now.steps ≤ MAX_STEPS))
         (λ refusal. IsLongPath path.now refusal ⊎ RefusalOfSteps text.now path.now.steps refusal)) }
 {
     let mut found = no_steps(alloc, path);
@@ -96,9 +98,10 @@ fn steps_of(
     Ok(found)
 }
 
-/// The object type that a path begins with.
+/// The object type of a path.
 fn kind_of(alloc: Global, text: &str, root: Token) -> Result<Result<Text, ValueRefusal>, NoMemory>
-    ensures { IfOk result (IsOutcome (At IsItself text.now root) (Lacks (At IsItself text.now root) (NoValue root.from))) }
+    ensures { IfOk result (IsOutcome (At IsItself text.now root)
+        (Lacks (At IsItself text.now root) (NoValue root.from))) }
 {
     match text_of(text, root) {
         Some(part) => {
@@ -109,13 +112,14 @@ fn kind_of(alloc: Global, text: &str, root: Token) -> Result<Result<Text, ValueR
     }
 }
 
-/// What a path means.
+/// The meaning of a path.
 pub(crate) fn path_of(
     alloc: Global,
     text: &str,
     path: &PathTree,
 ) -> Result<Result<Path, ValueRefusal>, NoMemory>
-    ensures { IfOk result (IsOutcome (λ found. IsPathOf text.now path.now found × (length found.steps ≤ MAX_STEPS)) (RefusalOfPath text.now path.now)) }
+    ensures { IfOk result (IsOutcome (λ found. IsPathOf text.now path.now found
+        × (length found.steps ≤ MAX_STEPS)) (RefusalOfPath text.now path.now)) }
 {
     let kind = kind_of(alloc, text, path.root)?;
     let steps = steps_of(alloc, text, path)?;

@@ -8,20 +8,20 @@ use pattern_lexer::TokenRefusal;
 use std::error::Error;
 use std::fmt;
 
-/// Why a text isn't read as a pattern.
+/// Why a text isn't a pattern.
 #[derive(Clone, Copy, Debug, PartialEq, Eq, Hash)]
 pub enum PatternRefusal {
     /// The text has more than 65,536 bytes.
     TooLong,
-    /// It isn't cut into tokens: the first refusal from the left.
+    /// The lexer failed: its first refusal.
     Token(TokenRefusal),
-    /// Its tokens are no pattern's, or nest too deep: whichever stands first.
+    /// The parser failed: a syntax error or too deep nesting, whichever comes first in the text.
     Syntax(SyntaxRefusal),
-    /// A value may not stand where it does: the first, by its place.
+    /// A value is not allowed: the first one, by its byte offset.
     Value(ValueRefusal),
-    /// The pattern is wider than 64, or has more than 1,024 pairs of brackets.
+    /// The pattern has a width over 64, or more than 1,024 pairs of brackets.
     TooWide,
-    /// Memory ran out.
+    /// Out of memory.
     NoMemory,
 }
 
@@ -40,7 +40,7 @@ impl PatternRefusal {
         }
     }
 
-    /// Its place in the text, in bytes from 0, where it has one.
+    /// The byte offset of the refusal, from 0, if it has one.
     pub fn at(self) -> Option<usize>
         ensures { result ≡ place_of self }
     {
@@ -53,7 +53,7 @@ impl PatternRefusal {
     }
 }
 
-/// Its name, and its place where it has one, as `Syntax at 5`.
+/// Prints the name, and the byte offset if there is one, as `Syntax at 5`.
 impl fmt::Display for PatternRefusal {
     ghost use Rattle.pattern_reader.specs.PatternRefusal.{refusal_text};
 

@@ -16,7 +16,7 @@ use pattern_grammar::{ComparisonTree, PatternTree, Qualifier};
 use pattern_types::Limit;
 use std::alloc::Global;
 
-/// What a pattern and a part mean, joined: they are too wide where the part is.
+/// Joins a pattern and an operand. `None` if the operand or the result is too wide.
 fn join_narrow(
     alloc: Global,
     operator: Operator,
@@ -26,7 +26,8 @@ fn join_narrow(
     requires left { IsNarrow left }
     requires right { IfSome right IsNarrow }
     ensures narrow { IfOk result (λ whole. IfSome whole IsNarrow) }
-    ensures part { IfOk result (λ whole. (text : List ℕ) (p q : Tree) → IsPartOf text p (Some left) → IsPartOf text q right
+    ensures part { IfOk result (λ whole. (text : List ℕ) (p q : Tree) → IsPartOf text p (Some left)
+        → IsPartOf text q right
         → IsPartOf text (tree_by operator p q) whole) }
 {
     match right {
@@ -38,7 +39,7 @@ fn join_narrow(
     }
 }
 
-/// What two parts of a pattern mean, joined: they are too wide where one of them is.
+/// Joins two operands. `None` if one of them or the result is too wide.
 fn join(
     alloc: Global,
     operator: Operator,
@@ -48,7 +49,8 @@ fn join(
     requires left { IfSome left IsNarrow }
     requires right { IfSome right IsNarrow }
     ensures narrow { IfOk result (λ whole. IfSome whole IsNarrow) }
-    ensures part { IfOk result (λ whole. (text : List ℕ) (p q : Tree) → IsPartOf text p left → IsPartOf text q right
+    ensures part { IfOk result (λ whole. (text : List ℕ) (p q : Tree) → IsPartOf text p left
+        → IsPartOf text q right
         → IsPartOf text (tree_by operator p q) whole) }
 {
     match left {
@@ -60,7 +62,7 @@ fn join(
     }
 }
 
-/// What two parts of a pattern mean, joined, or the first refusal.
+/// Joins two operands, or returns the first refusal.
 fn join_parts(
     alloc: Global,
     operator: Operator,
@@ -70,7 +72,8 @@ fn join_parts(
     requires left { IsNarrowPart left }
     requires right { IsNarrowPart right }
     ensures narrow { IfOk result IsNarrowPart }
-    ensures part { IfOk result (λ whole. (text : List ℕ) (p q : Tree) → IsPartOutcome text p left → IsPartOutcome text q right
+    ensures part { IfOk result (λ whole. (text : List ℕ) (p q : Tree) → IsPartOutcome text p left
+        → IsPartOutcome text q right
         → IsPartOutcome text (tree_by operator p q) whole) }
 {
     match both(left, right) {
@@ -82,7 +85,7 @@ fn join_parts(
     }
 }
 
-/// What a part of a pattern means, limited: it is too wide where it was.
+/// Limits an operand by a qualifier. `None` if it or the result is too wide.
 fn limit(
     alloc: Global,
     part: Option<NarrowPattern>,
@@ -90,7 +93,8 @@ fn limit(
 ) -> Result<Option<NarrowPattern>, NoMemory>
     requires { IfSome part IsNarrow }
     ensures narrow { IfOk result (λ whole. IfSome whole IsNarrow) }
-    ensures part { IfOk result (λ whole. (text : List ℕ) (p : Tree) (q : Qualifier) → IsPartOf text p part → IsSoundLimitOf text q limit
+    ensures part { IfOk result (λ whole. (text : List ℕ) (p : Tree) (q : Qualifier)
+        → IsPartOf text p part → IsSoundLimitOf text q limit
         → IsPartOf text (qualified p q) whole) }
 {
     match part {
@@ -99,7 +103,7 @@ fn limit(
     }
 }
 
-/// What a part of a pattern means, limited by a qualifier, or the first refusal.
+/// Limits an operand by the meaning of a qualifier, or returns the first refusal.
 fn limit_part(
     alloc: Global,
     text: &str,
@@ -108,7 +112,8 @@ fn limit_part(
 ) -> Result<Result<Option<NarrowPattern>, ValueRefusal>, NoMemory>
     requires { IsNarrowPart part }
     ensures narrow { IfOk result IsNarrowPart }
-    ensures part { IfOk result (λ whole. (p : Tree) → IsPartOutcome text.now p part → IsPartOutcome text.now (qualified p qualifier) whole) }
+    ensures part { IfOk result (λ whole. (p : Tree) → IsPartOutcome text.now p part
+        → IsPartOutcome text.now (qualified p qualifier) whole) }
 {
     let found = limit_of(text, qualifier).ok_or(limit_refusal(qualifier));
     match both(part, found) {
@@ -120,7 +125,7 @@ fn limit_part(
     }
 }
 
-/// What stands in a pair of brackets means.
+/// The meaning of the comparison expression in a pair of brackets.
 fn leaf_part(
     alloc: Global,
     text: &str,
@@ -136,7 +141,7 @@ fn leaf_part(
     }
 }
 
-/// What patterns that are joined mean, of which the first means this.
+/// The meaning of a chain of one operator, given that of its first operand.
 #[cycle(patterns)]
 fn chain_of(
     alloc: Global,
@@ -161,7 +166,7 @@ fn chain_of(
     Ok(whole)
 }
 
-/// What a part of a pattern means.
+/// The meaning of a node of the syntax tree.
 #[cycle(patterns)]
 fn part_of(
     alloc: Global,
@@ -192,8 +197,9 @@ fn part_of(
     }
 }
 
-/// What the syntax tree of a pattern's text means: the pattern; or that it is too wide; or the first
-/// value, by its place, that may not stand where it does.
+/// The meaning of a syntax tree over its text: the pattern, or `TooWide`, or the first refused
+/// value by its byte offset. Linear in the number of nodes, but for the sets of object types.
+/// `NoMemory` is the only error.
 pub fn meaning_of(alloc: Global, text: &str, tree: &PatternTree) -> Result<Meaning, NoMemory>
     ensures { IfOk result (Answers text.now (shape tree.now)) }
 {

@@ -9,16 +9,21 @@ use pattern_lexer::tokens;
 use pattern_types::Pattern;
 use std::alloc::Global;
 
-/// The most bytes of a pattern's text.
+/// The greatest length of a pattern's text, in bytes.
 pub const MAX_TEXT: usize = 65_536;
 
-/// Reads a pattern of STIX 2.1 (section 9), of at most 65,536 bytes; or tells the first reason why the
-/// text is none: TooLong; a refusal of its tokens, from the left; Syntax or TooDeep, whichever stands
-/// first; a value that is refused, by place; TooWide.
+/// Reads a pattern of STIX 2.1 (section 9), of at most 65,536 bytes.
+///
+/// The refusal is the first of these that applies: `TooLong`; the first bad token; `Syntax` or
+/// `TooDeep`, whichever comes first in the text; the first bad value; `TooWide`. `NoMemory` may
+/// come at any time.
 pub fn read_pattern(alloc: Global, text: &str) -> Result<Pattern, PatternRefusal>
     ensures ok { IfOk result (IsReadAs text.now) }
-    ensures err { IfErr result (λ refusal. refusal ≢ PatternRefusal.NoMemory → IsRefusedAs text.now refusal) }
-    ensures long { MAX_TEXT < length text.now → IsErrAnd result (λ refusal. refusal ≡ PatternRefusal.TooLong) }
+    ensures err { IfErr result (λ refusal. refusal ≢ PatternRefusal.NoMemory
+        → IsRefusedAs text.now refusal) }
+    // A text that is too long is refused before anything is allocated.
+    ensures long { MAX_TEXT < length text.now
+        → IsErrAnd result (λ refusal. refusal ≡ PatternRefusal.TooLong) }
 {
     if text.len() > MAX_TEXT {
         return Err(PatternRefusal::TooLong);

@@ -1,4 +1,4 @@
-//! What follows from the definitions: the contracts are the laws, and the functions do nothing.
+//! Consequences of the definitions: each contract is a theorem, and its function does nothing.
 
 ghost use Rattle.std.specs.Prelude.{◌≡◌, ℕ, List};
 ghost use Rattle.pattern_types.specs.declared.pattern.Pattern.{Pattern};
@@ -8,9 +8,10 @@ ghost use Rattle.pattern_reader.specs.declared.pattern_refusal.PatternRefusal.Th
 ghost use Rattle.pattern_reader.specs.declared.value_refusal.ValueRefusal.TheVariants.{NoValue};
 ghost use Rattle.pattern_reader.specs.Read.{IsReadAs, IsRefusedAs};
 
-/// A text is read as one pattern at most.
+/// A text is read as at most one pattern.
 pub fn one_pattern()
-    ensures { (text : List ℕ) (p q : Pattern) → IsReadAs text p → IsReadAs text q → plain_pattern p ≡ plain_pattern q }
+    ensures { (text : List ℕ) (p q : Pattern) → IsReadAs text p → IsReadAs text q
+        → plain_pattern p ≡ plain_pattern q }
 {
     pattern_lexer::lexer_laws::one_reading();
     pattern_grammar::one_pattern();
@@ -19,7 +20,8 @@ pub fn one_pattern()
 
 /// A text that is read as a pattern has no refusal.
 pub fn none_refused()
-    ensures { (text : List ℕ) (p : Pattern) (refusal : PatternRefusal) → IsReadAs text p → ¬ IsRefusedAs text refusal }
+    ensures { (text : List ℕ) (p : Pattern) (refusal : PatternRefusal) → IsReadAs text p
+        → ¬ IsRefusedAs text refusal }
 {
     pattern_lexer::lexer_laws::one_reading();
     pattern_grammar::one_pattern();
@@ -28,10 +30,11 @@ pub fn none_refused()
     crate::meaning_laws::none_refused();
 }
 
-/// A text has one refusal at most: one of more than 65,536 bytes is TooLong and nothing else, and of two
-/// values at one place one comes first.
+/// A text has at most one refusal. One of more than 65,536 bytes is only TooLong, and of two values
+/// at one offset one comes first.
 pub fn one_refusal()
-    ensures { (text : List ℕ) (first second : PatternRefusal) → IsRefusedAs text first → IsRefusedAs text second → first ≡ second }
+    ensures { (text : List ℕ) (first second : PatternRefusal) → IsRefusedAs text first
+        → IsRefusedAs text second → first ≡ second }
 {
     pattern_lexer::lexer_laws::one_reading();
     pattern_grammar::one_pattern();
@@ -40,7 +43,7 @@ pub fn one_refusal()
     crate::meaning_laws::one_refusal();
 }
 
-/// No text is refused as `NoValue`: each token of a text stands for something.
+/// No text is refused as `NoValue`: each token of a text has a value.
 pub fn no_value()
     ensures { (text : List ℕ) (at : ℕ) → ¬ IsRefusedAs text (PatternRefusal.Value (NoValue at)) }
 {}

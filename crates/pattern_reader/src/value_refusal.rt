@@ -1,26 +1,26 @@
 ghost use Rattle.std.specs.Prelude.{◌≡◌};
 ghost use Rattle.pattern_reader.specs.ValueRefusal.{name_of, place_of};
 
-/// Why a syntax tree means no pattern: a value that may not stand where it does. A place `at` counts
-/// bytes from 0.
+/// Why a syntax tree doesn't mean a pattern: a value that isn't allowed. `at` is a byte offset,
+/// from 0.
 #[derive(Clone, Copy, Debug, PartialEq, Eq, Hash)]
 pub enum ValueRefusal {
-    /// The number after `WITHIN` or `REPEATS`, or in a path, is out of its range.
+    /// The number of `WITHIN` or `REPEATS`, or of a list index, is out of range.
     BadCount { at: usize },
-    /// The path has more steps than it may.
+    /// The path has more than `MAX_STEPS` steps.
     LongPath { at: usize },
-    /// What follows `ISSUBSET` or `ISSUPERSET` is no address block.
+    /// The operand of `ISSUBSET` or `ISSUPERSET` isn't an address block.
     BadAddress { at: usize },
-    /// The span's start isn't before its end.
+    /// The start of a time span isn't before its end.
     EmptySpan { at: usize },
-    /// The parts of a comparison joined by `AND` have no object type in common.
+    /// Comparisons joined by `AND` have no object type in common.
     NoCommonRoot { at: usize },
-    /// The text doesn't hold what the token stands for: never so for the tokens of that text.
+    /// The text doesn't have the value of the token. It never occurs for tokens of this text.
     NoValue { at: usize },
 }
 
 impl ValueRefusal {
-    /// Its name, as `BadCount`.
+    /// The refusal's name, as `BadCount`.
     pub fn name(self) -> &'static str
         ensures { result.now ≡ name_of self }
     {
@@ -34,7 +34,7 @@ impl ValueRefusal {
         }
     }
 
-    /// Its place in the text, in bytes.
+    /// The byte offset of the refusal.
     pub fn at(self) -> usize
         ensures { result ≡ place_of self }
     {

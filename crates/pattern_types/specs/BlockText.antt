@@ -6,13 +6,13 @@ use Rattle.pattern_types.specs.Block.{masked}
 use Rattle.pattern_types.specs.Ipv4.{IsIpv4Text}
 use Rattle.pattern_types.specs.Ipv6.{IsIpv6Text}
 
--- what may follow the address: nothing, where all bits lead, or `/` and how many do, in decimal
+-- what may follow the address: nothing, for all bits, or `/` and the prefix length in decimal
 -- without leading zeros
 abbrev pub IsLengthText : ℕ → List ℕ → ℕ → Type 0
 IsLengthText width text bits = ((text ≡ []) × (bits ≡ width))
     ⊎ ((text ≡ 47 ∷ decimal bits) × (bits ≤ width))
 
--- an address and a length, and the block's number is the address without its host bits
+-- an address and a prefix length; the network number is the address without its host bits
 pub record IsTextOf (IsAddress : List ℕ → ℕ → Type 0) (width : ℕ) (text : List ℕ) (net bits : ℕ) : Type 0 where
   pub address : List ℕ
   pub length : List ℕ
@@ -22,7 +22,7 @@ pub record IsTextOf (IsAddress : List ℕ → ℕ → Type 0) (width : ℕ) (tex
   pub length_text : IsLengthText width length bits
   pub value : net ≡ masked width bits number
 
--- the text is one of the block's
+-- the text names the block
 abbrev pub IsBlockText : List ℕ → Block → Type 0
 IsBlockText text (V4 net bits) = IsTextOf IsIpv4Text 32 text net bits
 IsBlockText text (V6 net bits) = IsTextOf IsIpv6Text 128 text net bits

@@ -2,7 +2,7 @@
 use Rattle.std.specs.Prelude.{◌≡◌, ℕ, ◌+◌, ◌*◌, ◌<◌, List, length, map, fold, decimal, All}
 use Rattle.std.specs.List.{join_with_byte}
 
--- the number that has these digits in the base, the highest first
+-- the number with these digits in the base, the highest first
 abbrev pub number_of : ℕ → List ℕ → ℕ
 number_of base digits = fold (λ number digit. number * base + digit) 0 digits
 

@@ -10,7 +10,7 @@ pub record IsGroup (text : List ℕ) (group : ℕ) : Type 0 where
   pub four_at_most : length text ≤ 4
   pub value : digits_value 16 text ≡ group
 
--- each text is that of the group at its place
+-- each text is that of the group at its index
 abbrev pub AreGroups : List (List ℕ) → List ℕ → Type 0
 AreGroups [] [] = Unit {0}
 AreGroups (text ∷ texts) (group ∷ groups) = IsGroup text group × AreGroups texts groups
@@ -23,7 +23,7 @@ pub record IsGroupsText (text groups : List ℕ) : Type 0 where
   pub each : AreGroups texts groups
   pub spelled : text ≡ join_with_byte 58 texts
 
--- the same, with the last two groups written as an IPv4 address
+-- groups joined by colons, with the last two written as an IPv4 address
 pub record EndsInIpv4 (text groups : List ℕ) : Type 0 where
   pub texts : List (List ℕ)
   pub front : List ℕ

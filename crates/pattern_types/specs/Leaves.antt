@@ -3,7 +3,7 @@ use Rattle.std.specs.Prelude.{ℕ, ◌+◌}
 use Rattle.pattern_types.specs.declared.pattern.Pattern.{Pattern}
 use Rattle.pattern_types.specs.declared.pattern.Pattern.TheVariants.{Leaf, Both', Either', Then', Within', Between', Repeats'}
 
--- how many there are: an operator has those of both sides, a qualifier those of what it qualifies
+-- the number of leaves: an operator has those of both sides, a qualifier those of its operand
 abbrev pub leaves : Pattern → ℕ
 leaves (Leaf leaf) = 1
 leaves (Both' at left and_at right) = leaves left + leaves right

@@ -1,4 +1,4 @@
--- What stands in the brackets of a pattern, without where it lies in memory.
+-- The comparison expression in the brackets of a pattern, as a plain inductive type.
 use Rattle.std.specs.Prelude.{List, [], ◌∷◌}
 use Rattle.pattern_types.specs.declared.leaf.Test.{Test as OneTest}
 use Rattle.pattern_types.specs.declared.leaf.Leaf.{Leaf, Test, All', Any', Row_of-Leaf, end_of-Leaf, more_of-Leaf}
@@ -13,7 +13,7 @@ mutual
     none : PlainLeaves
     more : PlainLeaf → PlainLeaves → PlainLeaves
 
--- one more at the end
+-- appends one
 abbrev pub put : PlainLeaves → PlainLeaf → PlainLeaves
 put none f = more f none
 put (more g gs) f = more g (put gs f)
@@ -28,7 +28,7 @@ abbrev mutual
   plain_leaves end_of-Leaf = none
   plain_leaves (more_of-Leaf l r) = more (plain_leaf l) (plain_leaves r)
 
--- those of a list of leaves
+-- the leaves of a list
 abbrev pub listed : List Leaf → PlainLeaves
 listed [] = none
 listed (l ∷ ls) = more (plain_leaf l) (listed ls)

@@ -1,4 +1,4 @@
--- Patterns without where they lie in memory.
+-- Patterns as a plain inductive type.
 use Rattle.pattern_types.specs.declared.limit.Limit.{Limit}
 use Rattle.pattern_types.specs.declared.limit.Limit.TheVariants as limit
 use Rattle.pattern_types.specs.declared.pattern.Pattern.{Pattern}

@@ -1,4 +1,5 @@
--- What a pattern has to keep besides its grammar (STIX 2.1, section 9, and limits of ours).
+-- Requirements on a pattern beyond its grammar (STIX 2.1, section 9, and limits of this
+-- implementation).
 use Rattle.std.specs.Prelude.{◌≡◌, ◌≤◌, ◌⊎◌, ◌<ℤ◌, ℕ, List, length}
 use Rattle.pattern_types.specs.Block.{IsValid}
 use Rattle.pattern_types.specs.BlockText.{IsBlockText}
@@ -24,17 +25,17 @@ IsSoundCheck (Subset address) = IsSoundBlock address
 IsSoundCheck (Superset address) = IsSoundBlock address
 IsSoundCheck _ = Unit {0}
 
--- a path has no more steps than it may
+-- a path has at most MAX_STEPS steps
 abbrev pub IsShort : Path → Type 0
 IsShort path = length path.steps ≤ MAX_STEPS
 
--- and so in a test
+-- the same for a test
 pub record IsSoundTest (test : Test) : Type 0 where
   pub short : IsShort test.path
   pub check : IsSoundCheck test.check
 
--- the types of the objects that can meet a comparison: of a test its path's, of parts joined by AND
--- those that all of them have, of parts joined by OR those that one of them has
+-- the types of objects that can meet a comparison: for a test its path's, for parts joined by AND
+-- the intersection, for parts joined by OR the union
 abbrev mutual
   pub Roots : PlainLeaf → List ℕ → Type 0
   Roots (one test) root = root ≡ test.path.kind
@@ -49,7 +50,7 @@ abbrev mutual
   OneHas none root = ⊥
   OneHas (more part parts) root = Roots part root ⊎ OneHas parts root
 
--- some type of object can meet all parts that are joined by AND
+-- some object type can meet all parts that are joined by AND
 abbrev mutual
   pub IsSoundLeaf : PlainLeaf → Type 0
   IsSoundLeaf (one test) = IsSoundTest test
@@ -60,13 +61,13 @@ abbrev mutual
   AreSoundLeaves none = Unit {0}
   AreSoundLeaves (more part parts) = IsSoundLeaf part × AreSoundLeaves parts
 
--- a span begins before it ends
+-- a time span begins before it ends
 abbrev pub IsSoundLimit : Limit → Type 0
 IsSoundLimit (Within seconds) = Unit {0}
 IsSoundLimit (Repeats times) = Unit {0}
 IsSoundLimit (Between begins ends) = begins <ℤ ends
 
--- and all of this holds in each part
+-- the same for each part of a pattern
 abbrev pub IsSoundPattern : PlainPattern → Type 0
 IsSoundPattern (a_leaf leaf) = IsSoundLeaf leaf
 IsSoundPattern (a_both left right) = IsSoundPattern left × IsSoundPattern right

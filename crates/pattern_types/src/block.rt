@@ -1,13 +1,13 @@
-//! A block of addresses.
+//! A CIDR block.
 ghost use Rattle.std.specs.Prelude.{◌≡◌, ◌^◌, ◌<◌};
 ghost use Rattle.pattern_types.specs.Block.{width_of, net_of, bits_of};
 
 use crate::prefix::Prefix;
 
-/// The addresses of one family whose first `bits` bits are those of `net`.
+/// A CIDR block: the addresses of one family whose first `bits` bits are those of `net`.
 ///
-/// `bits` is at most 32 in IPv4 and at most 128 in IPv6. A block that was read from text has zeros in
-/// the other bits of `net`.
+/// `bits` is at most 32 for IPv4 and at most 128 for IPv6. `read_block` sets the host bits of `net`
+/// to zero.
 #[derive(Clone, Copy, Debug, PartialEq, Eq)]
 pub enum Block {
     V4 { net: u32, bits: u8 },
@@ -15,7 +15,7 @@ pub enum Block {
 }
 
 impl Block {
-    /// How many bits an address of the block's family has.
+    /// The number of bits of an address of this family.
     pub(crate) fn width(&self) -> u8
         ensures { result ≡ width_of self.now }
     {
@@ -25,7 +25,7 @@ impl Block {
         }
     }
 
-    /// The leading bits that the block's addresses share.
+    /// The network prefix of the block.
     pub(crate) fn prefix(&self) -> Prefix
         ensures net { result.net ≡ net_of self.now }
         ensures bits { result.bits ≡ bits_of self.now }

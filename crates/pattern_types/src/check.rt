@@ -1,12 +1,12 @@
 use crate::{AddressBlock, Constant};
 use flow_values::{Items, Text};
 
-/// What a test asks of a value: a comparison operator with its constants (STIX 2.1, section 9.6.1).
+/// The test of a value: a comparison operator with its constants (STIX 2.1, section 9.6.1).
 #[derive(Debug, Drop)]
 pub enum Check {
     /// `=`: the value equals the constant.
     Equal(Constant),
-    /// `!=`: it doesn't.
+    /// `!=`: the value doesn't equal the constant.
     Differ(Constant),
     /// `<`: the value is less.
     Less(Constant),
@@ -18,11 +18,11 @@ pub enum Check {
     GreaterEqual(Constant),
     /// `IN ( .. )`: the value equals one of the constants.
     Among(Items<Constant>),
-    /// `LIKE`: the value fits the text, in which `%` stands for any characters and `_` for one.
+    /// `LIKE`: the value matches the text, where `%` matches any characters and `_` matches one.
     Like(Text),
-    /// `ISSUBSET`: the value is an address block that lies in this one.
+    /// `ISSUBSET`: the value is an address block within this one.
     Subset(AddressBlock),
-    /// `ISSUPERSET`: the value is an address block in which this one lies.
+    /// `ISSUPERSET`: the value is an address block around this one.
     Superset(AddressBlock),
     /// `EXISTS`: there is a value at the path.
     Exists,

@@ -6,8 +6,7 @@ use stix_times::Instant;
 pub enum Constant {
     /// An integer, as `5`.
     Integer(i64),
-    /// A text, as `'a'`: its characters without the quotes, and `'` and `\` without the backslash that
-    /// is written before them.
+    /// A string, as `'a'`: its characters, without the quotes and with escapes resolved.
     String(Text),
     /// `true` or `false`.
     Boolean(bool),

@@ -1,10 +1,10 @@
-//! Whether one block lies within another.
+//! Inclusion of CIDR blocks.
 ghost use Rattle.std.specs.Prelude.{◌↔◌, IsTrue};
 ghost use Rattle.pattern_types.specs.Block.{IsValid, IsWithin};
 
 use crate::block::Block;
 
-/// Whether both blocks are of one family and each address of `inner` is one of `outer`.
+/// Whether both blocks are of one family, and each address of `inner` is an address of `outer`.
 pub fn within(inner: &Block, outer: &Block) -> bool
     requires inner_valid { IsValid inner.now }
     requires outer_valid { IsValid outer.now }

@@ -1,7 +1,7 @@
-//! The leading bits of a number, with the bits after them cut off or set to zero.
+//! The leading bits of a number: shifted down, or masked.
 ghost use Rattle.std.specs.Prelude.{◌≡◌, ◌*◌, ◌/◌, ◌^◌, ◌≤◌};
 
-/// The number without its last `host_bits` bits.
+/// The number shifted right by `host_bits` bits. Also right for a shift of all 128 bits.
 pub(crate) fn cut_off(number: u128, host_bits: u8) -> u128
     requires { host_bits ≤ 128 }
     ensures { result ≡ number / 2 ^ host_bits }
@@ -9,7 +9,7 @@ pub(crate) fn cut_off(number: u128, host_bits: u8) -> u128
     number.checked_shr(u32::from(host_bits)).unwrap_or(0)
 }
 
-/// The number with zeros for its last `host_bits` bits.
+/// The number with its last `host_bits` bits set to zero.
 pub(crate) fn zeroed(number: u128, host_bits: u8) -> u128
     requires { host_bits ≤ 128 }
     ensures { result ≡ number / 2 ^ host_bits * 2 ^ host_bits }

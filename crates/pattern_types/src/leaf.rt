@@ -1,24 +1,25 @@
 use crate::{Check, Path};
 use flow_values::Items;
 
-/// What stands in the brackets of a pattern: tests, joined by `AND` and `OR` (STIX 2.1, section 9.6).
+/// The comparison expression in the brackets of a pattern: tests, joined by `AND` and `OR` (STIX
+/// 2.1, section 9.6).
 #[derive(Debug, Drop)]
 pub enum Leaf {
-    /// One test.
+    /// A single test.
     Test(Test),
-    /// `AND` between comparisons: each part holds.
+    /// `AND` between comparisons: all parts hold.
     All(Items<Leaf>),
-    /// `OR` between comparisons: some part holds.
+    /// `OR` between comparisons: at least one part holds.
     Any(Items<Leaf>),
 }
 
-/// One comparison: a path, and what is asked of the values there.
+/// One comparison: an object path, and a test of the values there.
 #[derive(Debug, Drop)]
 pub struct Test {
-    /// Where the values stand.
+    /// The path to the values.
     pub path: Path,
-    /// Whether `NOT` is written: the answer is turned.
+    /// Whether `NOT` is written, which negates the result.
     pub negated: bool,
-    /// What is asked of a value.
+    /// The test of a value.
     pub check: Check,
 }

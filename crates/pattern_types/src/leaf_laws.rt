@@ -1,4 +1,4 @@
-//! What follows from the definitions: the contracts are the laws, and the functions do nothing.
+//! Consequences of the definitions: each contract is a theorem, and its function does nothing.
 
 ghost use Rattle.std.specs.Prelude.{◌≡◌};
 ghost use Rattle.pattern_types.specs.declared.pattern.Pattern.{Pattern};
@@ -6,7 +6,7 @@ ghost use Rattle.pattern_types.specs.PlainPattern.{plain_pattern};
 ghost use Rattle.pattern_types.specs.Leaves.{leaves};
 ghost use Rattle.pattern_types.specs.Width.{brackets};
 
-/// A pattern has as many leaves as pairs of brackets.
+/// The number of leaves equals that of pairs of brackets, as the width limits count them.
 pub fn leaves_are_brackets()
     ensures { (pattern : Pattern) → leaves pattern ≡ brackets (plain_pattern pattern) }
 {}

@@ -3,7 +3,7 @@ ghost use Rattle.pattern_types.specs.Leaves.{leaves};
 
 use crate::Pattern;
 
-/// How many leaves a pattern has. Takes no memory.
+/// The number of leaves of a pattern. Linear in its size. Allocates nothing.
 pub fn leaf_count(pattern: &Pattern) -> u32
     requires { leaves pattern.now < 2 ^ 32 }
     ensures { result ≡ leaves pattern.now }

@@ -1,9 +1,16 @@
-//! Reads blocks of IPv4 and IPv6 addresses from text, as `192.0.2.0/24` or `2001:db8::/32`, and tells
-//! whether one block lies within another (RFC 4632, section 3.1; RFC 4291, sections 2.2 and 2.3).
-//! Exactly the stated forms are read, and no memory is taken.
+//! The data types of STIX 2.1 patterns (section 9). `Pattern` is the syntax tree of an observation
+//! expression: leaves are comparison expressions (`Leaf`), joined by operators and limited by
+//! qualifiers.
 //!
-//! Patterns of STIX 2.1 (section 9) as trees: leaves of comparisons, joined by the operators on
-//! observations and limited by qualifiers. `leaf_count` counts the leaves.
+//! CIDR blocks are here too: `read_block` parses exactly the forms of RFC 4632, section 3.1, and
+//! RFC 4291, sections 2.2 and 2.3. `within` tests inclusion. Neither allocates.
+//!
+//! ```ignore
+//! let outer = read_block("192.0.2.0/24")?;
+//! let inner = read_block("192.0.2.17")?;
+//! assert!(within(&inner, &outer));
+//! let leaves = leaf_count(&pattern); // the number of pairs of brackets
+//! ```
 #![tactic(auto)]
 
 mod address_block;

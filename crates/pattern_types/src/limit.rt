@@ -1,12 +1,12 @@
 use stix_times::Instant;
 
-/// How wide a pattern may be: how many observations a thing that is held of it can have.
+/// The greatest width of a pattern: the number of observations that one match of it can have.
 pub const MAX_WIDTH: u32 = 64;
 
-/// How many pairs of brackets a pattern may have.
+/// The greatest number of pairs of brackets of a pattern.
 pub const MAX_BRACKETS: u32 = 1_024;
 
-/// What a qualifier limits a pattern by (STIX 2.1, section 9.4).
+/// A qualifier of a pattern (STIX 2.1, section 9.5.1).
 #[derive(Clone, Copy, Debug)]
 pub enum Limit {
     /// `WITHIN x SECONDS`.

@@ -1,22 +1,22 @@
 use crate::Leaf;
 use stix_times::Instant;
 
-/// A pattern (STIX 2.1, sections 9.3 to 9.5): leaves, joined by the operators on observations and
-/// limited by qualifiers. Parentheses make no node.
+/// A pattern (STIX 2.1, sections 9.3 to 9.5): leaves, joined by observation operators and limited
+/// by qualifiers. Parentheses have no node.
 #[derive(Debug, Drop)]
 pub enum Pattern {
-    /// `[ .. ]`: one observation meets the comparison.
+    /// `[ .. ]`: one observation meets the comparison expression.
     Leaf(Leaf),
     /// `AND` between observations: both sides match, by different observations.
     Both(Box<Pattern>, Box<Pattern>),
-    /// `OR` between observations: one of the sides matches.
+    /// `OR` between observations: at least one side matches.
     Either(Box<Pattern>, Box<Pattern>),
-    /// `FOLLOWEDBY`: both sides match, the second one no earlier than the first.
+    /// `FOLLOWEDBY`: both sides match, and the second no earlier than the first.
     Then(Box<Pattern>, Box<Pattern>),
-    /// `WITHIN x SECONDS`: the observations lie less than so many seconds apart.
+    /// `WITHIN x SECONDS`: the observations are less than `x` seconds apart.
     Within(Box<Pattern>, u32),
-    /// `START .. STOP ..`: the observations are of this span of time, its end left out.
+    /// `START .. STOP ..`: the observations are in this time span, which excludes its end.
     Between(Box<Pattern>, Instant, Instant),
-    /// `REPEATS n TIMES`: the pattern matches so many times, by different observations.
+    /// `REPEATS n TIMES`: the pattern matches `n` times, by different observations.
     Repeats(Box<Pattern>, u32),
 }

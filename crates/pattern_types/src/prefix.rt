@@ -1,4 +1,4 @@
-//! The leading bits that a block's addresses share, in either family.
+//! The network prefix of a block, in either family.
 ghost use Rattle.std.specs.Prelude.{◌^◌, ◌<◌, ◌≤◌, ◌↔◌, IsTrue};
 ghost use Rattle.pattern_types.specs.Block.{IsNarrower};
 
@@ -12,7 +12,7 @@ pub(crate) struct Prefix {
 }
 
 impl Prefix {
-    /// Whether each number of `width` bits that begins with this prefix begins with the other one.
+    /// Whether each number of `width` bits with this prefix has the outer prefix.
     pub(crate) fn is_narrower(self, outer: Prefix, width: u8) -> bool
         requires width { width ≤ 128 }
         requires net { self.net < 2 ^ width }

@@ -1,9 +1,9 @@
-//! The number of leading bits, from its text.
+//! Parses the prefix length of a block.
 ghost use Rattle.std.specs.Prelude.{◌≡◌, ℕ, ◌≤◌, ◌↔◌, IfSome, IsTrue};
 ghost use Rattle.pattern_types.specs.PrefixLength.{BeginsAsDecimal, IsDecimalAtMost, IsPrefixLength};
 
-/// The number of leading bits that the text gives, or all bits where there is no text. None where the
-/// text is no number of at most `width`.
+/// The prefix length, or all bits without a text. `None` if the text isn't a number of at most
+/// `width`.
 pub(crate) fn read_length(text: Option<&str>, width: u8) -> Option<u8>
     ensures exact { (bits : ℕ) → (result ≡ Some bits) ↔ IsPrefixLength width text.entry bits }
     ensures valid { IfSome result (λ bits. bits ≤ width) }
@@ -14,7 +14,7 @@ pub(crate) fn read_length(text: Option<&str>, width: u8) -> Option<u8>
     }
 }
 
-/// The number in decimal, if it is at most `most` and has no sign and no leading zero.
+/// The decimal number, if it is at most `most` and has no sign and no leading zero.
 fn read_decimal(digits: &str, most: u8) -> Option<u8>
     ensures exact { (number : ℕ) → (result ≡ Some number) ↔ IsDecimalAtMost most digits.now number }
     ensures valid { IfSome result (λ number. number ≤ most) }
@@ -28,7 +28,7 @@ fn read_decimal(digits: &str, most: u8) -> Option<u8>
     if number <= most { Some(number) } else { None }
 }
 
-/// Whether the text has a first byte that is no sign, and no zero before others.
+/// Whether the text begins with a digit, and has no leading zero before other bytes.
 fn begins_as_decimal(digits: &[u8]) -> bool
     ensures { IsTrue result ↔ BeginsAsDecimal digits.now }
 {

@@ -1,4 +1,4 @@
-//! A block from its text.
+//! Parses a block.
 ghost use Rattle.std.specs.Prelude.{◌≡◌, ℕ, ◌≤◌, ◌↔◌, IfSome};
 ghost use Rattle.std.specs.Net.Addr.{ipv4_bits, ipv6_bits};
 ghost use Rattle.pattern_types.specs.Block.{IsValid, masked};
@@ -10,9 +10,9 @@ use crate::leading_bits::zeroed;
 use crate::prefix_length::read_length;
 use std::net::{IpAddr, Ipv4Addr, Ipv6Addr};
 
-/// The block that the text spells: an IPv4 or IPv6 address, or an address, `/` and a number of leading
-/// bits in decimal without leading zeros. All bits lead where no number is given, and the other bits
-/// are set to zero. None where the text is no such text.
+/// Parses a block: an IPv4 or IPv6 address, optionally with `/` and a prefix length in decimal
+/// without leading zeros. Without a prefix length, the block is the one address. Host bits are set
+/// to zero. `None` for any other text.
 pub fn read_block(text: &str) -> Option<Block>
     ensures exact { (block : Block) → (result ≡ Some block) ↔ IsBlockText text.now block }
     ensures valid { IfSome result IsValid }
@@ -24,7 +24,7 @@ pub fn read_block(text: &str) -> Option<Block>
     }
 }
 
-/// What stands before the first `/`, and what stands behind it, if there is one.
+/// Splits a text at the first `/`, if any.
 fn cut_at_slash(text: &str) -> (&str, Option<&str>)
     ensures { CutsAtSlash text.now result.0.now result.1 }
 {
@@ -34,7 +34,7 @@ fn cut_at_slash(text: &str) -> (&str, Option<&str>)
     }
 }
 
-/// The block of an address and a number of leading bits.
+/// The block of an IPv4 address and a prefix length.
 fn v4_block(address: Ipv4Addr, bits: u8) -> Block
     requires { bits ≤ 32 }
     ensures { result ≡ Block.V4 (masked 32 bits (ipv4_bits address)) bits }
@@ -43,7 +43,7 @@ fn v4_block(address: Ipv4Addr, bits: u8) -> Block
     Block::V4 { net, bits }
 }
 
-/// The same in IPv6.
+/// The block of an IPv6 address and a prefix length.
 fn v6_block(address: Ipv6Addr, bits: u8) -> Block
     requires { bits ≤ 128 }
     ensures { result ≡ Block.V6 (masked 128 bits (ipv6_bits address)) bits }

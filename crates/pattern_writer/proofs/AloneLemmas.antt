@@ -1,5 +1,5 @@
 -- Tokens that end by themselves: brackets, dots and colons, words in quotes, and what stands in quotes
--- behind a letter.
+-- after a letter.
 use Rattle.std.proofs.Common.{◌≡◌, ◌≢◌, ◌⊎◌, inl, inr, ℕ, suc, ◌≤◌, Bool, true, not, ◌&&◌, ◌||◌, ◌==◌, List, [], ◌∷◌, ◌++◌, length, get_or, refl, sym, ◌∙◌, subst, arith, append_assoc}
 use Rattle.std.specs.Prelude.{All, nat_le, flat_map}
 use Rattle.std.specs.Str.Parse.{IsNumeral, AllDigits}
@@ -17,7 +17,7 @@ abbrev pub IsAlone : ℕ → Type 0
 IsAlone b = (b ≡ 40) ⊎ ((b ≡ 46) ⊎ ((b ≡ 58) ⊎ (b ≡ 91)))
 
 -- how a token begins, as far as it tells tokens apart: with no quote as its first or second byte, with
--- one as its first, or with one behind a letter
+-- one as its first, or with one after a letter
 pub data Opens : List ℕ → Type 0 where
   nothing : Opens []
   mark : (b : ℕ) → b ≢ 39 → Opens (b ∷ [])

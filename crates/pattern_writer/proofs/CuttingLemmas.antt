@@ -16,7 +16,7 @@ tokens_at at [] = []
 tokens_at at (space ∷ ps) = tokens_at (at + 1) ps
 tokens_at at (piece kind text ∷ ps) = record { kind = kind; from = at; to = at + length text } ∷ tokens_at (at + length text) ps
 
--- tokens, and blanks behind them
+-- tokens, and blanks after them
 pub record Cut (at : ℕ) (left : List ℕ) (ts : List Token) : Type 0 where
   pub rest : List ℕ
   pub stand : AreTokens at left ts rest

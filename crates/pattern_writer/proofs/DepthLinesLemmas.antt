@@ -98,7 +98,7 @@ pub put_need : (least : ℕ) (fs : PlainLeaves) (f : PlainLeaf) → parts_need l
 put_need least none f = omega arith
 put_need least (more g fs) f = let e = put_need least fs f in omega (arith, e)
 
--- the tokens open at least so many parentheses at once, and have so many qualifiers
+-- the tokens open at least this many parentheses at once, and have this many qualifiers
 pub record Deep (ts : List Token) (q least : ℕ) : Type 0 where
   pub n : ℕ
   pub measured : Measured ts n q

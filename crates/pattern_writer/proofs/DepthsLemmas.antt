@@ -1,5 +1,5 @@
 -- How deep tokens nest: how many parentheses are open inside them at once, those of IN aside, and how many qualifiers
--- there are. So many of the 64 are needed, and no more.
+-- there are. This many of the 64 are needed, and no more.
 use Rattle.std.proofs.Common.{◌≡◌, ℕ, ◌+◌, ◌<◌, ◌≤◌, ◌⊎◌, inl, inr, Bool, true, false, not, ◌||◌, ◌&&◌, List, [], ◌∷◌, ◌++◌, rules, refl, sym, ap, subst, ◌∙◌, arith, append_assoc, append-nil, max}
 use Rattle.std.proofs.lemmas.Bool.{false≢true, not-true, and_parts, cases_lt, cases_Bool}
 use Rattle.std.proofs.lemmas.List.{same_from_push}
@@ -29,7 +29,7 @@ many_last class ts t b e = sum_by_push (λ u. cond (is_in class u.kind) 1 0) ts 
 many_joined : (class : TokenClass) (xs ys : List Token) → how_many class (xs ++ ys) ≡ how_many class xs + how_many class ys
 many_joined class xs ys = sum_by-append (λ u. cond (is_in class u.kind) 1 0) xs ys
 
--- none of the tokens opens a parenthesis too many behind those
+-- none of the tokens opens a parenthesis too many after those
 abbrev pub NoneDeep : List Token → List Token → Type 0
 NoneDeep before [] = Unit {0}
 NoneDeep before (t ∷ ts) = (¬ IsDeepOpen before t) × NoneDeep (before ++ t ∷ []) ts
@@ -64,7 +64,7 @@ none_join ts deep few before token after e (inr d) =
     let h : how_many Qualifying (before ++ token ∷ after) ≤ 64 = subst (λ z. how_many Qualifying z ≤ 64) e few in
     absurd (omega (arith, h, d.deep, many_joined Qualifying before (token ∷ after), many_first Qualifying token after true d.qualifies))
 
--- so many parentheses are open behind the tokens
+-- this many parentheses are open after the tokens
 abbrev Opened : List Token → ℕ → Type 0
 Opened before x = how_many (Only kind.RoundOpen) before ≡ x + how_many (Only kind.RoundClose) before
 
@@ -72,7 +72,7 @@ pub record Behind (before : List Token) (x : ℕ) : Type 0 where
   pub opened : Opened before x
   pub apart : ¬ EndsWithIn before
 
--- the tokens open so many parentheses at once, and have so many qualifiers
+-- the tokens open this many parentheses at once, and have this many qualifiers
 pub record Measured (ts : List Token) (n q : ℕ) : Type 0 where
   pub keeps : (before : List Token) (x : ℕ) → Behind before x → Behind (before ++ ts) x
   pub needs : (before : List Token) (x : ℕ) → Behind before x → x ≤ 64 → NoneDeep before ts → x + n ≤ 64

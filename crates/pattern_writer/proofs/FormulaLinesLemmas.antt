@@ -27,7 +27,7 @@ IsBound zero = IsCor
 IsBound (suc zero) = IsCand
 IsBound (suc (suc n)) = IsTest
 
--- and opens so many parentheses at once
+-- and opens this many parentheses at once
 abbrev pub IsDeep : {T : Type 0} → (List Token → T → Type 0) → ℕ → List Token → T → Type 0
 IsDeep IsLine n ts x = IsLine ts x × Measured ts n 0
 

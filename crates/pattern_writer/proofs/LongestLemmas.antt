@@ -11,7 +11,7 @@ use Rattle.pattern_lexer.specs.Word.{IsWordPart, IsHyphenWordPart}
 use Rattle.pattern_lexer.specs.Values.{IsNumberText, IsPrefixedText, string_text}
 use Rattle.pattern_lexer.specs.Table.{IsToken}
 
--- a byte that goes on no token but one in quotes
+-- a byte that extends no token but one in quotes
 pub record IsStop (c : ℕ) : Type 0 where
   pub part : ¬ IsHyphenWordPart c
   pub quote : c ≢ 39
@@ -54,7 +54,7 @@ continues_at : (xs : List ℕ) (c : ℕ) (r : List ℕ) → all_continue (xs ++ 
 continues_at [] c r e = (and_parts (continues c) (all_continue r) e).0
 continues_at (x ∷ xs) c r e = continues_at xs c r (and_parts (continues x) (all_continue (xs ++ c ∷ r)) e).1
 
--- no text of the table's marks and keywords has a stop behind its first byte
+-- no text of the table's marks and keywords has a stop after its first byte
 not_literal : (literal : List ℕ) → all_continue (behind literal) ≡ true → (text : List ℕ) (c : ℕ) (r : List ℕ) → 0 < length text → IsStop c → text ++ c ∷ r ≡ literal → ⊥
 not_literal literal e [] c r some stop h = absurd (omega arith)
 not_literal literal e (x ∷ text) c r some stop h = case (continues_is c (continues_at text c r (ap (λ (y : List ℕ). all_continue (behind y)) h ∙ e)))
@@ -112,7 +112,7 @@ not_words : (text : List ℕ) (c : ℕ) (r words : List ℕ) → 0 < length text
 not_words [] c r words some plain h = absurd (omega arith)
 not_words (x ∷ text) c r words some plain h = plain 0 0 (omega arith) (cc)
 
--- no token has a stop behind a text without quotes
+-- no token has a stop after a text without quotes
 no_token : (kind : TokenKind) (text : List ℕ) (c : ℕ) (r : List ℕ) → 0 < length text → All (λ b. b ≢ 39) text → IsStop c → ¬ IsToken kind (text ++ c ∷ r)
 no_token Word text c r some plain stop h = stop.part (inl (subst IsWordPart (at_length text c 0 r) (h.parts (length text) 0 (longer_by_one text c r))))
 no_token HyphenWord text c r some plain stop h = stop.part (subst IsHyphenWordPart (at_length text c 0 r) (h.parts (length text) 0 (longer_by_one text c r)))
@@ -123,7 +123,7 @@ no_token Binary text c r some plain stop h = not_lettered 98 text c r h.0 some p
 no_token Timestamp text c r some plain stop h = not_lettered 116 text c r h.0 some plain stop h.1
 no_token _ text c r some plain stop h = not_literal _ refl text c r some stop h
 
--- a longer front of one list goes on with what follows the shorter
+-- a longer front of one list continues with what follows the shorter
 pub data Longer (text after : List ℕ) : List ℕ → Type 0 where
   longer : (c : ℕ) (r more : List ℕ) → after ≡ c ∷ r ++ more → Longer text after (text ++ c ∷ r)
 

@@ -42,7 +42,7 @@ IsLevel (suc zero) = IsOrs
 IsLevel (suc (suc zero)) = IsAnds
 IsLevel (suc (suc (suc n))) = IsUnit
 
--- and opens so many parentheses at once, with so many qualifiers
+-- and opens this many parentheses at once, with this many qualifiers
 abbrev pub IsDeepLine : {T : Type 0} → (List Token → T → Type 0) → ℕ → ℕ → List Token → T → Type 0
 IsDeepLine IsLine n q ts x = IsLine ts x × Measured ts n q
 

@@ -1,4 +1,4 @@
--- A text as pieces, tokens and the spaces between them, and the tokens that stand for pieces.
+-- A text as pieces, tokens and the spaces between them, and the tokens that represent pieces.
 use Rattle.std.proofs.Common.{◌≡◌, ℕ, List, [], ◌∷◌, ◌++◌, refl, sym, ap, ◌∙◌, append_assoc}
 use Rattle.pattern_lexer.specs.declared.token.Token.{Token}
 use Rattle.pattern_lexer.specs.declared.token.TokenKind.{TokenKind}

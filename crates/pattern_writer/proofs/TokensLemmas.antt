@@ -161,7 +161,7 @@ words class w among = token class kind.String Anything (string_text w) among (λ
   ascii = omega arith;
 })
 
--- what stands in quotes behind a letter
+-- what stands in quotes after a letter
 pub lettered : (class : TokenClass) (k : TokenKind) (l : ℕ) (inside : List ℕ) → is_in class k ≡ true → IsToken k (quoted (l ∷ []) inside) → HasValue k (quoted (l ∷ []) inside) → IsFree k → 77 < l → l < 128 → All (λ c. c ≢ 39) inside
     → Written (IsOne class) (λ (whole : List ℕ) (t : Token). Stands whole t k (quoted (l ∷ []) inside)) Anything (quoted (l ∷ []) inside)
 lettered class k l inside among is value free low high u = token class k Anything (quoted (l ∷ []) inside) among (λ after h. record {

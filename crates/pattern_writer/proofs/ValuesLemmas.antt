@@ -28,7 +28,7 @@ use Rattle.pattern_writer.proofs.NumeralsLemmas.{whole_text, whole_shape}
 use Rattle.pattern_writer.proofs.TimesLemmas.{unquoted_time}
 use Rattle.pattern_writer.proofs.FitLemmas.{FitConstant, kind_of}
 
--- a token that stands for a value, by its text
+-- a token that represents a value, by its text
 pub at : {V : Type 0} (IsTextOf : List ℕ → V → Type 0) (whole : List ℕ) (t : Token) (k : TokenKind) (text : List ℕ) (value : V) → Stands whole t k text → IsTextOf text value → At IsTextOf whole t value
 at IsTextOf whole t k text value s h = record { cut = s.cut; is = subst (λ (x : List ℕ). IsTextOf x value) (sym s.text) h }
 

@@ -9,7 +9,7 @@ use Rattle.pattern_grammar.specs.declared.class.TokenClass.{TokenClass}
 use Rattle.pattern_grammar.specs.TokenClass.{is_in, IsA}
 use Rattle.pattern_writer.proofs.PiecesLemmas.{Piece, space, piece, printed, printed-append, Stands, Match, Split, split, split_tokens}
 
--- the token is cut so before what follows, and stands for something
+-- the token is cut so before what follows, and has a value
 pub record Fits (kind : TokenKind) (text after : List ℕ) : Type 0 where
   pub first : IsFirst (text ++ after) kind text after
   pub usable : IsUsable kind text after

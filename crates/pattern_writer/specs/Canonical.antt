@@ -6,15 +6,15 @@ use Rattle.pattern_writer.specs.Parts.{IsBetween, AreSides, IsWithin}
 use Rattle.pattern_writer.specs.Leaf.{IsFormulaText}
 use Rattle.pattern_writer.specs.Limit.{IsLimitText}
 
--- how tightly it binds: a leaf or a qualified pattern, AND, OR, FOLLOWEDBY
+-- the precedence: a leaf or a qualified pattern, AND, OR, FOLLOWEDBY
 abbrev pub level : PlainPattern → ℕ
 level (a_both left right) = 2
 level (an_either left right) = 1
 level (a_then left right) = 0
 level _ = 3
 
--- operators go from the left: the left side may bind as they do, the right side binds more tightly; a
--- qualifier follows what binds most
+-- operators associate to the left: the left side may have their precedence, the right side must
+-- bind tighter; a qualifier follows an operand of the highest precedence
 abbrev pub IsCanonical : PlainPattern → List ℕ → Type 0
 IsCanonical (a_leaf plain_leaf) text = IsBetween (codes "[") (codes "]") (IsFormulaText plain_leaf) text
 IsCanonical (a_both left right) text = AreSides (IsWithin 2 (level left) (IsCanonical left)) (codes " AND ") (IsWithin 3 (level right) (IsCanonical right)) text

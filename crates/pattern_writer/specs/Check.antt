@@ -1,5 +1,5 @@
--- How one comparison is written (STIX 2.1, section 9.6): a path, NOT where it is negated, an operator and
--- what it compares with.
+-- The text of one comparison (STIX 2.1, section 9.6): a path, NOT if it is negated, an operator and
+-- its operand.
 use Rattle.std.specs.Prelude.{ℕ, Bool, if◌then◌else◌, List, [], ◌++◌, codes}
 use Rattle.pattern_lexer.specs.Values.{IsStringText}
 use Rattle.pattern_types.specs.declared.path.Path.{Path}
@@ -11,7 +11,7 @@ use Rattle.pattern_writer.specs.Parts.{IsAfter, IsBetween, AreSides, AreJoined}
 use Rattle.pattern_writer.specs.Path.{IsPathText}
 use Rattle.pattern_writer.specs.Constant.{IsConstantText}
 
--- NOT and a space, where the test is negated
+-- NOT and a space, if the test is negated
 abbrev pub not_text : Bool → List ℕ
 not_text negated = if negated then codes "NOT " else []
 
@@ -19,7 +19,7 @@ not_text negated = if negated then codes "NOT " else []
 abbrev pub operator_text : Bool → List ℕ → List ℕ
 operator_text negated operator = codes " " ++ not_text negated ++ operator ++ codes " "
 
--- a path, an operator, and what follows it
+-- a path, an operator, and the text after it
 abbrev pub IsAsked : Path → Bool → List ℕ → (List ℕ → Type 0) → List ℕ → Type 0
 IsAsked path negated operator IsText = AreSides (IsPathText path) (operator_text negated operator) IsText
 
@@ -27,7 +27,7 @@ IsAsked path negated operator IsText = AreSides (IsPathText path) (operator_text
 abbrev pub AreAmong : List Constant → List ℕ → Type 0
 AreAmong values = IsBetween (codes "(") (codes ")") (AreJoined (codes ", ") IsConstantText values)
 
--- words in quotes
+-- a string literal
 abbrev pub AreWords : List ℕ → List ℕ → Type 0
 AreWords words text = IsStringText text words
 

@@ -1,4 +1,4 @@
--- How constants are written (STIX 2.1, section 9.2): one text for each.
+-- The canonical text of constants (STIX 2.1, section 9.2).
 use Rattle.std.specs.Prelude.{◌≡◌, ℕ, ℤ, if◌then◌else◌, List, codes}
 use Rattle.std.specs.Fmt.{signed_decimal}
 use Rattle.hex.specs.Hex.{encode_lower}
@@ -9,11 +9,11 @@ use Rattle.pattern_lexer.specs.Values.{quoted, IsStringText}
 use Rattle.pattern_types.specs.declared.constant.Constant.{Constant}
 use Rattle.pattern_types.specs.declared.constant.Constant.TheVariants.{Integer, String, Boolean, Hex, Binary, Timestamp}
 
--- t'..', with no more digits of a second than the instant needs
+-- t'..', with the fewest fraction digits
 abbrev pub IsTimeText : ℤ → List ℕ → Type 0
 IsTimeText instant text = (time : List ℕ) × IsCanonicalTextOf time instant × (text ≡ quoted (codes "t") time)
 
--- a number has no `+`, words have a backslash before `'` and `\` alone, bytes have lower case digits
+-- a number has no `+`, a string escapes only `'` and `\`, bytes are lower-case hexadecimal digits
 -- or padded base64
 abbrev pub IsConstantText : Constant → List ℕ → Type 0
 IsConstantText (Integer whole) text = text ≡ signed_decimal whole

@@ -1,28 +1,28 @@
--- How what stands in the brackets of a pattern is written (STIX 2.1, section 9.6).
+-- The text of the comparison expression in the brackets of a pattern (STIX 2.1, section 9.6).
 use Rattle.std.specs.Prelude.{◌≡◌, ℕ, List, [], ◌∷◌, codes}
 use Rattle.pattern_types.specs.PlainLeaf.{PlainLeaf, one, every, some, PlainLeaves, none, more}
 use Rattle.pattern_writer.specs.Parts.{joined, IsWithin}
 use Rattle.pattern_writer.specs.Check.{IsTestText}
 
--- how tightly it binds: a test, AND, OR
+-- the precedence: a test, AND, OR
 abbrev pub binds : PlainLeaf → ℕ
 binds (one test) = 2
 binds (every parts) = 1
 binds (some parts) = 0
 
 abbrev mutual
-  -- the parts of AND are tests, those of OR tests or AND, and others stand in parentheses
+  -- the operands of AND are tests, those of OR tests or AND, and others are in parentheses
   pub IsFormulaText : PlainLeaf → List ℕ → Type 0
   IsFormulaText (one test) text = IsTestText test text
   IsFormulaText (every parts) text = (texts : List (List ℕ)) × AreTextsOf parts 2 texts × (text ≡ joined (codes " AND ") texts)
   IsFormulaText (some parts) text = (texts : List (List ℕ)) × AreTextsOf parts 1 texts × (text ≡ joined (codes " OR ") texts)
 
-  -- a text of each part, that binds no less than this
+  -- a text of each operand, of at least this precedence
   pub AreTextsOf : PlainLeaves → ℕ → List (List ℕ) → Type 0
   AreTextsOf none least [] = Unit {0}
   AreTextsOf (more part parts) least (text ∷ texts) = IsWithin least (binds part) (IsFormulaText part) text × AreTextsOf parts least texts
   AreTextsOf _ least _ = ⊥
 
--- the parts, with this between each two
+-- the operands, with a separator between them
 abbrev pub AreParts : ℕ → List ℕ → PlainLeaves → List ℕ → Type 0
 AreParts least between parts text = (texts : List (List ℕ)) × AreTextsOf parts least texts × (text ≡ joined between texts)

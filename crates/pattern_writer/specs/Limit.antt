@@ -1,4 +1,4 @@
--- How qualifiers are written (STIX 2.1, section 9.4).
+-- The text of qualifiers (STIX 2.1, section 9.4).
 use Rattle.std.specs.Prelude.{◌≡◌, ℕ, List, ◌++◌, codes, decimal}
 use Rattle.pattern_types.specs.declared.limit.Limit.{Limit}
 use Rattle.pattern_types.specs.declared.limit.Limit.TheVariants.{Within, Repeats, Between}

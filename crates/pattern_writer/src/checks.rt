@@ -11,14 +11,14 @@ use flow_values::{NoMemory, Text};
 use pattern_types::{Check, Constant, Test};
 use std::alloc::Global;
 
-/// `NOT ` where a test is negated.
+/// `NOT ` for a negated test, else nothing.
 fn not_word(negated: bool) -> &'static str
     ensures { result.now ≡ not_text negated }
 {
     if negated { "NOT " } else { "" }
 }
 
-/// Writes NOT, where a test is negated, and its operator.
+/// Writes an operator, with NOT before it for a negated test.
 fn write_operator(negated: bool, operator: &str, out: &mut Text) -> Result<(), NoMemory>
     ensures { OnOk result (out.new ≡ out.old ++ operator_text negated operator.now) }
 {
@@ -36,39 +36,47 @@ fn write_comparison(
     value: &Constant,
     out: &mut Text,
 ) -> Result<(), NoMemory>
-    ensures { OnOk result (Adds (IsAsked test.now.path test.now.negated operator.now (IsConstantText value.now)) out.old out.new) }
+    ensures { OnOk result (Adds
+        (IsAsked test.now.path test.now.negated operator.now (IsConstantText value.now)) out.old
+        out.new) }
 {
     write_path(&test.path, out)?;
     write_operator(test.negated, operator, out)?;
     write_constant(alloc, value, out)
 }
 
-/// Writes a comparison with each constant of a list.
+/// Writes `IN` with the constants of a list.
 fn write_among(
     alloc: Global,
     test: &Test,
     values: &[Constant],
     out: &mut Text,
 ) -> Result<(), NoMemory>
-    ensures { OnOk result (Adds (IsAsked test.now.path test.now.negated (codes "IN") (AreAmong values.now)) out.old out.new) }
+    ensures { OnOk result (Adds
+        (IsAsked test.now.path test.now.negated (codes "IN") (AreAmong values.now)) out.old
+        out.new) }
 {
     write_path(&test.path, out)?;
     write_operator(test.negated, "IN", out)?;
     write_list(alloc, values, out)
 }
 
-/// Writes a comparison with words.
+/// Writes a comparison with a string.
 fn write_textual(test: &Test, operator: &str, words: &str, out: &mut Text) -> Result<(), NoMemory>
-    ensures { OnOk result (Adds (IsAsked test.now.path test.now.negated operator.now (AreWords words.now)) out.old out.new) }
+    ensures { OnOk result (Adds
+        (IsAsked test.now.path test.now.negated operator.now (AreWords words.now)) out.old
+        out.new) }
 {
     write_path(&test.path, out)?;
     write_operator(test.negated, operator, out)?;
     write_words(words, out)
 }
 
-/// Writes EXISTS, and NOT before it where the test is negated.
+/// Writes EXISTS, with NOT before it for a negated test.
 fn write_existence(test: &Test, out: &mut Text) -> Result<(), NoMemory>
-    ensures { OnOk result (Adds (IsAfter (not_text test.now.negated ++ codes "EXISTS ") (IsPathText test.now.path)) out.old out.new) }
+    ensures { OnOk result (Adds
+        (IsAfter (not_text test.now.negated ++ codes "EXISTS ") (IsPathText test.now.path)) out.old
+        out.new) }
 {
     out.push(not_word(test.negated))?;
     out.push("EXISTS ")?;

@@ -15,7 +15,7 @@ use pattern_types::Constant;
 use std::alloc::Global;
 use stix_times::Instant;
 
-/// Writes what stands between `'` and `'`, behind a letter.
+/// Writes a quoted literal with an optional prefix letter.
 fn write_quoted(letter: &str, inside: &str, out: &mut Text) -> Result<(), NoMemory>
     ensures { OnOk result (out.new ≡ out.old ++ quoted letter.now inside.now) }
 {
@@ -25,7 +25,7 @@ fn write_quoted(letter: &str, inside: &str, out: &mut Text) -> Result<(), NoMemo
     out.push("'")
 }
 
-/// Writes a time.
+/// Writes a timestamp literal.
 pub(crate) fn write_time(instant: Instant, out: &mut Text) -> Result<(), NoMemory>
     ensures { OnOk result (Adds (IsTimeText instant) out.old out.new) }
 {
@@ -78,7 +78,8 @@ pub(crate) fn write_constant(
 
 /// Writes constants with commas between them.
 fn write_constants(alloc: Global, constants: &[Constant], out: &mut Text) -> Result<(), NoMemory>
-    ensures { OnOk result (Adds (AreJoined (codes ", ") IsConstantText constants.now) out.old out.new) }
+    ensures { OnOk result (Adds (AreJoined (codes ", ") IsConstantText constants.now) out.old
+        out.new) }
 {
     for (index, constant) in constants.iter().enumerate() {
         write_between(index, ", ", out)?;

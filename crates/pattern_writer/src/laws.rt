@@ -1,4 +1,4 @@
-//! What follows from the definitions: the contract is the law, and the function does nothing.
+//! Consequences of the definitions: each contract is a theorem, and its function does nothing.
 
 ghost use Rattle.std.specs.Prelude.{◌≡◌, ◌<◌, ◌≤◌, ℕ, List, length};
 ghost use Rattle.pattern_types.specs.PlainPattern.{PlainPattern, plain_pattern};
@@ -19,11 +19,12 @@ pub fn one_text()
     one_canonical_text();
 }
 
-/// The canonical text of a pattern that some text is read as is read as that pattern; one of more than
-/// 65,536 bytes is refused as TooLong, and as nothing else.
+/// If some text is read as a pattern, so is the pattern's canonical text, with the same result. A
+/// canonical text of more than 65,536 bytes is refused as TooLong.
 pub fn reads_back()
     ensures back { (pattern : Pattern) (text canonical : List ℕ) → IsReadAs text pattern
-        → IsCanonical (plain_pattern pattern) canonical → length canonical ≤ MAX_TEXT → IsReadAs canonical pattern }
+        → IsCanonical (plain_pattern pattern) canonical → length canonical ≤ MAX_TEXT
+        → IsReadAs canonical pattern }
     ensures long { (canonical : List ℕ) (refusal : PatternRefusal) → MAX_TEXT < length canonical
         → IsRefusedAs canonical refusal → refusal ≡ PatternRefusal.TooLong }
 {}

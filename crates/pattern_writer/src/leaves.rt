@@ -9,7 +9,7 @@ use flow_values::{NoMemory, Text};
 use pattern_types::Leaf;
 use std::alloc::Global;
 
-/// How tightly what is written for a leaf binds. Takes no memory.
+/// The precedence of the text of a leaf. Higher binds tighter. Allocates nothing.
 fn precedence(leaf: &Leaf) -> u8
     ensures { result ≡ binds (plain_leaf leaf.now) }
 {
@@ -20,10 +20,12 @@ fn precedence(leaf: &Leaf) -> u8
     }
 }
 
-/// Writes a leaf, in parentheses where it binds less tightly.
+/// Writes a leaf, in parentheses if its precedence is below `least`.
 #[cycle(leaves)]
 fn write_part(alloc: Global, least: u8, leaf: &Leaf, out: &mut Text) -> Result<(), NoMemory>
-    ensures { OnOk result (Adds (IsWithin least (binds (plain_leaf leaf.now)) (IsFormulaText (plain_leaf leaf.now))) out.old out.new) }
+    ensures { OnOk result (Adds
+        (IsWithin least (binds (plain_leaf leaf.now)) (IsFormulaText (plain_leaf leaf.now))) out.old
+        out.new) }
 {
     if least <= precedence(leaf) {
         return write_leaf(alloc, leaf, out);
@@ -33,7 +35,7 @@ fn write_part(alloc: Global, least: u8, leaf: &Leaf, out: &mut Text) -> Result<(
     out.push(")")
 }
 
-/// Writes parts with a word between them.
+/// Writes leaves with a separator between them.
 #[cycle(leaves)]
 fn write_parts(
     alloc: Global,
@@ -51,7 +53,7 @@ fn write_parts(
     Ok(())
 }
 
-/// Writes what stands in the brackets of a pattern.
+/// Writes the comparison expression in the brackets of a pattern.
 #[cycle(leaves)]
 pub(crate) fn write_leaf(alloc: Global, leaf: &Leaf, out: &mut Text) -> Result<(), NoMemory>
     ensures { OnOk result (Adds (IsFormulaText (plain_leaf leaf.now)) out.old out.new) }

@@ -1,5 +1,12 @@
-//! The canonical text of a pattern (STIX 2.1, section 9): `write_pattern` gives the one text that says
-//! what the pattern means with one space between words and no parentheses that it can do without.
+//! Writes STIX 2.1 patterns (section 9). `write_pattern` returns the one canonical text of a
+//! pattern: single spaces between words, and only the parentheses that precedence requires. Reading
+//! the text gives back the pattern (`laws`).
+//!
+//! ```ignore
+//! let pattern = read_pattern(alloc, "[ (file:size=25) ]")?;
+//! let text = write_pattern(alloc, &pattern)?;
+//! assert_eq!(text.as_str(), "[file:size = 25]");
+//! ```
 #![tactic(auto)]
 
 mod checks;

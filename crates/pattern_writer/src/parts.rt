@@ -2,7 +2,7 @@ ghost use Rattle.std.specs.Prelude.{◌≡◌, ◌++◌, ◌==◌, OnOk, [], if�
 
 use flow_values::{NoMemory, Text};
 
-/// Writes what stands between a part and the one before it.
+/// Writes the separator before each part but the first.
 pub(crate) fn write_between(index: usize, between: &str, out: &mut Text) -> Result<(), NoMemory>
     ensures { OnOk result (out.new ≡ out.old ++ (if index == 0 then [] else between.now)) }
 {

@@ -7,14 +7,14 @@ use flow_values::{NoMemory, Text};
 use pattern_lexer::is_word;
 use pattern_types::{Path, Step};
 
-/// Whether the name needs no quotes. Takes no memory.
+/// Whether the name needs no quotes. Allocates nothing.
 fn is_bare(name: &str) -> bool
     ensures { IsTrue result ↔ IsBare name.now }
 {
     is_word(name) && name != "MATCHES"
 }
 
-/// Writes a name, in quotes where it needs them.
+/// Writes a name, in quotes if it needs them.
 fn write_name(name: &str, out: &mut Text) -> Result<(), NoMemory>
     ensures { OnOk result (Adds (IsNameText name.now) out.old out.new) }
 {
@@ -24,7 +24,7 @@ fn write_name(name: &str, out: &mut Text) -> Result<(), NoMemory>
     write_words(name, out)
 }
 
-/// Writes a step in brackets.
+/// Writes a list index in brackets.
 fn write_place(place: u32, out: &mut Text) -> Result<(), NoMemory>
     ensures { OnOk result (Adds (IsStepText (Step.Place place)) out.old out.new) }
 {
@@ -33,7 +33,7 @@ fn write_place(place: u32, out: &mut Text) -> Result<(), NoMemory>
     out.push("]")
 }
 
-/// Writes a step that follows another.
+/// Writes a step after another one.
 fn write_step(step: &Step, out: &mut Text) -> Result<(), NoMemory>
     ensures { OnOk result (Adds (IsStepText step.now) out.old out.new) }
 {
@@ -47,7 +47,7 @@ fn write_step(step: &Step, out: &mut Text) -> Result<(), NoMemory>
     }
 }
 
-/// Writes the step behind the colon.
+/// Writes the first step, after the colon.
 fn write_first(step: &Step, out: &mut Text) -> Result<(), NoMemory>
     ensures { OnOk result (Adds (IsFirstText step.now) out.old out.new) }
 {

@@ -1,3 +1,7 @@
+//! A precedence-based printer: an operand is written in parentheses exactly if its precedence is
+//! below the one that its position requires. So the text has no unneeded parentheses, and it parses
+//! back to the same tree.
+
 ghost use Rattle.std.specs.Prelude.{◌≡◌, ◌+◌, ◌<◌, OnOk, IfOk, codes};
 ghost use Rattle.pattern_types.specs.PlainPattern.{plain_pattern};
 ghost use Rattle.pattern_writer.specs.Parts.{AreSides, IsBetween, IsWithin, Adds};
@@ -11,7 +15,7 @@ use flow_values::{NoMemory, Text};
 use pattern_types::{Leaf, Pattern};
 use std::alloc::Global;
 
-/// How tightly what is written for a pattern binds. Takes no memory.
+/// The precedence of the text of a pattern. Higher binds tighter. Allocates nothing.
 fn precedence(pattern: &Pattern) -> u8
     ensures { result ≡ level (plain_pattern pattern.now) }
 {
@@ -28,17 +32,20 @@ fn precedence(pattern: &Pattern) -> u8
 
 /// Writes a leaf in its brackets.
 fn write_brackets(alloc: Global, leaf: &Leaf, out: &mut Text) -> Result<(), NoMemory>
-    ensures { OnOk result (Adds (IsBetween (codes "[") (codes "]") (IsFormulaText (plain_leaf leaf.now))) out.old out.new) }
+    ensures { OnOk result (Adds
+        (IsBetween (codes "[") (codes "]") (IsFormulaText (plain_leaf leaf.now))) out.old out.new) }
 {
     out.push("[")?;
     write_leaf(alloc, leaf, out)?;
     out.push("]")
 }
 
-/// Writes a pattern, in parentheses where it binds less tightly.
+/// Writes a pattern, in parentheses if its precedence is below `least`.
 #[cycle(patterns)]
 fn write_part(alloc: Global, least: u8, pattern: &Pattern, out: &mut Text) -> Result<(), NoMemory>
-    ensures { OnOk result (Adds (IsWithin least (level (plain_pattern pattern.now)) (IsCanonical (plain_pattern pattern.now))) out.old out.new) }
+    ensures { OnOk result (Adds
+        (IsWithin least (level (plain_pattern pattern.now))
+        (IsCanonical (plain_pattern pattern.now))) out.old out.new) }
 {
     if least <= precedence(pattern) {
         return write(alloc, pattern, out);
@@ -48,7 +55,7 @@ fn write_part(alloc: Global, least: u8, pattern: &Pattern, out: &mut Text) -> Re
     out.push(")")
 }
 
-/// Writes two patterns with an operator between them, that binds so tightly.
+/// Writes two patterns with a left-associative operator of this precedence between them.
 #[cycle(patterns)]
 fn write_sides(
     alloc: Global,
@@ -59,7 +66,11 @@ fn write_sides(
     out: &mut Text,
 ) -> Result<(), NoMemory>
     requires { binds < 3 }
-    ensures { OnOk result (Adds (AreSides (IsWithin binds (level (plain_pattern left.now)) (IsCanonical (plain_pattern left.now))) operator.now (IsWithin (binds + 1) (level (plain_pattern right.now)) (IsCanonical (plain_pattern right.now)))) out.old out.new) }
+    ensures { OnOk result (Adds
+        (AreSides (IsWithin binds (level (plain_pattern left.now))
+        (IsCanonical (plain_pattern left.now))) operator.now
+        (IsWithin (binds + 1) (level (plain_pattern right.now))
+        (IsCanonical (plain_pattern right.now)))) out.old out.new) }
 {
     write_part(alloc, binds, left, out)?;
     out.push(operator)?;
@@ -94,7 +105,7 @@ fn write(alloc: Global, pattern: &Pattern, out: &mut Text) -> Result<(), NoMemor
     }
 }
 
-/// The canonical text of a pattern.
+/// The canonical text of a pattern. Linear in its length. `NoMemory` is the only error.
 pub fn write_pattern(alloc: Global, pattern: &Pattern) -> Result<Text, NoMemory>
     ensures { IfOk result (λ text. IsCanonical (plain_pattern pattern.now) text) }
 {

@@ -6,7 +6,7 @@ ghost use Rattle.pattern_writer.specs.Check.{AreWords};
 
 use flow_values::{NoMemory, Text};
 
-/// Writes a character, with a backslash before `'` and `\`.
+/// Writes a character of a string literal, and escapes `'` and `\`.
 fn write_character(character: char, out: &mut Text) -> Result<(), NoMemory>
     ensures { OnOk result (out.new ≡ out.old ++ flat_map escaped (encode_utf8 character)) }
 {
@@ -19,7 +19,7 @@ fn write_character(character: char, out: &mut Text) -> Result<(), NoMemory>
     out.push(character.encode_utf8(&mut [0; 4]))
 }
 
-/// Writes the characters of words.
+/// Writes the characters of a string literal.
 fn write_characters(words: &str, out: &mut Text) -> Result<(), NoMemory>
     ensures { OnOk result (out.new ≡ out.old ++ flat_map escaped words.now) }
 {
@@ -29,7 +29,7 @@ fn write_characters(words: &str, out: &mut Text) -> Result<(), NoMemory>
     Ok(())
 }
 
-/// Writes words in quotes.
+/// Writes a string literal.
 pub(crate) fn write_words(words: &str, out: &mut Text) -> Result<(), NoMemory>
     ensures { OnOk result (Adds (AreWords words.now) out.old out.new) }
 {

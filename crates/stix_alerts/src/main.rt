@@ -1,5 +1,5 @@
-//! The program `stix_alerts`: tells at which observations of a log at least n matches of one bracket lie within x seconds,
-//! each before the next line is read.
+//! The program `stix_alerts`: reports each observation of a log at which at least n matches of one
+//! observation expression lie within x seconds, before the next line is read.
 #![tactic(auto)]
 
 use command_alerts::run_alerts;

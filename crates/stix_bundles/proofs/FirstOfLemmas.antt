@@ -1,4 +1,4 @@
--- The first object of which a fact holds, where it can be told of each object whether it does.
+-- The first object of which a fact holds, where it is decidable of each object whether it does.
 use Rattle.std.proofs.Common.{arith, ◌≡◌, ◌⊎◌, inl, inr, ℕ, zero, suc, ◌<◌, List, [], ◌∷◌, Option, Some, None, slice_get, true, false, bytes_eq, is_some, codes, refl, sym, ap, subst, ◌∙◌}
 use Rattle.std.specs.Option.{option_map_or}
 use Rattle.std.proofs.lemmas.Bool.{cases_Bool, false≢true}
@@ -11,7 +11,7 @@ use Rattle.stix_bundles.specs.Observations.{IsObservedData, is_observed_data, Em
 use Rattle.stix_bundles.proofs.ObjectsLemmas.{same_some}
 use Rattle.stix_bundles.proofs.LastTimesLemmas.{observed_test}
 
--- it can be told of each object
+-- it is decidable for each object
 abbrev pub IsTold : (Data → Type 0) → Type 0
 IsTold P = (d : Data) → P d ⊎ (¬ P d)
 
@@ -48,7 +48,7 @@ first_or_none P told (x ∷ xs) = elim (told x) [
   | inr not ↦ first_more P x xs not (first_or_none P told xs)
 ]
 
--- ---- what can be told
+-- ---- what is decidable
 
 pub object_told : IsTold IsObject
 object_told d = elim (cases_Bool (is_some (as_object d))) [ inl is ↦ inl is | inr not ↦ inr (λ is. false≢true (sym not ∙ is)) ]

@@ -1,4 +1,4 @@
--- The last times in order, and the observations that are told at them.
+-- The last times in order, and the observations that are reported at them.
 use Rattle.std.proofs.Common.{arith, length, ◌≡◌, ◌≢◌, ◌⊎◌, inl, inr, ◌+◌, ◌-◌, ◌<◌, ◌<ℤ◌, ℕ, zero, suc, ℤ, List, map, get_or, slice_get, Option, Some, None, option_map, Result, Ok, Err, IfOk, false, is_lt, int_cmp, nat_cmp, sym, ap, refl, subst, ◌∙◌}
 use Rattle.std.specs.declared.cmp.Ordering.{Ordering}
 use Rattle.std.specs.declared.cmp.Ordering.TheVariants.{Less, Equal, Greater}

@@ -1,5 +1,6 @@
--- Bundles (STIX 2.1, section 8): an object of the type `bundle`, with an identifier of that kind and, where there are
--- some, a list of objects. Here it has at most MAX_OBJECTS of them, and each meets the rules of its type.
+-- Bundles (STIX 2.1, section 8): an object of the type `bundle`, with an identifier of that kind
+-- and an optional list of objects. Here it has at most MAX_OBJECTS of them, and each meets the
+-- rules of its type.
 use Rattle.std.specs.Prelude.{◌≡◌, ◌≢◌, ◌⊎◌, ℕ, ◌+◌, ◌≤◌, ◌<◌, List, [], ◌∷◌, ◌++◌, length, map, All, slice_get, Some, MatchOption, IsSome, codes}
 use Rattle.serde_json.specs.Data.{Data, Items, no_items, item}
 use Rattle.serde_json.specs.Find.{get, as_array, as_object}
@@ -38,11 +39,11 @@ pub record IsListOf (value : Data) (members : List Data) : Type 0 where
   pub some : 1 ≤ length members
   pub not_too_many : length members ≤ MAX_OBJECTS
 
--- its objects are these: none where it names none, else the members of a list
+-- its objects: none if the property is absent, else the members of a list
 abbrev pub HasObjects : Data → List Data → Type 0
 HasObjects d objects = MatchOption (get (codes "objects") d) (objects ≡ []) (λ value. IsListOf value objects)
 
--- a bundle's outline, with these objects
+-- a bundle's outline: the requirements on the bundle apart from those on its objects
 pub record IsOutlined (d : Data) (objects : List Data) : Type 0 where
   pub is_object : IsObject d
   pub typed : IsTyped d
@@ -50,14 +51,14 @@ pub record IsOutlined (d : Data) (objects : List Data) : Type 0 where
   pub listed_are : HasObjects d objects
   pub members : All IsObject objects
 
--- the first of the members that is no object
+-- the first of the members that isn't an object
 pub record IsFirstNoObject (objects : List Data) (at : ℕ) : Type 0 where
   pub member : Data
   pub there : slice_get objects at ≡ Some member
   pub no_object : ¬ IsObject member
   pub before : (n : ℕ) (other : Data) → n < at → slice_get objects n ≡ Some other → IsObject other
 
--- the condition that fails first, by the parts of the path to what it is asked of
+-- the requirement that fails first, by the parts of the path to its value
 abbrev pub FailsAt : Data → List (List ℕ) → Type 0
 FailsAt d [] = ¬ IsObject d
 FailsAt d (name ∷ []) = IsObject d × (
@@ -68,15 +69,15 @@ FailsAt d (name ∷ place ∷ []) = (name ≡ codes "objects") × IsObject d × 
     × ((objects : List Data) × HasObjects d objects × ((at : ℕ) × (place ≡ index_part at) × IsFirstNoObject objects at))
 FailsAt d (name ∷ place ∷ more ∷ parts) = ⊥
 
--- the path tells where the first condition fails
+-- the path leads to the first requirement that fails
 abbrev pub IsNoBundle : Data → List ℕ → Type 0
 IsNoBundle d path = (parts : List (List ℕ)) × FailsAt d parts × (path ≡ path_text parts)
 
--- a break, told of the object at this position
+-- a violation by the object at this position
 abbrev pub break_of_object : ℕ → Break → ObjectBreak
 break_of_object at found = record { object = at; found = found }
 
--- the breaks of the objects from a position on, object by object
+-- the violations of the objects from a position on, object by object
 abbrev pub AreAllBreaks : ℕ → List Data → List ObjectBreak → Type 0
 AreAllBreaks at [] breaks = breaks ≡ []
 AreAllBreaks at (d ∷ ds) breaks = (own : List Break) × (rest : List ObjectBreak)
@@ -87,7 +88,7 @@ pub record IsBundle (d : Data) (objects : List Data) : Type 0 where
   pub outline : IsOutlined d objects
   pub unbroken : AreAllBreaks 0 objects []
 
--- why a value is no bundle
+-- why a value isn't a valid bundle
 abbrev pub IsBundleRefused : Data → BundleRefusal → Type 0
 IsBundleRefused d (NotBundle path) = IsNoBundle d path
 IsBundleRefused d (Breaks breaks) = (breaks ≢ []) × ((objects : List Data) × IsOutlined d objects × AreAllBreaks 0 objects breaks)

@@ -1,5 +1,5 @@
--- The observations of a bundle: its observed-data objects (STIX 2.1, section 4.14) in the order in which they were last
--- observed, numbered one after another.
+-- The observations of a bundle: its observed-data objects (STIX 2.1, section 4.14), sorted by
+-- `last_observed` and numbered.
 use Rattle.std.specs.Prelude.{◌≡◌, ◌⊎◌, ℕ, ◌+◌, ◌<◌, ◌<ℤ◌, List, [], ◌∷◌, ◌++◌, map, filter_map, count_by, Bool, false, Option, Some, IsSome, slice_get, option_and_then, option_to_list, bytes_eq, codes}
 use Rattle.std.specs.Option.{option_map_or}
 use Rattle.serde_json.specs.Data.{Data}
@@ -17,36 +17,36 @@ use Rattle.stix_bundles.specs.Lookup.{Means}
 abbrev pub IsObservedData : Data → Type 0
 IsObservedData d = text_at (codes "type") d ≡ Some (codes "observed-data")
 
--- the same as a test
+-- whether it is an observed-data
 abbrev pub is_observed_data : Data → Bool
 is_observed_data d = option_map_or (λ type. bytes_eq type (codes "observed-data")) (text_at (codes "type") d) false
 
--- how many of the objects are observed-data
+-- the number of observed-data objects
 abbrev pub how_many : List Data → ℕ
 how_many objects = count_by is_observed_data objects
 
--- an observed-data stands at the place
+-- the object at the position is an observed-data
 pub record IsObservedAt (objects : List Data) (at : ℕ) : Type 0 where
   pub object : Data
   pub there : slice_get objects at ≡ Some object
   pub observed : IsObservedData object
 
--- it is an observed-data that holds its objects itself, in the property `objects`
+-- it is an observed-data that embeds its objects, in the deprecated property `objects`
 abbrev pub Embeds : Data → Type 0
 Embeds d = IsObservedData d × IsSome (get (codes "objects") d)
 
--- such an observed-data stands at the place
+-- the object at the position embeds its objects
 pub record EmbedsAt (objects : List Data) (at : ℕ) : Type 0 where
   pub object : Data
   pub there : slice_get objects at ≡ Some object
   pub embeds : Embeds object
 
--- the first such place
+-- the first such position
 pub record IsFirstEmbedding (objects : List Data) (at : ℕ) : Type 0 where
   pub embeds : EmbedsAt objects at
   pub before : (n : ℕ) → n < at → ¬ EmbedsAt objects n
 
--- no observed-data holds its objects itself
+-- no observed-data embeds its objects
 abbrev pub NoneEmbeds : List Data → Type 0
 NoneEmbeds objects = (at : ℕ) → ¬ EmbedsAt objects at
 
@@ -54,13 +54,13 @@ NoneEmbeds objects = (at : ℕ) → ¬ EmbedsAt objects at
 abbrev pub references : Data → List (List ℕ)
 references d = filter_map as_str (option_map_or listed (option_and_then as_array (get (codes "object_refs") d)) [])
 
--- the places that the texts mean, in their order, and none for a text that means none
+-- the positions that the texts resolve to, in order, and none for a text that doesn't resolve
 abbrev pub AreResolved : List Data → List (List ℕ) → List ℕ → Type 0
 AreResolved objects [] places = places ≡ []
 AreResolved objects (text ∷ texts) places = (place : Option ℕ) × (rest : List ℕ)
     × Means objects text place × AreResolved objects texts rest × (places ≡ option_to_list place ++ rest)
 
--- the observation that the observed-data at the place is, with its number
+-- the observation of the observed-data at the position, with this number
 pub record IsObservationAt (objects : List Data) (at number : ℕ) (observation : Observation) : Type 0 where
   pub object : Data
   pub there : slice_get objects at ≡ Some object
@@ -71,17 +71,18 @@ pub record IsObservationAt (objects : List Data) (at number : ℕ) (observation 
   pub last : IsTimestampAt Any (codes "last_observed") object observation.last
   pub roots : AreResolved objects (references object) observation.roots
 
--- an observation, and the place of its object
+-- an observation, and the position of its object
 pub record ObservationAt : Type 0 where
   pub at : ℕ
   pub observation : Observation
 
--- it was last observed before the other, or at the same time and stands before it
+-- it was last observed before the other, or at the same time and has the lower position
 abbrev pub IsObservedBefore : ObservationAt → ObservationAt → Type 0
 IsObservedBefore seen other = (seen.observation.last <ℤ other.observation.last)
     ⊎ ((seen.observation.last ≡ other.observation.last) × (seen.at < other.at))
 
--- the observations of the objects, numbered from the first number on: one for each observed-data, each before the next ones
+-- the observations of the objects, numbered from the first number on: one for each observed-data,
+-- in order
 pub record AreObservations (objects : List Data) (first : ℕ) (observations : List Observation) : Type 0 where
   pub seen : List ObservationAt
   pub are : observations ≡ map (λ s. s.observation) seen
@@ -89,7 +90,8 @@ pub record AreObservations (objects : List Data) (first : ℕ) (observations : L
   pub all : (at : ℕ) → IsObservedAt objects at → (k : ℕ) × (s : ObservationAt) × (slice_get seen k ≡ Some s) × (s.at ≡ at)
   pub in_order : (j k : ℕ) (s t : ObservationAt) → j < k → slice_get seen j ≡ Some s → slice_get seen k ≡ Some t → IsObservedBefore s t
 
--- why there are no observations: where an object embeds, the first that does, and memory may run out only where none does
+-- why there are no observations: the first object that embeds, if any; memory may run out only if
+-- none does
 abbrev pub AreRefused : List Data → ObservationRefusal → Type 0
 AreRefused objects (EmbeddedObjects at) = IsFirstEmbedding objects at
 AreRefused objects NoMemory = NoneEmbeds objects

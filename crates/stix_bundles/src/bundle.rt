@@ -13,7 +13,7 @@ use std::marker::Model;
 use stix_ids::IdRef;
 use stix_json::Json;
 
-/// A bundle. Contracts see the list of its objects.
+/// A bundle whose objects are all valid. Its value in contracts is the list of its objects.
 #[derive(Drop)]
 pub struct Bundle {
     objects: Items<Json>,
@@ -39,7 +39,7 @@ impl Model for Bundle {
 }
 
 impl Bundle {
-    /// A bundle of these objects, which have that index.
+    /// The bundle of these objects and their index.
     pub(crate) fn new(objects: Items<Json>, index: Index) -> Bundle
         requires { IsIndexed (data_in objects) index }
         ensures { result ≡ objects }
@@ -47,21 +47,22 @@ impl Bundle {
         Bundle { objects, index }
     }
 
-    /// How many objects it has.
+    /// The number of objects.
     pub fn len(&self) -> usize
         ensures { result ≡ length self.now }
     {
         self.objects.len()
     }
 
-    /// Whether it has none.
+    /// Whether the bundle has no objects.
     pub fn is_empty(&self) -> bool
         ensures { IsTrue result ↔ (self.now ≡ []) }
     {
         self.objects.is_empty()
     }
 
-    /// Its objects, which are not too many, ordered, and break no rule.
+    /// The objects, in the order of the bundle: at most `MAX_OBJECTS`, ordered, and without
+    /// violations.
     pub fn objects(&self) -> &[Json]
         ensures value { result.now ≡ self.now }
         ensures counted { length self.now ≤ MAX_OBJECTS }
@@ -71,7 +72,7 @@ impl Bundle {
         self.objects.as_slice()
     }
 
-    /// The position of the latest version of an identifier. Takes no memory.
+    /// The position of the latest version of an identifier. Allocates nothing.
     pub(crate) fn latest(&self, id: IdRef<'_>) -> Option<u32>
         ensures { IsPositionOf (data_in self.now) (id_of id.entry) result }
     {
@@ -82,8 +83,7 @@ impl Bundle {
     }
 }
 
-/// The object at a position, counted from 0. None where the bundle has no more objects. Takes no
-/// memory.
+/// The object at a position, counted from 0. `None` past the last object. Allocates nothing.
 pub fn object(bundle: &Bundle, at: u32) -> Option<&Json>
     ensures { option_map (λ value. value.now) result ≡ slice_get bundle.now at }
 {

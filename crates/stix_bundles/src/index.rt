@@ -1,12 +1,12 @@
 use crate::positions::Positions;
 
-/// How many objects are few: up to so many no positions are kept.
+/// The greatest number of objects that are searched without an index.
 pub(crate) const MAX_UNINDEXED_OBJECTS: usize = 4;
 
-/// Where the latest versions of a bundle's objects stand.
+/// An index of the latest version of each identifier.
 #[derive(Drop)]
 pub(crate) enum Index {
-    /// The objects are few: to go over them costs less than to keep positions, and takes no memory.
+    /// A few objects without an index: a linear search costs less, and allocates nothing.
     Unindexed,
     Many(Positions),
 }

@@ -13,15 +13,15 @@ use stix_objects::laws::no_breaks;
 use stix_objects::{Precision, timestamp_at};
 use stix_times::Instant;
 
-/// When an observed-data object was last observed, and its position. Moments are ordered by time,
-/// then by position.
+/// The `last_observed` of an observed-data object, and its position. The order is by time, then by
+/// position.
 #[derive(Clone, Copy, Debug, PartialEq, Eq, PartialOrd, Ord)]
 pub(crate) struct LastTime {
     pub(crate) last: Instant,
     pub(crate) at: u32,
 }
 
-/// The last times of all observed-data objects, in order.
+/// The last times of all observed-data objects, sorted.
 pub(crate) fn last_times_in_order(
     alloc: Global,
     objects: &[Json],
@@ -36,7 +36,7 @@ pub(crate) fn last_times_in_order(
     Ok(last_times)
 }
 
-/// The same, in the order of the positions.
+/// The last times of all observed-data objects, by position.
 fn last_times_of(alloc: Global, objects: &[Json]) -> Result<Vec<LastTime>, NoMemory>
     requires counted { length objects.now ≤ MAX_OBJECTS }
     requires unbroken { AreAllBreaks 0 (data_in objects.now) [] }
@@ -54,7 +54,7 @@ fn last_times_of(alloc: Global, objects: &[Json]) -> Result<Vec<LastTime>, NoMem
     Ok(last_times)
 }
 
-/// When the object at a position was last observed, where it is an observed-data.
+/// The `last_observed` of the object at a position, if it is an observed-data.
 fn last_observed(objects: &[Json], at: usize) -> Option<Instant>
     requires there { at < length objects.now }
     requires unbroken { AreAllBreaks 0 (data_in objects.now) [] }

@@ -1,3 +1,7 @@
+//! The index of latest versions, in one pass: a running maximum of `modified` for each identifier.
+//! A tie goes to the later position, so after the last object the map is what specs/Lookup.antt
+//! defines.
+
 ghost use Rattle.std.specs.Prelude.{◌≡◌, ◌↔◌, ◌+◌, ◌≤◌, ◌<◌, length, take as first, Some, IsTrue, IfOk, OnOk};
 ghost use Rattle.stix_ids.specs.declared.id.Id.{Id};
 ghost use Rattle.stix_ids.specs.PartsOf.{id_of};
@@ -19,7 +23,7 @@ use stix_objects::object_id;
 use stix_times::Instant;
 use stix_times::laws::is_before;
 
-/// The index of these objects.
+/// Builds the index of these objects.
 pub(crate) fn index_of(alloc: Global, objects: &[Json]) -> Result<Index, NoMemory>
     requires { length objects.now ≤ MAX_OBJECTS }
     ensures { IfOk result (IsIndexOf (data_in objects.now)) }
@@ -31,7 +35,7 @@ pub(crate) fn index_of(alloc: Global, objects: &[Json]) -> Result<Index, NoMemor
     Ok(Index::Many(positions))
 }
 
-/// The positions of the latest versions of the objects.
+/// The positions of the latest versions of the objects, as a map from identifiers.
 fn positions_of(alloc: Global, objects: &[Json]) -> Result<Positions, NoMemory>
     requires { length objects.now ≤ MAX_OBJECTS }
     ensures { IfOk result (ArePositionsOf (data_in objects.now)) }
@@ -43,7 +47,7 @@ fn positions_of(alloc: Global, objects: &[Json]) -> Result<Positions, NoMemory>
     Ok(positions)
 }
 
-/// Adds the object at a position to the positions of those before it.
+/// Updates the map with the object at a position.
 fn add(
     alloc: Global,
     objects: &[Json],
@@ -52,6 +56,7 @@ fn add(
 ) -> Result<(), NoMemory>
     requires within { length objects.now ≤ MAX_OBJECTS }
     requires there { at < length objects.now }
+    // The loop invariant: the map is right for the objects before `at`.
     requires before { ArePositionsOf (first at (data_in objects.now)) positions.old }
     ensures { OnOk result (ArePositionsOf (first (at + 1) (data_in objects.now)) positions.new) }
 {
@@ -63,8 +68,7 @@ fn add(
     positions.put(alloc, id, latest)
 }
 
-/// The position of the latest version of an identifier, found by going over the objects. Takes no
-/// memory.
+/// The position of the latest version of an identifier, by linear search. Allocates nothing.
 pub(crate) fn latest_of(objects: &[Json], id: IdRef<'_>) -> Option<u32>
     requires { length objects.now ≤ MAX_OBJECTS }
     ensures { IsPositionOf (data_in objects.now) (id_of id.entry) result }
@@ -78,12 +82,13 @@ pub(crate) fn latest_of(objects: &[Json], id: IdRef<'_>) -> Option<u32>
     latest
 }
 
-/// The position of the later of two versions of an identifier: the one at a position, unless the one
-/// held from before it was modified later.
+/// The position of the later of two versions of an identifier: the one at `at`, unless the earlier
+/// one was modified later.
 fn later(objects: &[Json], held: Option<u32>, at: usize) -> u32
     requires within { length objects.now ≤ MAX_OBJECTS }
     requires there { at < length objects.now }
-    ensures { (id : Id) → IsOf (data_in objects.now) id at → IsPositionOf (first at (data_in objects.now)) id held
+    ensures { (id : Id) → IsOf (data_in objects.now) id at
+        → IsPositionOf (first at (data_in objects.now)) id held
         → IsLatest (first (at + 1) (data_in objects.now)) id result }
 {
     one_modified();
@@ -98,7 +103,7 @@ fn later(objects: &[Json], held: Option<u32>, at: usize) -> u32
     }
 }
 
-/// Whether an object stands at the position that was modified later than that time.
+/// Whether the object at the position was modified later than this time.
 fn is_superseded(objects: &[Json], at: u32, time: Option<Instant>) -> bool
     ensures { IsTrue result ↔ Supersedes (data_in objects.now) (Some at) time }
 {
@@ -109,7 +114,7 @@ fn is_superseded(objects: &[Json], at: u32, time: Option<Instant>) -> bool
     }
 }
 
-/// Whether the first is earlier than the second, where none is earlier than any.
+/// Whether the first time is earlier than the second. No time is earlier than any time.
 fn is_earlier(first: Option<Instant>, second: Option<Instant>) -> bool
     ensures { IsTrue result ↔ IsEarlier first second }
 {

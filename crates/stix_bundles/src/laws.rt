@@ -1,5 +1,5 @@
-//! What follows from the definitions: the contracts are the laws, and the functions do nothing.
-//! That there is one is said as: not every one fails.
+//! Consequences of the definitions: each contract is a theorem, and its function does nothing.
+//! Existence is stated weakly: as "not every candidate fails".
 
 ghost use Rattle.std.specs.Prelude.{◌≡◌, ◌⊎◌, ℕ, ℤ, List, [], Option, None, slice_get, Some, All, ◌≤ℤ◌};
 ghost use Rattle.serde_json.specs.Data.{Data};
@@ -14,7 +14,7 @@ ghost use Rattle.stix_bundles.specs.Lookup.{IsModified, IsOf, Means};
 use stix_ids::laws::one_identifier;
 use stix_objects::laws::{no_breaks, one_id, one_list, one_timestamp, some_list};
 
-/// An object was modified at one time or at none.
+/// An object has at most one `modified` time.
 pub fn one_modified()
     ensures { (object : Data) (first second : Option ℤ) → IsModified object first
         → IsModified object second → first ≡ second }
@@ -22,13 +22,14 @@ pub fn one_modified()
     one_timestamp();
 }
 
-/// A text means one place, or none, and all texts of one identifier mean the same. The text of an
-/// object's own identifier means some place.
+/// A text resolves to at most one position, and all texts of one identifier resolve to the same
+/// one. The text of an object's own identifier resolves to some position.
 pub fn one_meaning()
     ensures one { (objects : List Data) (text : List ℕ) (first second : Option ℕ)
         → Means objects text first → Means objects text second → first ≡ second }
     ensures same { (objects : List Data) (id : Id) (text other : List ℕ) (resolved : Option ℕ)
-        → IsTextOf text id → IsTextOf other id → Means objects text resolved → Means objects other resolved }
+        → IsTextOf text id → IsTextOf other id → Means objects text resolved
+        → Means objects other resolved }
     ensures own { (objects : List Data) (id : Id) (at : ℕ) (text : List ℕ) → IsOf objects id at
         → IsTextOf text id → ¬ Means objects text None }
 {
@@ -36,20 +37,22 @@ pub fn one_meaning()
     one_modified();
 }
 
-/// No text is without a meaning: a place, or none.
+/// Every text resolves to a position or to none.
 pub fn some_meaning()
-    ensures { (objects : List Data) (text : List ℕ) → ¬ ((resolved : Option ℕ) → ¬ Means objects text resolved) }
+    ensures { (objects : List Data) (text : List ℕ)
+        → ¬ ((resolved : Option ℕ) → ¬ Means objects text resolved) }
 {
     one_identifier();
     one_modified();
 }
 
-/// Of any objects there is a first observed-data that holds its objects itself, or none does.
+/// Some first observed-data embeds its objects, or none does.
 pub fn first_embedding_or_none()
-    ensures { (objects : List Data) → NoneEmbeds objects ⊎ ((at : ℕ) × IsFirstEmbedding objects at) }
+    ensures { (objects : List Data)
+        → NoneEmbeds objects ⊎ ((at : ℕ) × IsFirstEmbedding objects at) }
 {}
 
-/// Objects of which none breaks a rule aren't without a list of observations, from any first number on.
+/// Objects without violations have a list of observations, from any first number on.
 pub fn some_observations()
     ensures { (objects : List Data) (number : ℕ) → AreAllBreaks 0 objects []
         → ¬ ((observations : List Observation) → ¬ AreObservations objects number observations) }
@@ -58,9 +61,10 @@ pub fn some_observations()
     some_meaning();
 }
 
-/// Objects have one list of observations from a first number on.
+/// Objects have at most one list of observations from a first number on.
 pub fn one_list_of_observations()
-    ensures { (objects : List Data) (number : ℕ) (first second : List Observation) → AreObservations objects number first
+    ensures { (objects : List Data) (number : ℕ) (first second : List Observation)
+        → AreObservations objects number first
         → AreObservations objects number second → first ≡ second }
 {
     one_id();
@@ -68,26 +72,31 @@ pub fn one_list_of_observations()
     one_meaning();
 }
 
-/// Where no object breaks a rule, no observation ends before it begins.
+/// Without violations, no observation ends before it begins.
 pub fn observations_are_spans()
-    ensures { (objects : List Data) (number : ℕ) (observations : List Observation) → AreAllBreaks 0 objects []
-        → AreObservations objects number observations → All (λ observation. observation.first ≤ℤ observation.last) observations }
+    ensures { (objects : List Data) (number : ℕ) (observations : List Observation)
+        → AreAllBreaks 0 objects []
+        → AreObservations objects number observations
+        → All (λ observation. observation.first ≤ℤ observation.last) observations }
 {
     no_breaks();
     one_timestamp();
 }
 
-/// A value is one bundle, or is refused for one cause.
+/// Reading is deterministic: a value is one bundle, or is refused for one cause.
 pub fn one_reading()
-    ensures bundle { (value : Data) (first second : List Data) → IsBundle value first → IsBundle value second → first ≡ second }
-    ensures refusal { (value : Data) (first second : BundleRefusal) → IsBundleRefused value first → IsBundleRefused value second
+    ensures bundle { (value : Data) (first second : List Data) → IsBundle value first
+        → IsBundle value second → first ≡ second }
+    ensures refusal { (value : Data) (first second : BundleRefusal) → IsBundleRefused value first
+        → IsBundleRefused value second
         → first ≡ second }
-    ensures either { (value : Data) (objects : List Data) (refusal : BundleRefusal) → IsBundle value objects → ¬ IsBundleRefused value refusal }
+    ensures either { (value : Data) (objects : List Data) (refusal : BundleRefusal)
+        → IsBundle value objects → ¬ IsBundleRefused value refusal }
 {
     one_list();
 }
 
-/// No value is neither a bundle nor refused.
+/// Every value is a bundle or is refused.
 pub fn bundle_or_refusal()
     ensures { (value : Data) → ¬ (((objects : List Data) → ¬ IsBundle value objects)
         × ((refusal : BundleRefusal) → ¬ IsBundleRefused value refusal)) }

@@ -1,8 +1,18 @@
-//! Bundles of STIX 2.1 (section 8): a list of objects, each of which meets the rules of its type.
+//! Bundles of STIX 2.1 (section 8). `read_bundle` turns a JSON value into a `Bundle`, or returns
+//! all violations of its objects. `find` resolves an identifier to its latest version (section
+//! 3.6). `observations` lists the observed-data objects (section 4.14) by time, with the objects
+//! that they refer to.
 //!
-//! `read_bundle` makes one of a JSON value or tells why it is none, with all breaks of its objects. `find`
-//! gives the latest version of an identifier, and `observations` the observed-data objects in order,
-//! each with the positions of the objects that it refers to.
+//! Lookups use an index from identifiers to positions: a B-tree map, or a linear search in a bundle
+//! of up to four objects.
+//!
+//! ```ignore
+//! let bundle = read_bundle(alloc, read_json(alloc, bytes)?)?;
+//! if let Some(at) = find(&bundle, "file--364fe3e5-b1f4-5ba3-b951-ee5983b3538d") {
+//!     let file = object(&bundle, at);
+//! }
+//! let seen = observations(alloc, &bundle, 0)?;
+//! ```
 #![tactic(auto)]
 
 mod bundle;

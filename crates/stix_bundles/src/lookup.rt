@@ -5,8 +5,9 @@ use crate::Bundle;
 use stix_ids::IdRef;
 use stix_ids::laws::one_identifier;
 
-/// The position of the object that a text means: the latest version of the identifier that the text
-/// is. None where the text is no identifier's, or the bundle has no object of it. Takes no memory.
+/// The position of the latest version of the identifier `text`. `None` if the text isn't an
+/// identifier, or the bundle has no such object. Logarithmic in the number of identifiers.
+/// Allocates nothing.
 pub fn find(bundle: &Bundle, text: &str) -> Option<u32>
     ensures { Means (data_in bundle.now) text.now result }
 {

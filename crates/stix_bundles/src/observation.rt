@@ -3,28 +3,29 @@ use stix_ids::Id;
 use stix_times::Instant;
 use thiserror::Error;
 
-/// An observed-data object as an observation.
+/// An observed-data object (STIX 2.1, section 4.14) as an observation.
 #[derive(Debug, Drop)]
 pub struct Observation {
-    /// Its number in the order of the observations.
+    /// The number of the observation, in the order of observations.
     pub number: u64,
     /// The object's identifier.
     pub id: Id,
-    /// When it was first observed.
+    /// The `first_observed` of the object.
     pub first: Instant,
-    /// When it was last observed.
+    /// The `last_observed` of the object.
     pub last: Instant,
-    /// The positions of the objects that it refers to, in the order of its references.
+    /// The positions of the objects of `object_refs`, in order, without the unresolved ones.
     pub roots: Items<u32>,
 }
 
 /// Why a bundle has no observations.
 #[derive(Clone, Copy, Debug, PartialEq, Eq, Error)]
 pub enum ObservationRefusal {
-    /// An observed-data object holds its objects itself, in the property `objects`: the first such.
+    /// The first observed-data object that embeds its objects, in the deprecated property
+    /// `objects`.
     #[error("object {object} holds its objects itself")]
     EmbeddedObjects { object: u32 },
-    /// Memory ran out.
+    /// Out of memory.
     #[error("out of memory")]
     NoMemory,
 }

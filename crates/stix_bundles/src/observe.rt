@@ -21,9 +21,11 @@ use stix_objects::laws::no_breaks;
 use stix_objects::{Precision, timestamp_at};
 use stix_times::Instant;
 
-/// The observations of a bundle: its observed-data objects in the order in which they were last
-/// observed, of equal times the one that stands first, numbered from `first` on. Each has the
-/// positions of the objects that its references mean.
+/// The observations of a bundle: its observed-data objects sorted by `last_observed`, then by
+/// position, and numbered from `first` on. Each has the positions of the objects in its
+/// `object_refs`.
+///
+/// `EmbeddedObjects` if an observed-data object has the deprecated property `objects`.
 pub fn observations(
     alloc: Global,
     bundle: &Bundle,
@@ -31,7 +33,8 @@ pub fn observations(
 ) -> Result<Items<Observation>, ObservationRefusal>
     requires { first + how_many (data_in bundle.now) ≤ 2 ^ 64 }
     ensures ok { IfOk result (AreObservations (data_in bundle.now) first) }
-    ensures counted { IfOk result (λ observations. length observations ≡ how_many (data_in bundle.now)) }
+    ensures counted { IfOk result (λ observations. length observations
+        ≡ how_many (data_in bundle.now)) }
     ensures whole { OnOk result (NoneEmbeds (data_in bundle.now)) }
     ensures err { IfErr result (AreRefused (data_in bundle.now)) }
 {
@@ -44,17 +47,18 @@ pub fn observations(
     }
 }
 
-/// The same, whether or not an observed-data holds its objects itself.
+/// The observations of a bundle, whether or not some observed-data embeds its objects.
 fn all_observed(alloc: Global, bundle: &Bundle, first: u64) -> Result<Items<Observation>, NoMemory>
     requires { first + how_many (data_in bundle.now) ≤ 2 ^ 64 }
     ensures ok { IfOk result (AreObservations (data_in bundle.now) first) }
-    ensures counted { IfOk result (λ observations. length observations ≡ how_many (data_in bundle.now)) }
+    ensures counted { IfOk result (λ observations. length observations
+        ≡ how_many (data_in bundle.now)) }
 {
     let last_times = last_times_in_order(alloc, bundle.objects())?;
     observed(alloc, bundle, first, last_times.as_slice())
 }
 
-/// The first observed-data that holds its objects itself.
+/// The position of the first observed-data that embeds its objects.
 fn first_embedding(objects: &[Json]) -> Option<u32>
     requires { length objects.now ≤ MAX_OBJECTS }
     ensures some { IfSome result (IsFirstEmbedding (data_in objects.now)) }
@@ -68,7 +72,7 @@ fn first_embedding(objects: &[Json]) -> Option<u32>
     None
 }
 
-/// Whether an object is an observed-data that holds its objects itself.
+/// Whether an object is an observed-data that embeds its objects.
 fn embeds(object: &Json) -> bool
     ensures { IsTrue result ↔ Embeds (data_of object.now) }
 {
@@ -93,7 +97,7 @@ fn observed(
     Ok(observations)
 }
 
-/// The observation at a last time.
+/// The observation of one last time.
 fn observation(
     alloc: Global,
     bundle: &Bundle,
@@ -116,7 +120,7 @@ fn observation(
     })
 }
 
-/// The identifier of an object that breaks no rule.
+/// The identifier of an object without violations.
 fn own_id(alloc: Global, object: &Json) -> Result<Id, NoMemory>
     requires { AreBreaksOf (data_of object.now) [] }
     ensures { IfOk result (HasId (data_of object.now)) }
@@ -128,7 +132,7 @@ fn own_id(alloc: Global, object: &Json) -> Result<Id, NoMemory>
     read_id(alloc, text).map_err(|_refusal| NoMemory)
 }
 
-/// When an observed-data that breaks no rule was first observed.
+/// The `first_observed` of an observed-data without violations.
 fn first_observed(object: &Json) -> Instant
     requires unbroken { AreBreaksOf (data_of object.now) [] }
     requires observed { IsObservedData (data_of object.now) }
@@ -141,7 +145,7 @@ fn first_observed(object: &Json) -> Instant
     }
 }
 
-/// The positions that an object's references mean.
+/// The positions that an object's `object_refs` resolve to.
 fn roots_of(alloc: Global, bundle: &Bundle, object: &Json) -> Result<Items<u32>, NoMemory>
     ensures { IfOk result (AreResolved (data_in bundle.now) (references (data_of object.now))) }
 {
@@ -153,9 +157,10 @@ fn roots_of(alloc: Global, bundle: &Bundle, object: &Json) -> Result<Items<u32>,
     }
 }
 
-/// The positions that the texts of a list mean.
+/// The positions that the texts of a list resolve to.
 fn resolved(alloc: Global, bundle: &Bundle, items: &[Json]) -> Result<Items<u32>, NoMemory>
-    ensures { IfOk result (AreResolved (data_in bundle.now) (filter_map as_str (data_in items.now))) }
+    ensures { IfOk result (AreResolved (data_in bundle.now)
+        (filter_map as_str (data_in items.now))) }
 {
     let mut places = Items::new(alloc);
     for item in items {
@@ -166,7 +171,7 @@ fn resolved(alloc: Global, bundle: &Bundle, items: &[Json]) -> Result<Items<u32>
     Ok(places)
 }
 
-/// The position that an item means, where it is a text.
+/// The position that an item resolves to, if it is a text.
 fn place_of(bundle: &Bundle, item: &Json) -> Option<u32>
     ensures { MatchOption (as_str (data_of item.now)) (result ≡ None)
         (λ text. Means (data_in bundle.now) text result) }

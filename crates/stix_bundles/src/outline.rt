@@ -12,22 +12,22 @@ use std::alloc::Global;
 use stix_ids::is_of_kind;
 use stix_json::{Json, get, text_at};
 
-/// How many objects a bundle has at most.
+/// The greatest number of objects of a bundle.
 pub const MAX_OBJECTS: usize = 8_388_608;
 
-/// The first condition of a bundle that fails.
+/// The first requirement of a bundle that a value fails (STIX 2.1, section 8).
 #[derive(Clone, Copy, Debug)]
 pub(crate) enum Failure {
     NoObject,
     NoType,
     NoId,
     NoList,
-    /// The first member that is no object.
+    /// The first member of `objects` that isn't an object.
     NoMember(u32),
 }
 
 impl Failure {
-    /// The path to what fails.
+    /// The path to the value that fails.
     pub(crate) fn path(self, alloc: Global) -> Result<Text, NoMemory>
         ensures path { IfOk result (λ path. path ≡ path_text (failed_parts self)) }
         ensures told { self ≡ NoObject → result ≡ Ok [] }
@@ -50,7 +50,7 @@ fn member_path(alloc: Global, at: u32) -> Result<Text, NoMemory>
     Ok(Text::from_string(text))
 }
 
-/// The first condition of a bundle that a value fails, if there is one.
+/// The first requirement of a bundle that a value fails, if any.
 pub(crate) fn first_failure(value: &Json) -> Option<Failure>
     ensures some { IfSome result (λ failure. FailsAt (data_of value.now) (failed_parts failure)) }
     ensures told { (¬ IsObject (data_of value.now)) → result ≡ Some NoObject }
@@ -78,10 +78,11 @@ fn has_bundle_id(value: &Json) -> bool
     }
 }
 
-/// What fails in the list of objects.
+/// The failure in the list of objects, if any.
 fn failure_in_objects(value: &Json) -> Option<Failure>
     ensures some { IfSome result (FailsInObjects (data_of value.now)) }
-    ensures none { IfNone result ((members : List Data) × IsListOf (data_of value.now) members × All IsObject members) }
+    ensures none { IfNone result ((members : List Data) × IsListOf (data_of value.now) members
+        × All IsObject members) }
 {
     let Json::Array(objects) = value else {
         return Some(Failure::NoList);
@@ -92,14 +93,14 @@ fn failure_in_objects(value: &Json) -> Option<Failure>
     first_no_object(objects.as_slice())
 }
 
-/// Whether a bundle may have so many objects, where it lists some.
+/// Whether a list of `objects` may have this length.
 fn is_count(count: usize) -> bool
     ensures { IsTrue result ↔ ((1 ≤ count) × (count ≤ MAX_OBJECTS)) }
 {
     (1..=MAX_OBJECTS).contains(&count)
 }
 
-/// The first member that is no object.
+/// The first member that isn't an object, as a failure.
 fn first_no_object(objects: &[Json]) -> Option<Failure>
     requires { length objects.now ≤ MAX_OBJECTS }
     ensures some { IfSome result (FailsInMembers (data_in objects.now)) }

@@ -8,14 +8,14 @@ use std::alloc::Global;
 use std::collections::BTreeMap;
 use stix_ids::IdRef;
 
-/// A position for each of some identifiers, by the identifier's kind and number.
+/// A map from identifiers to positions, in two levels: by kind, then by UUID.
 #[derive(Drop)]
 pub(crate) struct Positions {
     kinds: BTreeMap<String, BTreeMap<u128, u32>>,
 }
 
 impl Positions {
-    /// No positions. Takes no memory.
+    /// An empty map. Allocates nothing.
     pub(crate) fn new(alloc: Global) -> Positions
         ensures { (id : Id) → position_of result id ≡ None }
     {
@@ -24,7 +24,7 @@ impl Positions {
         }
     }
 
-    /// The position of an identifier. Takes no memory.
+    /// The position of an identifier. Logarithmic. Allocates nothing.
     pub(crate) fn get(&self, id: IdRef<'_>) -> Option<u32>
         ensures { result ≡ position_of self.now (id_of id.entry) }
     {
@@ -32,7 +32,7 @@ impl Positions {
         numbers.get(&id.number).copied()
     }
 
-    /// Keeps a position as that of an identifier, in place of another.
+    /// Sets the position of an identifier, and replaces an earlier one.
     pub(crate) fn put(&mut self, alloc: Global, id: IdRef<'_>, at: u32) -> Result<(), NoMemory>
         ensures { OnOk result (Puts self.old self.new (id_of id.entry) at) }
     {

@@ -11,14 +11,14 @@ use stix_objects::laws::one_id;
 use stix_objects::{Precision, object_id, timestamp_at};
 use stix_times::Instant;
 
-/// When an object was modified, where it tells so.
+/// The `modified` of an object, if it has one.
 pub(crate) fn modified(object: &Json) -> Option<Instant>
     ensures { IsModified (data_of object.now) result }
 {
     timestamp_at(object, Precision::Millis, "modified")
 }
 
-/// Whether an object has the identifier. Takes no memory.
+/// Whether an object has this identifier. Allocates nothing.
 pub(crate) fn has_id(object: &Json, id: IdRef<'_>) -> bool
     ensures { IsTrue result ↔ HasId (data_of object.now) (id_of id.entry) }
 {

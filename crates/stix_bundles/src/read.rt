@@ -16,13 +16,16 @@ use stix_json::laws::ordered_parts;
 use stix_json::{Json, take};
 use stix_objects::{Break, breaks};
 
-/// The bundle that a JSON value is, which takes the value's objects over; or why it is none: the first
-/// condition of a bundle that fails, else all breaks of its objects. What `read_json` gives is ordered,
-/// and `is_ordered` tests it of any value. What is no object is refused as such also without memory.
+/// Reads a bundle and takes over the objects of the value. `NotBundle` with the path of the first
+/// requirement that fails. `Breaks` with all violations of its objects.
+///
+/// The value must be ordered: `read_json` guarantees this, and `is_ordered` checks it. A value that
+/// isn't an object is refused as such even without memory.
 pub fn read_bundle(alloc: Global, value: Json) -> Result<Bundle, BundleRefusal>
     requires { IsOrdered (data_of value) }
     ensures ok { IfOk result (λ bundle. IsBundle (data_of value) (data_in bundle)) }
-    ensures err { IfErr result (λ refusal. (refusal ≡ BundleRefusal.NoMemory) ⊎ IsBundleRefused (data_of value) refusal) }
+    ensures err { IfErr result (λ refusal. (refusal ≡ BundleRefusal.NoMemory)
+        ⊎ IsBundleRefused (data_of value) refusal) }
     ensures told { (¬ IsObject (data_of value)) → result ≡ Err (BundleRefusal.NotBundle []) }
 {
     if let Some(failure) = first_failure(&value) {
@@ -38,7 +41,7 @@ pub fn read_bundle(alloc: Global, value: Json) -> Result<Bundle, BundleRefusal>
     Ok(Bundle::new(objects, index))
 }
 
-/// The objects of a bundle, taken out of it.
+/// Moves the objects out of a bundle's value.
 fn take_objects(alloc: Global, value: Json) -> Items<Json>
     requires outlined { (objects : List Data) × HasObjects (data_of value) objects }
     requires ordered { IsOrdered (data_of value) }
@@ -55,7 +58,8 @@ fn take_objects(alloc: Global, value: Json) -> Items<Json>
 /// The items of a list.
 fn items_of(alloc: Global, value: Json) -> Items<Json>
     requires { IsOrdered (data_of value) }
-    ensures all { (members : List Data) → IsListOf (data_of value) members → members ≡ data_in result }
+    ensures all { (members : List Data) → IsListOf (data_of value) members
+        → members ≡ data_in result }
     ensures ordered { All IsOrdered (data_in result) }
 {
     ordered_parts();
@@ -65,7 +69,7 @@ fn items_of(alloc: Global, value: Json) -> Items<Json>
     }
 }
 
-/// The breaks of all objects, object by object.
+/// The violations of all objects, object by object.
 fn all_breaks(alloc: Global, objects: &[Json]) -> Result<Items<ObjectBreak>, NoMemory>
     requires { length objects.now ≤ MAX_OBJECTS }
     ensures { IfOk result (AreAllBreaks 0 (data_in objects.now)) }
@@ -78,7 +82,7 @@ fn all_breaks(alloc: Global, objects: &[Json]) -> Result<Items<ObjectBreak>, NoM
     Ok(found)
 }
 
-/// Adds the breaks of the object at a position.
+/// Adds the violations of the object at a position.
 fn add_breaks(
     object: u32,
     own: Items<Break>,

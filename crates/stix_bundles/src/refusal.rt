@@ -2,17 +2,17 @@ use crate::ObjectBreak;
 use flow_values::{Items, NoMemory, Text};
 use thiserror::Error;
 
-/// Why a JSON value was not read as a bundle.
+/// Why a JSON value isn't a valid bundle.
 #[derive(Debug, Drop, Error)]
 pub enum BundleRefusal {
-    /// It isn't a bundle, and the path tells where the first condition fails: the empty path, `type`,
-    /// `id`, `objects`, or `objects.[n]` for a member that is no object.
+    /// It isn't a bundle. The path leads to the first requirement that fails: empty, `type`, `id`,
+    /// `objects`, or `objects.[n]` for a member that isn't an object.
     #[error("not a bundle: {}", .path.as_str())]
     NotBundle { path: Text },
-    /// Objects of it break rules of their types: all of these, object by object.
+    /// Some of its objects break rules of their types: all violations, object by object.
     #[error("objects break rules of their types")]
     Breaks(Items<ObjectBreak>),
-    /// Memory ran out.
+    /// Out of memory.
     #[error("out of memory")]
     NoMemory,
 }

@@ -1,4 +1,5 @@
-//! The program `stix_command`: STIX 2.1 patterns matched against observed data, and a TAXII 2.1 server.
+//! The program `stix_command`: matches STIX 2.1 patterns over observed data, validates bundles, and
+//! serves TAXII 2.1. See `command_line` for its arguments.
 #![tactic(auto)]
 
 use command_line::program_arguments;
@@ -20,7 +21,8 @@ fn main(rt: HostRuntime) -> ExitCode {
     }
 }
 
-/// Runs the program over the outside that the system has, with a file that held what `S` stands for, and answers its status.
+/// Runs the program with the system's streams, network and clock, and returns its exit status. `S`
+/// represents the earlier contents of the database file.
 fn run_over<S: Start>(rt: HostRuntime, arguments: &[String], start: S) -> u8 {
     let mut keeper = SqliteKeeper::new(rt, start);
     let status = run(
@@ -33,7 +35,8 @@ fn run_over<S: Start>(rt: HostRuntime, arguments: &[String], start: S) -> u8 {
         &mut keeper,
         &mut SystemClock::new(&rt),
     );
-    // All that was answered is in the file and its log. Where the log can't be copied into the file, they stay two.
+    // All that was answered is in the file and its log. If the log cannot be copied into the file,
+    // both remain.
     let _ = keeper.close();
     status
 }

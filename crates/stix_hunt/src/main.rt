@@ -1,5 +1,6 @@
-//! The program `stix_hunt`: many indicators on one log. A file holds the indicators, or the first bundle of the input; each hit is told
-//! before the next line is read, and at the end what was seen of each.
+//! The program `stix_hunt`: matches many indicators over one log. The indicators come from a file,
+//! or from the first bundle of the input. Each hit is written before the next line is read, and a
+//! report of sightings at the end.
 #![tactic(auto)]
 
 use command_hunt::run_hunt;

@@ -38,7 +38,7 @@ one_identifier s a b p q =
     same_id a b (same_front s a.kind p.uuid b.kind q.uuid p.cut q.cut)
     (one_number q.uuid a.number b.number (subst (λ u. IsUuidOf u a.number) (same_last s a.kind p.uuid b.kind q.uuid p.cut q.cut) p.number) q.number)
 
--- a text that names an identifier is refused for want of memory alone
+-- a text that names an identifier is refused only for lack of memory
 pub not_refused : (s : List ℕ) (a : Id) (e : IdRefusal) → IsTextOf s a → IsRefused s e → e ≡ NoMemory
 not_refused s a NoSeparator p q = absurd (q (a.kind, p.uuid, p.cut))
 not_refused s a BadUuid p q = absurd (q.3 (a.number, subst (λ u. IsUuidOf u a.number) (same_last s a.kind p.uuid q.0 q.1 p.cut q.2) p.number))

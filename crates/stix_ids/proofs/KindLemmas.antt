@@ -1,5 +1,5 @@
--- The prefixes that begin a kind are those whose bytes all fit their places: any such prefix goes on to
--- a kind. So where the bytes stop to fit is where a refusal points.
+-- The prefixes that begin a kind are those whose bytes all fit their places: any such prefix extends to
+-- a kind. So where the bytes stop fitting is where a refusal points.
 use Rattle.std.proofs.Common.{◌≡◌, ◌≢◌, ℕ, zero, suc, ◌+◌, ◌-◌, ◌<◌, ◌≤◌, ⊎_elim, inl, List, [], ◌∷◌, ◌++◌, length, take, get_or, slice_index, All, refl, sym, ap, ◌∙◌, subst, arith, length-append}
 use Rattle.std.proofs.lemmas.Bool.{cases_lt}
 use Rattle.std.proofs.lemmas.List.{append-nil, take_all, get_or_append_left, get_or-append_right, get_or-take, get_or_default, length-take-le}
@@ -45,7 +45,7 @@ letter_is b e = inl (omega arith, omega arith)
 letters_all : All IsKindByte letters
 letters_all k d l = letter_is (get_or letters k d) (get_or_default letters k d 0 l ∙ letter_at k l)
 
--- a front goes on with three letters
+-- a front continues with three letters
 with_letters : (p : List ℕ) → IsFront p → length p < 3 → IsKind (p ++ letters)
 with_letters p f l =
     let long = length-append p letters in
@@ -95,7 +95,7 @@ front_from_fits s n l fits =
           (fits (k + 1) (omega arith)).hyphen (omega arith) (ap (λ i. get_or s i 0) back ∙ sym (get_or-take n s k 0 (omega arith)) ∙ e) (sym (get_or-take n s (k + 1) 0 (omega arith)) ∙ g);
     }
 
--- where the bytes stop to fit is the longest prefix that begins a kind
+-- where the bytes stop fitting is the longest prefix that begins a kind
 pub longest_prefix : (s : List ℕ) (n : ℕ) → n ≤ length s → ((k : ℕ) → k < n → FitsAt s k) → (n < length s → ¬ FitsAt s n) → IsLongestKindPrefix s n
 longest_prefix s n l fits stops = record {
   within = l;

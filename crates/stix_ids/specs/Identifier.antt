@@ -1,5 +1,5 @@
 -- Identifiers of STIX 2.1, section 2.9: `object-type "--" UUID`. An identifier is its kind and the
--- number of its UUID. Of the bytes, 45 is `-`.
+-- number of its UUID. Byte 45 is `-`.
 use Rattle.std.specs.Prelude.{◌≡◌, ℕ, ◌^◌, ◌<◌, List, ◌∷◌, ◌++◌, length}
 use Rattle.stix_ids.specs.declared.id.Id.{Id}
 use Rattle.stix_ids.specs.Kind.{IsKind}
@@ -10,7 +10,7 @@ pub record IsCut (text front last : List ℕ) : Type 0 where
   pub long : length last ≡ 36
   pub parts : text ≡ front ++ 45 ∷ 45 ∷ last
 
--- `--` stands before the last 36 bytes
+-- `--` precedes the last 36 bytes
 abbrev pub HasSeparator : List ℕ → Type 0
 HasSeparator text = (front last : List ℕ) × IsCut text front last
 

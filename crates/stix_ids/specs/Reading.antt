@@ -1,4 +1,4 @@
--- Why a text is not read as an identifier, in the order in which the reasons are told.
+-- Why a text isn't read as an identifier, in the order in which the reasons are reported.
 use Rattle.std.specs.Prelude.{ℕ, List}
 use Rattle.stix_ids.specs.declared.refusal.IdRefusal.{IdRefusal}
 use Rattle.stix_ids.specs.declared.refusal.IdRefusal.TheVariants.{NoSeparator, BadUuid, BadKind, NoMemory}
@@ -6,11 +6,11 @@ use Rattle.stix_ids.specs.Kind.{IsKind, IsLongestKindPrefix}
 use Rattle.stix_ids.specs.Uuid.{IsUuid}
 use Rattle.stix_ids.specs.Identifier.{IsCut, HasSeparator, IsIdText}
 
--- the text has the separator, with a front and 36 bytes of which the fact holds
+-- the text has the separator, with a front and 36 bytes that meet the condition
 abbrev pub HasSeparatorWhere : (List ℕ → List ℕ → Type 0) → List ℕ → Type 0
 HasSeparatorWhere P text = (front last : List ℕ) × IsCut text front last × P front last
 
--- why the text is not read: memory may run out only where there is an identifier to keep
+-- why the text isn't read: memory may run out only if there is an identifier to keep
 abbrev pub IsRefused : List ℕ → IdRefusal → Type 0
 IsRefused text NoSeparator = ¬ HasSeparator text
 IsRefused text BadUuid = HasSeparatorWhere (λ front last. ¬ IsUuid last) text

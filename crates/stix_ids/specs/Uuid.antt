@@ -1,6 +1,6 @@
--- UUIDs of RFC 4122, section 3, in hyphenated form: 32 hex digits of a number of 128 bits, the highest
--- first, with a hyphen after the 8th, the 12th, the 16th and the 20th. Digits of either case are read,
--- and lower-case digits are written. Every number is taken, of whatever version.
+-- UUIDs of RFC 4122, section 3, in hyphenated form: 32 hex digits of a 128-bit number, the highest
+-- first, with a hyphen after the 8th, the 12th, the 16th and the 20th. Digits of either case are
+-- read, and lower-case digits are written. UUIDs of every version are accepted.
 use Rattle.std.specs.Prelude.{◌≡◌, ℕ, ◌^◌, ◌<◌, List}
 use Rattle.std.specs.Int.{to_be_bytes, w128}
 use Rattle.std.specs.Str.{str_to_ascii_lowercase}

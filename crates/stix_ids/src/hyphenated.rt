@@ -3,11 +3,11 @@ ghost use Rattle.stix_ids.specs.Uuid.{IsUuidOf, IsUuid, uuid_text};
 
 use uuid::Uuid;
 
-/// How many bytes a UUID has in hyphenated form.
+/// The length of a UUID in hyphenated form, in bytes.
 const UUID_LENGTH: usize = 36;
 
-/// The number of the UUID that a text is in hyphenated form (RFC 4122, section 3), in digits of either
-/// case. Takes no memory.
+/// The number of a UUID in hyphenated form (RFC 4122, section 3), with digits of either case. Any
+/// version of UUID is accepted. Allocates nothing.
 pub fn read_uuid(text: &str) -> Option<u128>
     ensures some { IfSome result (IsUuidOf text.now) }
     ensures none { IfNone result (¬ IsUuid text.now) }
@@ -20,7 +20,7 @@ pub fn read_uuid(text: &str) -> Option<u128>
     }
 }
 
-/// The number of the UUID that 36 bytes are in hyphenated form, in digits of either case.
+/// The number of a UUID in hyphenated form of 36 bytes, with digits of either case.
 pub(crate) fn read_number(bytes: &[u8]) -> Option<u128>
     requires { length bytes.now ≡ 36 }
     ensures some { IfSome result (IsUuidOf bytes.now) }
@@ -32,7 +32,7 @@ pub(crate) fn read_number(bytes: &[u8]) -> Option<u128>
     }
 }
 
-/// Writes the number as a UUID in hyphenated form, in lower-case digits.
+/// Writes a number as a UUID in hyphenated form, with lower-case digits.
 pub fn write_uuid<'b>(number: u128, buffer: &'b mut [u8; 36]) -> &'b str
     ensures { result.now ≡ uuid_text number }
 {

@@ -1,6 +1,6 @@
 use flow_values::Name;
 
-/// An identifier: the kind of the object that it names, and the number of its UUID.
+/// An identifier, owned: the object type (`kind`) and the 128-bit number of its UUID.
 #[derive(Debug, Drop)]
 pub struct Id {
     pub kind: Name,

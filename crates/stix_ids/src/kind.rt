@@ -1,3 +1,6 @@
+//! A scanner for kinds with one byte of state, the previous byte. Every prefix that it accepts can
+//! be extended to a kind, so the offset where it stops is the longest viable prefix.
+
 ghost use Rattle.std.specs.Prelude.{◌≡◌, ◌≢◌, ◌↔◌, IsTrue, IsOk, IfErr};
 ghost use Rattle.stix_ids.specs.Kind.{IsKind, IsKindByte, IsLongestKindPrefix};
 
@@ -5,8 +8,8 @@ const LEAST_LENGTH: usize = 3;
 
 const GREATEST_LENGTH: usize = 250;
 
-/// Whether the text is a kind: the name of an object type. Where it is none, the number is how many
-/// of its bytes begin a kind.
+/// Checks a kind, the name of an object type (STIX 2.1, section 3.1). The error is the length of
+/// the longest prefix that some kind begins with.
 pub fn read_kind(text: &str) -> Result<(), usize>
     ensures ok { IsOk result ↔ IsKind text.now }
     ensures err { IfErr result (IsLongestKindPrefix text.now) }
@@ -14,7 +17,7 @@ pub fn read_kind(text: &str) -> Result<(), usize>
     check_kind(text.as_bytes())
 }
 
-/// The same of bytes, which need not be text.
+/// Checks a kind given as bytes, which needn't be UTF-8.
 fn check_kind(bytes: &[u8]) -> Result<(), usize>
     ensures ok { IsOk result ↔ IsKind bytes.now }
     ensures err { IfErr result (IsLongestKindPrefix bytes.now) }
@@ -26,7 +29,7 @@ fn check_kind(bytes: &[u8]) -> Result<(), usize>
     Ok(())
 }
 
-/// How many bytes from the start begin a kind.
+/// The length of the longest prefix that some kind begins with.
 fn longest_prefix_length(bytes: &[u8]) -> usize
     ensures { IsLongestKindPrefix bytes.now result }
 {
@@ -42,8 +45,8 @@ fn longest_prefix_length(bytes: &[u8]) -> usize
     end
 }
 
-/// Whether the byte may stand in a kind, after the byte `before`. Letters are told first, since most
-/// bytes are letters.
+/// Whether `byte` may follow the byte `before` in a kind. Tests for letters first, since most bytes
+/// are letters.
 fn may_follow(before: u8, byte: u8) -> bool
     ensures { IsTrue result ↔ (IsKindByte byte × (before ≡ 45 → byte ≢ 45)) }
 {

@@ -1,4 +1,4 @@
-//! What follows from the definitions: the contracts are the laws, and the functions do nothing.
+//! Consequences of the definitions: each contract is a theorem, and its function does nothing.
 
 ghost use Rattle.std.specs.Prelude.{◌≡◌, ℕ, List};
 ghost use Rattle.stix_ids.specs.declared.id.Id.{Id};

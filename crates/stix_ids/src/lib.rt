@@ -1,6 +1,15 @@
-//! Identifiers of STIX 2.1 (section 2.9): a kind (the name of an object type, section 3.1), `--` and
-//! a UUID of RFC 4122 (section 3) in hyphenated form. They are read from text, exactly or with the
-//! reason why not, compared with a text without memory, and written as their one canonical text.
+//! Identifiers of STIX 2.1, section 2.9: a kind (the name of an object type, section 3.1), `--` and
+//! a UUID of RFC 4122 in hyphenated form. `read_id` returns an owned `Id`, or the exact reason why
+//! the text isn't one. `IdRef` borrows from the text and allocates nothing. `write_id` gives the
+//! one canonical text.
+//!
+//! `Pick` is the `match[version]` of TAXII 2.1, section 3.4.
+//!
+//! ```ignore
+//! let id = read_id(alloc, "tool--8e2e2d2b-17d4-4cbf-938f-98ee46b3cd3f")?;
+//! assert_eq!(id.kind.as_str(), "tool");
+//! let text = write_id(alloc, &id)?;
+//! ```
 #![tactic(auto)]
 
 mod hyphenated;

@@ -9,10 +9,10 @@ use crate::IdRefusal;
 use crate::hyphenated::read_number;
 use crate::kind::read_kind;
 
-/// How many bytes the separator and the UUID have.
+/// The length of `--` and a UUID, in bytes.
 pub(crate) const SUFFIX_LENGTH: usize = 38;
 
-/// An identifier that lies in a text: its kind, lent, and the number of its UUID.
+/// An identifier borrowed from a text: its kind, and the number of its UUID.
 #[derive(Clone, Copy, Debug, PartialEq, Eq)]
 pub struct IdRef<'a> {
     pub kind: &'a str,
@@ -20,12 +20,12 @@ pub struct IdRef<'a> {
 }
 
 impl<'a> IdRef<'a> {
-    /// The parts of the identifier that the text is, or why it is none. Takes no memory, and never
-    /// answers that it wants some.
+    /// Reads an identifier without an allocation, so it never returns `NoMemory`.
     pub fn read(text: &'a str) -> Result<IdRef<'a>, IdRefusal>
         ensures ok { IfOk result (λ parts. IsTextOf text.now (id_of parts)) }
         ensures err { IfErr result (λ refusal. (refusal ≢ NoMemory) × IsRefused text.now refusal) }
-        ensures named { (id : Id) → IsTextOf text.now id → IsOkAnd result (λ parts. id_of parts ≡ id) }
+        ensures named { (id : Id) → IsTextOf text.now id
+            → IsOkAnd result (λ parts. id_of parts ≡ id) }
     {
         let Some((kind, last)) = split_at_separator(text) else {
             return Err(IdRefusal::NoSeparator);
@@ -40,7 +40,7 @@ impl<'a> IdRef<'a> {
     }
 }
 
-/// What stands before the separator and the 36 bytes behind it.
+/// Splits a text into what precedes the `--` and the last 36 bytes, which follow it.
 fn split_at_separator(text: &str) -> Option<(&str, &[u8])>
     ensures some { IfSome result (λ cut. IsCut text.now cut.0.now cut.1.now) }
     ensures none { IfNone result (¬ HasSeparator text.now) }

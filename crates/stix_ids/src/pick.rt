@@ -1,4 +1,4 @@
-/// Which versions of an object are asked for (`match[version]` of TAXII 2.1, section 3.4).
+/// The versions of an object that a client requests (`match[version]` of TAXII 2.1, section 3.4).
 #[derive(Clone, Copy, Debug, PartialEq, Eq)]
 pub enum Pick {
     /// The latest version.
@@ -7,6 +7,6 @@ pub enum Pick {
     First,
     /// Every version.
     All,
-    /// The version of this time, in microseconds since 1970.
+    /// The version of this `modified` time, in microseconds since 1970.
     At(i64),
 }

@@ -10,12 +10,15 @@ use crate::{Id, IdRefusal};
 use flow_values::Name;
 use std::alloc::Global;
 
-/// The identifier that the text is: a kind, `--` and a UUID in hyphenated form, with hex digits of
-/// either case. A text that is no identifier's is refused as such also without memory.
+/// Reads an identifier: a kind, `--` and a UUID in hyphenated form, with hex digits of either case.
+/// `NoMemory` only if the text is an identifier: a bad text is reported as such even without
+/// memory.
 pub fn read_id(alloc: Global, text: &str) -> Result<Id, IdRefusal>
     ensures ok { IfOk result (IsTextOf text.now) }
     ensures err { IfErr result (IsRefused text.now) }
+    // Completeness: every identifier is accepted, unless memory runs out.
     ensures named { (id : Id) → IsTextOf text.now id → (result ≡ Ok id) ⊎ (result ≡ Err NoMemory) }
+    // The refusal is exact: a refusal that applies to the text is the one returned.
     ensures refused { (refusal : IdRefusal) → refusal ≢ NoMemory → IsRefused text.now refusal
         → result ≡ Err refusal }
 {
@@ -27,7 +30,7 @@ pub fn read_id(alloc: Global, text: &str) -> Result<Id, IdRefusal>
     })
 }
 
-/// Whether the text reads as an identifier of the kind. Takes no memory.
+/// Whether the text is an identifier of the kind. Allocates nothing.
 pub fn is_of_kind(text: &str, kind: &str) -> bool
     ensures { IsTrue result ↔ IsOfKind text.now kind.now }
 {
@@ -37,7 +40,7 @@ pub fn is_of_kind(text: &str, kind: &str) -> bool
     }
 }
 
-/// Whether the text reads as the identifier.
+/// Whether the text is this identifier. Allocates nothing.
 pub fn is_text_of(id: &Id, text: &str) -> bool
     ensures { IsTrue result ↔ IsTextOf text.now id.now }
 {

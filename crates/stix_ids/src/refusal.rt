@@ -1,19 +1,20 @@
 use flow_values::NoMemory;
 use thiserror::Error;
 
-/// Why a text was not read as an identifier.
+/// Why a text isn't an identifier.
 #[derive(Clone, Copy, Debug, PartialEq, Eq, Error)]
 pub enum IdRefusal {
-    /// No `--` stands before the last 36 bytes, or there are fewer than 38 bytes.
+    /// The last 36 bytes don't follow a `--`, or the text has fewer than 38 bytes.
     #[error("no `--` before the last 36 bytes")]
     NoSeparator,
-    /// The last 36 bytes are no UUID in hyphenated form.
+    /// The last 36 bytes aren't a UUID in hyphenated form.
     #[error("the last 36 bytes are no UUID")]
     BadUuid,
-    /// What stands before the separator is no kind: only its first `at` bytes begin one.
+    /// What precedes the `--` isn't a kind. Its longest prefix that begins some kind has `at`
+    /// bytes.
     #[error("not a kind after {at} bytes")]
     BadKind { at: usize },
-    /// The text is an identifier's, and memory ran out.
+    /// The text is an identifier, and memory ran out.
     #[error("out of memory")]
     NoMemory,
 }

@@ -8,7 +8,7 @@ use crate::parts::SUFFIX_LENGTH;
 use flow_values::{NoMemory, Text};
 use std::alloc::Global;
 
-/// The canonical text of the identifier, in lower-case digits. Memory is taken once.
+/// The canonical text of the identifier, with lower-case digits. Allocates once.
 pub fn write_id(alloc: Global, id: &Id) -> Result<Text, NoMemory>
     requires { IsKind id.now.kind }
     ensures { IfOk result (λ text. IsCanonicalTextOf text id.now) }

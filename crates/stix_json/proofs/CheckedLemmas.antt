@@ -85,7 +85,7 @@ fields_bad levels done d name old new f are bad noted =
       good = λ none. absurd (still_some old.first_error (first_error_under name f) (sym noted ∙ none));
     }
 
--- ---- members that are insert among others
+-- ---- members that are inserted among others
 
 insert_by : (levels : ℕ) (o : Ordering) (k l : List ℕ) (d e : Data) (ms more : Members) (g h : RawMember) (gs news : List RawMember)
     → g.name ≡ k → IsCheckedAs levels d g.checked → AreRawMembers levels (member l e ms) (h ∷ gs) → AreRawMembers levels more news

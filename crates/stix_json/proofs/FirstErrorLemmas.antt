@@ -34,7 +34,7 @@ sooner_none None = refl
 sooner_none (Some (Deep location)) = refl
 sooner_none (Some (InvalidValue value_error)) = refl
 
--- ---- one more behind the others
+-- ---- one more after the others
 
 next_place : (at n : ℕ) → (at + 1) + n ≡ at + suc n
 next_place at n = omega arith
@@ -62,7 +62,7 @@ members_first_error_push levels (first ∷ ms) m =
 
 -- ---- a whole value
 
--- of what is too deep and what is invalid value, what counts
+-- of what is too deep and what is an invalid value, what counts
 abbrev graver : Option Location → Option ValueError → Option FirstError
 graver None None = None
 graver None (Some value_error) = Some (InvalidValue value_error)

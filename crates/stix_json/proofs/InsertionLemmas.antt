@@ -1,4 +1,4 @@
--- What has names, insert in one after another: of those that have one name the last stays, in the order of the names.
+-- What has names, inserted one after another: of those that have one name the last stays, in the order of the names.
 use Rattle.std.proofs.Common.{◌≡◌, IsTrue, Bool, true, false, cond, if◌then◌else◌, not, ◌&&◌, ℕ, suc, ◌+◌, ◌-◌, ◌<◌, List, [], ◌∷◌, ◌++◌, length, get_or, slice_get, option_to_list, IsSome, filter, Option, Some, None, Ordering, Less, Equal, Greater, nat_cmp, is_eq, is_lt, arith, bytes_eq, true≢false, unwrap_or, append-nil, length-append, refl, sym, ap, subst, ◌∙◌}
 use Rattle.std.proofs.lemmas.Cmp.{nat_list_cmp_total, tied_itself}
 use Rattle.std.proofs.lemmas.List.MinMax.{ranks_by}
@@ -29,7 +29,7 @@ same_name k l test = (bytes_eq-Decides k l).0 test
 itself : (k : List ℕ) → bytes_eq k k ≡ true
 itself k = (bytes_eq-Decides k k).1 refl
 
--- a name behind another is not the same
+-- a name after another is not the same
 other_behind : (k l : List ℕ) → slice_cmp nat_cmp k l ≡ Less → bytes_eq l k ≡ false
 other_behind k l less = sym (is_eq-slice_cmp l k) ∙ ap is_eq (turned_back k l less)
 
@@ -62,7 +62,7 @@ placed_by : {X : Type 0} (x y : X) (others : Option X) (b : Bool) → (if b then
 placed_by x y others true = refl
 placed_by x y others false = refl
 
--- a choice behind another option
+-- a choice after another option
 or_chain : {X : Type 0} (x : X) (last found : Option X) (b : Bool) → option_or last (if b then Some x else found) ≡ option_or (option_or last (if b then Some x else None)) found
 or_chain x None found true = refl
 or_chain x None found false = refl
@@ -160,7 +160,7 @@ module _ {X : Type 0} (name : X → List ℕ) where
       let first : Option X = if bytes_eq (name y) q then Some y else None in
       ap (λ (found : Option X). option_or found first) rest ∙ pushed_by x first (last_named name q ys) (bytes_eq (name x) q)
 
-  -- what a name finds once one more is insert in
+  -- what a name finds once one more is inserted
   found_insert : (q : List ℕ) (x : X) (ys : List X) → NamesAscend name ys → last_named name q (insert_named name x ys) ≡ (if bytes_eq (name x) q then Some x else last_named name q ys)
   found_insert q x [] ascends = refl
   found_insert q x (y ∷ ys) ascends =
@@ -173,7 +173,7 @@ module _ {X : Type 0} (name : X → List ℕ) where
       ∙ ap (option_or (last_named name q xs)) (found_insert q x found ascends)
       ∙ or_chain x (last_named name q xs) (last_named name q found) (bytes_eq (name x) q)
 
-  -- a name finds among those insert in the last that has it
+  -- a name finds among those inserted the last that has it
   pub last_insert : (q : List ℕ) (xs : List X) → last_named name q (insert_all name xs []) ≡ last_named name q xs
   last_insert q xs = found_all q xs [] tt ∙ or_none (last_named name q xs)
 
@@ -304,12 +304,12 @@ module _ {X : Type 0} (name : X → List ℕ) where
   all_before x (y ∷ z ∷ zs) ascends behind other =
       let rest = all_before x (z ∷ zs) ascends.1 behind.1 other in (nat_list_cmp_total.trans (name y) (name z) (name x) ascends.0 rest.0, rest)
 
-  -- one that has another name than the last goes behind them all
+  -- one that has another name than the last goes after them all
   insert_end : (x : X) (ys : List X) → NamesAscend name ys → BeforeNone (name x) ys → ends_with name (name x) ys ≡ false → insert_named name x ys ≡ ys ++ x ∷ []
   insert_end x ys ascends behind other =
       ap (insert_named name x) (sym (append-nil ys)) ∙ insert_past x ys [] (all_before x ys ascends behind other)
 
-  -- ---- what holds of each holds of those that are insert in
+  -- ---- what holds of each holds of those that are inserted
 
   holds_by : (P : X → Type 0) (x y : X) (ys more : List X) → P x → P y → AllByRecursion P ys → AllByRecursion P more → (o : Ordering)
       → AllByRecursion P (match_ordering o (x ∷ y ∷ ys) (x ∷ ys) (y ∷ more))
@@ -338,7 +338,7 @@ module _ {X : Type 0} (name : X → List ℕ) where
       let far : by_name (get_or all (suc (length ys)) y) y ≡ false = sorted_far by_name (ranks_by nat_list_cmp_total name) all up 0 (suc (length ys)) y (omega arith) within in
       (subst (λ (z : X). by_name z y ≡ false) (at_middle ys x rest y) far, before_none ys x rest (tail_up y (ys ++ x ∷ rest) up))
 
-  -- the next goes behind those that were insert in, where the last has another name
+  -- the next goes after those that were inserted, where the last has another name
   pub insert_next : (done : List X) (x : X) (rest : List X) → NamesAreSorted name (done ++ x ∷ rest) → ends_with name (name x) (insert_all name done []) ≡ false
       → insert_all name (done ++ x ∷ []) [] ≡ insert_all name done [] ++ x ∷ []
   insert_next done x rest up other =

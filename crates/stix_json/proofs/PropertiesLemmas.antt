@@ -25,7 +25,7 @@ property_value_pushed name ps p is =
 pub last_passed : (name : List ℕ) (ps : List Property) (p : Property) → bytes_eq p.name name ≡ false → last_named property_name name (ps ++ p ∷ []) ≡ last_named property_name name ps
 last_passed name ps p is = last_pushed property_name name ps p ∙ ap (λ (b : Bool). if b then Some p else last_named property_name name ps) is
 
--- with the one behind the first so many
+-- with the one after the first this many
 pub property_value_found : (name : List ℕ) (ps : List Property) (i : ℕ) (p : Property) → i < length ps → p ≡ get_or ps i p → bytes_eq p.name name ≡ true
     → property_value_of name (take (i + 1) ps) ≡ Some p.property_value
 property_value_found name ps i p within is same =
@@ -38,7 +38,7 @@ property_value_passed name ps i p within is other =
 
 -- ---- what an object has under a name
 
--- nothing stands for no items
+-- nothing represents no items
 no_list_by : (found : Option Data) (p : Option Property) → MayBePropertyValue found p → None ≡ option_map (λ (property : Property). property.property_value) p → list_or_none found ≡ Some no_items
 no_list_by None None property_value is = refl
 no_list_by None (Some p) property_value is = absurd property_value

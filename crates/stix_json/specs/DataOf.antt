@@ -1,4 +1,4 @@
--- The JSON value that a Json is (RFC 8259, section 3).
+-- The JSON value of a `Json`, as `serde_json`'s data model has it (RFC 8259, section 3).
 use Rattle.std.specs.Prelude.{ℕ, List, [], ◌∷◌}
 use Rattle.serde_json.specs.Data.{Data, boolean, number, string, array, object, Members, no_members, member}
 use Rattle.serde_json.specs.Find.{of_integer}
@@ -12,12 +12,12 @@ pub record Member : Type 0 where
   pub name : List ℕ
   pub value : Data
 
--- these members in a row
+-- the members, in order
 abbrev pub members_of : List Member → Members
 members_of [] = no_members
 members_of (m ∷ ms) = member m.name m.value (members_of ms)
 
--- one level, whose items and fields are values already
+-- one level of the value, whose items and fields are converted already
 abbrev pub json_level : Json-F Data Member → Data
 json_level (Json-F.Bool truth) = boolean truth
 json_level (Json-F.Integer whole) = number (of_integer whole)
@@ -28,10 +28,10 @@ json_level (Json-F.Object fields) = object (members_of fields)
 abbrev pub field_level : Field-F Data Member → Member
 field_level field = record { name = field.name; value = field.value }
 
--- the value that a Json is
+-- the value of a `Json`
 abbrev pub data_of : Json → Data
 data_of = fold-Json Data Member json_level field_level
 
--- the member that a field is
+-- the member of a field
 abbrev pub field_data : Field → Member
 field_data field = record { name = field.name; value = data_of field.value }

@@ -1,4 +1,4 @@
--- The list under a name of an object, and each entry checked by itself.
+-- The list at a property of an object, with each entry checked on its own.
 use Rattle.std.specs.Prelude.{◌≡◌, ⊤, ℕ, List, [], ◌∷◌, Option, Some, None}
 use Rattle.serde_json.specs.Data.{Data, null, boolean, number, string, array, object, Items, no_items, item}
 use Rattle.serde_json.specs.Find.{get_member}
@@ -7,7 +7,7 @@ use Rattle.stix_json.specs.declared.refusal.JsonRefusal.{JsonRefusal}
 use Rattle.stix_json.specs.declared.refusal.JsonRefusal.TheVariants.{NotJson, TooDeep, NotWhole, Null, OutOfRange, NotList, NoMemory}
 use Rattle.stix_json.specs.Reading.{IsValueOf, HasNoValue, IsEntryFor}
 
--- the items, where the value is a list
+-- the items, if the value is a list
 abbrev pub list_of : Data → Option Items
 list_of null = None
 list_of (boolean b) = None
@@ -16,12 +16,12 @@ list_of (string s) = None
 list_of (array ds) = Some ds
 list_of (object ms) = None
 
--- no value stands for no items
+-- an absent value counts as an empty list
 abbrev pub list_or_none : Option Data → Option Items
 list_or_none None = Some no_items
 list_or_none (Some d) = list_of d
 
--- the items under a name, where the value is an object with a list there or without that name
+-- the items at a property: of an object with a list there, or without the property
 abbrev pub list_under : List ℕ → Data → Option Items
 list_under name null = None
 list_under name (boolean b) = None
@@ -30,14 +30,14 @@ list_under name (string s) = None
 list_under name (array ds) = None
 list_under name (object ms) = list_or_none (get_member name ms)
 
--- each entry is its item checked by itself
+-- each entry is the outcome of checking its item on its own
 abbrev pub AreEntriesFor : Items → List Entry → Type 0
 AreEntriesFor no_items [] = ⊤
 AreEntriesFor no_items (e ∷ es) = ⊥
 AreEntriesFor (item d ds) [] = ⊥
 AreEntriesFor (item d ds) (e ∷ es) = IsEntryFor d e × AreEntriesFor ds es
 
--- the entries of the list that some bytes have under a name
+-- the entries of the list at a property of these bytes
 pub record AreEntriesOf (bytes name : List ℕ) (entries : List Entry) : Type 0 where
   pub whole : Data
   pub list : Items
@@ -45,7 +45,7 @@ pub record AreEntriesOf (bytes name : List ℕ) (entries : List Entry) : Type 0 
   pub under : list_under name whole ≡ Some list
   pub checked : AreEntriesFor list entries
 
--- the bytes have no list under a name
+-- the bytes have no list at a property
 pub record HasNoList (bytes name : List ℕ) : Type 0 where
   pub whole : Data
   pub value : IsValueOf bytes whole

@@ -1,5 +1,5 @@
--- A page of a collection as a client reads it (TAXII 2.1, section 3.7): whether there is more behind it, what asks for that,
--- and its objects, each checked by itself.
+-- The envelope of TAXII 2.1, section 3.7, as a client reads it: whether more follows, the cursor of
+-- the next page, and the objects, each checked on its own.
 use Rattle.std.specs.Prelude.{◌≡◌, ◌⊎◌, ⊤, ℕ, List, Bool, true, false, codes, Option, Some, None, option_map}
 use Rattle.serde_json.specs.Data.{Data, Items}
 use Rattle.serde_json.specs.Find.{get, as_bool}
@@ -10,21 +10,22 @@ use Rattle.stix_json.specs.Properties.{text_at}
 use Rattle.stix_json.specs.Entries.{list_under, AreEntriesFor}
 use Rattle.stix_json.specs.Reading.{IsValueOf, HasNoValue}
 
--- a flag, which is false where it is absent; none where something else stands there
+-- a boolean, false if it is absent; none for another value
 abbrev pub flag_or_false : Option Data → Option Bool
 flag_or_false None = Some false
 flag_or_false (Some d) = as_bool d
 
--- whether a value says that there is more
+-- the flag `more` of a value
 abbrev pub more_in : Data → Option Bool
 more_in d = flag_or_false (get (codes "more") d)
 
--- what asks for the next page: a text where there is more, and nothing elsewhere; none where there is more and no text
+-- the cursor of the next page: a text if there is more, else nothing; none if there is more and no
+-- text
 abbrev pub next_in : Bool → Data → Option (Option (List ℕ))
 next_in false d = Some None
 next_in true d = option_map Some (text_at (codes "next") d)
 
--- the page that some bytes are
+-- the envelope of these bytes
 pub record IsEnvelopeOf (bytes : List ℕ) (envelope : Envelope) : Type 0 where
   pub whole : Data
   pub list : Items
@@ -34,12 +35,12 @@ pub record IsEnvelopeOf (bytes : List ℕ) (envelope : Envelope) : Type 0 where
   pub more : more_in whole ≡ Some envelope.more
   pub next : next_in envelope.more whole ≡ Some envelope.next
 
--- a value is no page: it has no list of objects, no flag that says whether there is more, or says that there is and not what
--- asks for it
+-- a value isn't an envelope: it has no list of objects, or no valid `more`, or `more` is true and
+-- there is no text `next`
 abbrev pub IsNoPage : Data → Type 0
 IsNoPage d = (list_under (codes "objects") d ≡ None) ⊎ (more_in d ≡ None) ⊎ ((more_in d ≡ Some true) × (next_in true d ≡ None))
 
--- why bytes are no page; memory may run out at any time
+-- why bytes aren't an envelope; memory may run out at any time
 abbrev pub HasNoEnvelopeAs : List ℕ → JsonRefusal → Type 0
 HasNoEnvelopeAs bytes NotJson = HasNoValue bytes
 HasNoEnvelopeAs bytes (TooDeep path) = ⊥

@@ -1,11 +1,11 @@
--- In each object the names ascend strictly by their bytes, so that none stands twice.
+-- In each object the names are strictly ascending by their bytes, so they are unique.
 use Rattle.std.specs.Prelude.{◌≡◌, ℕ, List, ⊤}
 use Rattle.std.specs.Ordering.{nat_cmp}
 use Rattle.std.specs.declared.cmp.Ordering.TheVariants.{Less}
 use Rattle.std.specs.Cmp.Lexicographic.{slice_cmp}
 use Rattle.serde_json.specs.Data.{Data, null, boolean, number, string, array, object, Items, no_items, item, Members, no_members, member}
 
--- a name comes before the first of these
+-- a name precedes the first of these members
 abbrev pub IsNameBefore : List ℕ → Members → Type 0
 IsNameBefore name no_members = ⊤
 IsNameBefore name (member next d ms) = slice_cmp nat_cmp name next ≡ Less

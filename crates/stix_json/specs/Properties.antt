@@ -3,10 +3,10 @@ use Rattle.std.specs.Prelude.{ℕ, List, Option, option_and_then}
 use Rattle.serde_json.specs.Data.{Data, Items}
 use Rattle.serde_json.specs.Find.{get, as_str, as_array}
 
--- the text of a property, where it is one
+-- the text of a property, if it is one
 abbrev pub text_at : List ℕ → Data → Option (List ℕ)
 text_at name d = option_and_then as_str (get name d)
 
--- the items of a property, where it is a list
+-- the items of a property, if it is a list
 abbrev pub list_at : List ℕ → Data → Option Items
 list_at name d = option_and_then as_array (get name d)

@@ -1,4 +1,4 @@
--- The JSON value that some bytes are, the refusal where they are none, and the same of each entry of a list.
+-- The JSON value of some bytes, or their refusal, and likewise for each entry of a list.
 use Rattle.std.specs.Prelude.{◌≡◌, ⊤, ℕ, List, Some, None, IsUtf8}
 use Rattle.serde_json.specs.Data.{Data}
 use Rattle.serde_json.specs.Read.{read}
@@ -11,7 +11,7 @@ use Rattle.stix_json.specs.DataOf.{data_of}
 use Rattle.stix_json.specs.Ordered.{IsOrdered}
 use Rattle.stix_json.specs.Refusal.{refusal_of}
 
--- the bytes are the UTF-8 of a JSON text, and that text is the value
+-- the bytes are UTF-8, and a JSON text of this value
 pub record IsValueOf (bytes : List ℕ) (d : Data) : Type 0 where
   pub text : IsUtf8 bytes
   pub value : read bytes ≡ Some d
@@ -20,13 +20,13 @@ pub record IsValueOf (bytes : List ℕ) (d : Data) : Type 0 where
 abbrev pub HasNoValue : List ℕ → Type 0
 HasNoValue bytes = (d : Data) → ¬ (IsValueOf bytes d)
 
--- the Json is that value, nothing in it is refused, and its names ascend
+-- the Json is this value, it has no error, and its names are ascending
 pub record IsJsonAs (d : Data) (json : Json) : Type 0 where
   pub same : data_of json ≡ d
   pub good : refusal_of d ≡ None
   pub ordered : IsOrdered d
 
--- the value is refused so: only for its depth or for a value in it
+-- the refusal of the value: only for its depth or for a value in it
 abbrev pub IsRefusalOf : Data → JsonRefusal → Type 0
 IsRefusalOf d NotJson = ⊥
 IsRefusalOf d (TooDeep path) = refusal_of d ≡ Some (TooDeep path)
@@ -36,7 +36,7 @@ IsRefusalOf d (OutOfRange path) = refusal_of d ≡ Some (OutOfRange path)
 IsRefusalOf d NotList = ⊥
 IsRefusalOf d NoMemory = ⊥
 
--- a value checked by itself
+-- the outcome of checking a value on its own
 abbrev pub IsEntryFor : Data → Entry → Type 0
 IsEntryFor d (Good json) = IsJsonAs d json
 IsEntryFor d (Bad refusal) = IsRefusalOf d refusal

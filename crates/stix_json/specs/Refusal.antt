@@ -1,4 +1,5 @@
--- Why a JSON value is refused: it nests too deep, or holds null, a fraction or a number out of range.
+-- Why a JSON value is refused: it nests too deep, or has a null, a fraction or a number out of
+-- range.
 use Rattle.std.specs.Prelude.{ℕ, ◌+◌, ◌&&◌, List, [], ◌∷◌, length, Bool, true, false, nat_lt, nat_le, if◌then◌else◌, ℤ, unsigned_abs, Option, Some, None}
 use Rattle.std.specs.Option.{option_or}
 use Rattle.serde_json.specs.Data.{Data, null, boolean, number, string, array, object}
@@ -8,7 +9,7 @@ use Rattle.stix_json.specs.declared.refusal.JsonRefusal.{JsonRefusal}
 use Rattle.stix_json.specs.declared.refusal.JsonRefusal.TheVariants.{TooDeep, NotWhole, Null, OutOfRange}
 use Rattle.stix_json.specs.Walk.{Visit, walk, path_text}
 
--- the first that is told of these values in turn
+-- the first refusal among these values, in order
 abbrev pub first_reported : (Visit → Option JsonRefusal) → List Visit → Option JsonRefusal
 first_reported tell [] = None
 first_reported tell (v ∷ vs) = option_or (tell v) (first_reported tell vs)
@@ -22,7 +23,7 @@ has_level (string s) = false
 has_level (array ds) = true
 has_level (object ms) = true
 
--- the level of a value in the whole one: each part of its path stands for a list or an object around it
+-- the level of a value in the whole one: each part of its path is a list or an object around it
 abbrev pub level : Visit → ℕ
 level v = length v.parts + 1
 
@@ -30,12 +31,12 @@ level v = length v.parts + 1
 abbrev pub depth_refusal : Visit → Option JsonRefusal
 depth_refusal v = if has_level v.value && nat_lt MAX_LEVELS (level v) then Some (TooDeep (path_text v.parts)) else None
 
--- a number at a path, with its whole number where it is read as one
+-- a number at a path, with its integer if it has one
 abbrev pub number_refusal : List ℕ → Option ℤ → Option JsonRefusal
 number_refusal path None = Some (NotWhole path)
 number_refusal path (Some whole) = if nat_le (unsigned_abs whole) MAX_SAFE_INTEGER then None else Some (OutOfRange path)
 
--- a value at a path that Json doesn't hold
+-- a value at a path that Json can't represent
 abbrev pub value_refusal : List ℕ → Data → Option JsonRefusal
 value_refusal path null = Some (Null path)
 value_refusal path (boolean b) = None
@@ -47,6 +48,6 @@ value_refusal path (object ms) = None
 abbrev pub visit_refusal : Visit → Option JsonRefusal
 visit_refusal v = value_refusal (path_text v.parts) v.value
 
--- the first value that nests too deep, else the first that Json doesn't hold
+-- the first value that nests too deep, else the first that Json can't represent
 abbrev pub refusal_of : Data → Option JsonRefusal
 refusal_of d = option_or (first_reported depth_refusal (walk [] d)) (first_reported visit_refusal (walk [] d))

@@ -1,16 +1,16 @@
--- The values inside a JSON value in walk order, each with the parts of its path: depth first, parents before
--- children, the items of a list in their order, the members of an object as they stand, which is by the bytes
--- of their names where it was read (RFC 8259, sections 4 and 5).
+-- The values inside a JSON value in depth-first preorder, each with the parts of its path. The
+-- items of a list are in their order. The members of an object are in theirs, which after reading
+-- is that of the bytes of their names (RFC 8259, sections 4 and 5).
 use Rattle.std.specs.Prelude.{ℕ, ◌+◌, List, [], ◌∷◌, ◌++◌, decimal}
 use Rattle.std.specs.List.{join_with_byte}
 use Rattle.serde_json.specs.Data.{Data, null, boolean, number, string, array, object, Items, no_items, item, Members, no_members, member}
 
--- a value, and the parts of its path: the names and places on the way to it
+-- a value, and the parts of its path: names and indices
 pub record Visit : Type 0 where
   pub parts : List (List ℕ)
   pub value : Data
 
--- the part for the place of an item, counted from 0: [n]
+-- the part for the index of an item, counted from 0: [n]
 abbrev pub index_part : ℕ → List ℕ
 index_part at = 91 ∷ (decimal at ++ 93 ∷ [])
 
@@ -28,7 +28,7 @@ abbrev mutual
   walk parts (array ds) = record { parts = parts; value = array ds } ∷ walk_items parts 0 ds
   walk parts (object ms) = record { parts = parts; value = object ms } ∷ walk_members parts ms
 
-  -- the items from a place on
+  -- the items from an index on
   pub walk_items : List (List ℕ) → ℕ → Items → List Visit
   walk_items parts at no_items = []
   walk_items parts at (item d ds) = walk (parts ++ index_part at ∷ []) d ++ walk_items parts (at + 1) ds

@@ -13,7 +13,7 @@ use crate::location::Location;
 use crate::{Entry, Json};
 use std::alloc::Global;
 
-/// A value checked by itself: as `Json`, or what stands first against it.
+/// The outcome of checking a value: the `Json`, or the first error in it.
 #[derive(Drop)]
 pub(crate) enum Checked {
     Good(Json),
@@ -21,7 +21,7 @@ pub(crate) enum Checked {
 }
 
 impl Checked {
-    /// The same of a list or an object, where so many levels may stand.
+    /// The outcome for a list or an object, which is an error if no more levels are allowed.
     pub fn within(self, levels: usize) -> Checked
         ensures deep { levels ≡ 0 → result ≡ Bad (TooDeep Here) }
         ensures same { 0 < levels → result ≡ self }
@@ -33,9 +33,10 @@ impl Checked {
         self
     }
 
-    /// The entry of a whole value.
+    /// The entry of a value that stands alone.
     pub fn into_entry(self, alloc: Global) -> Entry
-        ensures { («data» : Data) → IsOrdered «data» → IsCheckedAs LEVELS «data» self → IsEntryFor «data» result }
+        ensures { («data» : Data) → IsOrdered «data» → IsCheckedAs LEVELS «data» self
+            → IsEntryFor «data» result }
     {
         match self {
             Checked::Good(json) => Entry::Good(json),

@@ -10,15 +10,15 @@ use crate::first_error::FirstError;
 use flow_values::{Items, NoMemory};
 use std::alloc::Global;
 
-/// Capacity for so many more items may stay unused.
+/// The number of items for which spare capacity is kept.
 const MAX_SPARE: usize = 3;
 
-/// The items of a list as they come, until something stands against one.
+/// Collects the items of a list, until one has an error.
 #[derive(Drop)]
 pub(crate) struct Elements {
     pub items: Vec<Json>,
     pub first_error: Option<FirstError>,
-    /// How many items came.
+    /// The number of items so far.
     pub len: usize,
 }
 
@@ -29,7 +29,7 @@ impl Elements {
     pub fn new(alloc: Global) -> Result<Elements, NoMemory>
         ensures { IfOk result (λ elements. (levels : ℕ) → AreElements levels [] elements) }
     {
-        // Lists nest, and most have one item: without this each would keep capacity for four.
+        // Lists nest, and most have one item: without this each would allocate room for four.
         let items = Vec::with_capacity(alloc, 1)?;
         Ok(Elements {
             items,
@@ -40,7 +40,8 @@ impl Elements {
 
     /// Adds the next item.
     pub fn push(&mut self, alloc: Global, checked: Checked) -> Result<(), NoMemory>
-        ensures { OnOk result ((levels : ℕ) (done : List Data) («data» : Data) → AreElements levels done self.old → IsCheckedAs levels «data» checked
+        ensures { OnOk result ((levels : ℕ) (done : List Data) («data» : Data)
+            → AreElements levels done self.old → IsCheckedAs levels «data» checked
             → AreElements levels (done ++ «data» ∷ []) self.new) }
     {
         let at = self.len;
@@ -51,11 +52,12 @@ impl Elements {
         }
     }
 
-    /// Adds an item, unless something stands against one.
+    /// Adds an item, unless there was an error.
     fn add(&mut self, item: Json) -> Result<(), NoMemory>
         ensures first_error { self.new.first_error ≡ self.old.first_error }
         ensures len { self.new.len ≡ self.old.len }
-        ensures items { OnOk result (self.old.first_error ≡ None → self.new.items.items ≡ self.old.items.items ++ item ∷ []) }
+        ensures items { OnOk result (self.old.first_error ≡ None
+            → self.new.items.items ≡ self.old.items.items ++ item ∷ []) }
     {
         if self.first_error.is_some() {
             return Ok(());
@@ -64,9 +66,11 @@ impl Elements {
         Ok(())
     }
 
-    /// Notes what stands against the item at that place, if it counts.
+    /// Records the error of the item at index `at`, if it overrides the first one so far.
     fn note(&mut self, alloc: Global, at: usize, first_error: FirstError) -> Result<(), NoMemory>
-        ensures first_error { OnOk result (self.new.first_error ≡ first_of self.old.first_error (Some (first_error_under (index_part at) first_error))) }
+        ensures first_error { OnOk result (self.new.first_error
+            ≡ first_of self.old.first_error
+            (Some (first_error_under (index_part at) first_error))) }
         ensures len { self.new.len ≡ self.old.len }
     {
         if first_error.overrides(&self.first_error) {
@@ -75,9 +79,10 @@ impl Elements {
         Ok(())
     }
 
-    /// The whole list, checked.
+    /// The outcome for the whole list.
     pub fn into_checked(self, alloc: Global) -> Result<Checked, NoMemory>
-        ensures { IfOk result (λ checked. (levels : ℕ) (done : List Data) → AreElements levels done self
+        ensures { IfOk result (λ checked. (levels : ℕ) (done : List Data)
+            → AreElements levels done self
             → IsCheckedAs (suc levels) (array (items_of done)) checked) }
     {
         let Elements {
@@ -92,8 +97,8 @@ impl Elements {
     }
 }
 
-/// The items as they are, in memory of their own size where more than a little would stay unused: values are kept, and these take most
-/// of the memory of one. Copying them costs less than shrinking the memory where it lies.
+/// The items, in a smaller allocation if more than `MAX_SPARE` would stay unused. Values are kept
+/// for long, and lists take most of their memory. A copy costs less than a `realloc`.
 fn shrunk(alloc: Global, items: Vec<Json>) -> Result<Items<Json>, NoMemory>
     ensures { IfOk result (λ copy. copy ≡ items.items) }
 {

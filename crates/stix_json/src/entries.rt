@@ -9,9 +9,11 @@ use crate::{Entry, JsonRefusal};
 use flow_values::Items;
 use std::alloc::Global;
 
-/// The entries of the list that an object has under a name, each checked by itself as by `read_json`:
-/// its levels begin at 1 and its paths at the entry. An absent list is empty. `NotJson` where the
-/// bytes are no JSON, `NotList` where they are no object or have another value under the name.
+/// The entries of the list at a property of an object. Each is checked on its own, as by
+/// `read_json`: its nesting levels begin at 1, and its paths at the entry. An absent list is empty.
+///
+/// `NotJson` if the bytes aren't JSON. `NotList` if they aren't an object, or the property isn't a
+/// list.
 pub fn read_entries(alloc: Global, bytes: &[u8], name: &str) -> Result<Items<Entry>, JsonRefusal>
     ensures ok { IfOk result (λ entries. AreEntriesOf bytes.now name.now entries) }
     ensures err { IfErr result (λ refusal. HasNoEntriesAs bytes.now name.now refusal) }
@@ -20,15 +22,18 @@ pub fn read_entries(alloc: Global, bytes: &[u8], name: &str) -> Result<Items<Ent
     entries_under(alloc, properties, name)
 }
 
-/// The entries of the list under a name. An absent list is empty.
+/// The entries of the list at a property. An absent list is empty; `NotList` for another value.
 pub(crate) fn entries_under(
     alloc: Global,
     properties: Vec<Property>,
     name: &str,
 ) -> Result<Items<Entry>, JsonRefusal>
     ensures ok { IfOk result (λ entries. (ms : Members) → HoldsProperties ms properties.items
-        → (list : DataItems) × (list_under name.now (object ms) ≡ Some list) × AreEntriesFor list entries) }
-    ensures err { IfErr result (λ refusal. (refusal ≡ NotList) × ((ms : Members) → HoldsProperties ms properties.items → list_under name.now (object ms) ≡ None)) }
+        → (list : DataItems) × (list_under name.now (object ms) ≡ Some list)
+        × AreEntriesFor list entries) }
+    ensures err { IfErr result (λ refusal. (refusal ≡ NotList)
+        × ((ms : Members) → HoldsProperties ms properties.items
+        → list_under name.now (object ms) ≡ None)) }
 {
     match take_property_value_under(properties, name) {
         None => Ok(Items::new(alloc)),

@@ -1,6 +1,6 @@
 use crate::{Json, JsonRefusal};
 
-/// A value checked by itself: a JSON value, or why it is none.
+/// An item of a list, checked on its own: a JSON value, or its refusal.
 #[derive(Drop)]
 pub enum Entry {
     Good(Json),

@@ -11,18 +11,18 @@ use crate::{Entry, Json, JsonRefusal};
 use flow_values::{Items, Text};
 use std::alloc::Global;
 
-/// A page of a collection as a client reads it (TAXII 2.1, section 3.7).
+/// A page of a collection, as a client reads it: the envelope of TAXII 2.1, section 3.7.
 #[derive(Drop)]
 pub struct Envelope {
-    /// Whether there are more objects behind this page.
+    /// Whether more objects follow this page.
     pub more: bool,
-    /// What asks for the next page. None where there are no more.
+    /// The cursor of the next page. `None` if no more objects follow.
     pub next: Option<Text>,
-    /// The objects, each checked by itself.
+    /// The objects, each checked on its own.
     pub entries: Items<Entry>,
 }
 
-/// Whether an object says that there is more. None where something else than a flag stands there.
+/// The flag `more`, false if absent. `None` if it isn't a boolean.
 fn more_of(properties: &[Property]) -> Option<bool>
     ensures { (ms : Members) → HoldsProperties ms properties.now → result ≡ more_in (object ms) }
 {
@@ -33,9 +33,10 @@ fn more_of(properties: &[Property]) -> Option<bool>
     }
 }
 
-/// The text under `next`, where there is more.
+/// The text of `next`, if `more` is true. `NotList` if it isn't a text.
 fn next_of(alloc: Global, properties: &[Property], more: bool) -> Result<Option<Text>, JsonRefusal>
-    ensures ok { IfOk result (λ next. (ms : Members) → HoldsProperties ms properties.now → next_in more (object ms) ≡ Some next) }
+    ensures ok { IfOk result (λ next. (ms : Members) → HoldsProperties ms properties.now
+        → next_in more (object ms) ≡ Some next) }
     ensures err { IfErr result (λ refusal. (refusal ≡ OutOfMemory) ⊎ ((refusal ≡ NotList)
         × ((ms : Members) → HoldsProperties ms properties.now → next_in more (object ms) ≡ None))) }
 {
@@ -50,10 +51,11 @@ fn next_of(alloc: Global, properties: &[Property], more: bool) -> Result<Option<
     }
 }
 
-/// The page that some bytes are: its entries as `read_entries` gives those under `objects`, an absent `more`
-/// as false, and `next` where `more` is true. `NotJson` where the bytes are no JSON; `NotList` where they are no
-/// object, have something else than a list under `objects` or a flag under `more`, or where `more` is true and
-/// no text stands under `next`.
+/// Reads an envelope: `objects` as by `read_entries`, `more` (false if absent), and `next` if
+/// `more` is true.
+///
+/// `NotJson` if the bytes aren't JSON. `NotList` if they aren't an object, `objects` isn't a list,
+/// `more` isn't a boolean, or `more` is true and `next` isn't a text.
 pub fn read_envelope(alloc: Global, bytes: &[u8]) -> Result<Envelope, JsonRefusal>
     ensures ok { IfOk result (λ envelope. IsEnvelopeOf bytes.now envelope) }
     ensures err { IfErr result (λ refusal. HasNoEnvelopeAs bytes.now refusal) }

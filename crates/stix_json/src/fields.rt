@@ -11,7 +11,7 @@ use crate::{Field, Json};
 use flow_values::{Items, NoMemory};
 use std::alloc::Global;
 
-/// The fields of an object, until something stands against the value of one.
+/// Collects the fields of an object, until one has an error in its value.
 #[derive(Drop)]
 pub(crate) struct Fields {
     pub fields: Vec<Field>,
@@ -23,8 +23,10 @@ impl Fields {
 
     /// Adds the next field.
     fn push(&mut self, alloc: Global, member: RawMember) -> Result<(), NoMemory>
-        ensures { OnOk result ((levels : ℕ) (done : List Member) («data» : Data) → AreFields levels done self.old → IsCheckedAs levels «data» member.checked
-            → AreFields levels (done ++ record { name = member.name; value = «data» } ∷ []) self.new) }
+        ensures { OnOk result ((levels : ℕ) (done : List Member) («data» : Data)
+            → AreFields levels done self.old → IsCheckedAs levels «data» member.checked
+            → AreFields levels (done
+            ++ record { name = member.name; value = «data» } ∷ []) self.new) }
     {
         let RawMember { name, checked } = member;
         match checked {
@@ -33,10 +35,11 @@ impl Fields {
         }
     }
 
-    /// Adds a field, unless something stands against one.
+    /// Adds a field, unless there was an error.
     fn add(&mut self, field: Field) -> Result<(), NoMemory>
         ensures first_error { self.new.first_error ≡ self.old.first_error }
-        ensures fields { OnOk result (self.old.first_error ≡ None → self.new.fields.items ≡ self.old.fields.items ++ field ∷ []) }
+        ensures fields { OnOk result (self.old.first_error ≡ None
+            → self.new.fields.items ≡ self.old.fields.items ++ field ∷ []) }
     {
         if self.first_error.is_some() {
             return Ok(());
@@ -45,9 +48,10 @@ impl Fields {
         Ok(())
     }
 
-    /// Notes what stands against the value of that name, if it counts.
+    /// Records the error of the value of this name, if it overrides the first one so far.
     fn note(&mut self, alloc: Global, name: &str, first_error: FirstError) -> Result<(), NoMemory>
-        ensures { OnOk result (self.new.first_error ≡ first_of self.old.first_error (Some (first_error_under name.now first_error))) }
+        ensures { OnOk result (self.new.first_error
+            ≡ first_of self.old.first_error (Some (first_error_under name.now first_error))) }
     {
         if first_error.overrides(&self.first_error) {
             self.first_error = Some(first_error.below(alloc, name)?);
@@ -55,9 +59,10 @@ impl Fields {
         Ok(())
     }
 
-    /// The whole object, checked.
+    /// The outcome for the whole object.
     fn into_checked(self) -> Checked
-        ensures { (levels : ℕ) (done : List Member) → AreFields levels done self → IsCheckedAs (suc levels) (object (members_of done)) result }
+        ensures { (levels : ℕ) (done : List Member) → AreFields levels done self
+            → IsCheckedAs (suc levels) (object (members_of done)) result }
     {
         let Fields {
             fields,
@@ -70,9 +75,10 @@ impl Fields {
     }
 }
 
-/// The object that has these members, checked.
+/// The outcome for the object with these members.
 pub(crate) fn check_members(alloc: Global, members: Vec<RawMember>) -> Result<Checked, NoMemory>
-    ensures { IfOk result (λ checked. (levels : ℕ) (ms : Members) → AreRawMembers levels ms members.items → IsCheckedAs (suc levels) (object ms) checked) }
+    ensures { IfOk result (λ checked. (levels : ℕ) (ms : Members)
+        → AreRawMembers levels ms members.items → IsCheckedAs (suc levels) (object ms) checked) }
 {
     let mut fields = Fields {
         fields: Vec::with_capacity(alloc, members.len())?,

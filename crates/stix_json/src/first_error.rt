@@ -1,3 +1,7 @@
+//! The first error of a value, merged bottom-up: the error of a list or an object is the first of
+//! its parts in order, but one for depth takes precedence. This is the first in walk order, since a
+//! list precedes its items.
+
 ghost use Rattle.std.specs.Prelude.{◌≡◌, ℕ, List, if◌then◌else◌, Some, IfOk, option_map};
 ghost use Rattle.stix_json.specs.Walk.{index_part};
 ghost use Rattle.stix_json.specs.inner.FirstErrors.{first_error_under, first_of, refusal_of_first_error};
@@ -10,17 +14,17 @@ use crate::value_error::{Reason, ValueError};
 use flow_values::NoMemory;
 use std::alloc::Global;
 
-/// What stands first against a value.
+/// The first error in a value.
 #[derive(Debug, Drop)]
 pub(crate) enum FirstError {
-    /// A list or an object past the last level. It counts before what `Json` doesn't hold.
+    /// A list or an object nested too deep. It takes precedence over `InvalidValue`.
     TooDeep(Location),
-    /// A value that `Json` doesn't hold.
+    /// A value that `Json` can't represent.
     InvalidValue(ValueError),
 }
 
 impl FirstError {
-    /// What stands against a value that itself is none that `Json` holds.
+    /// The error of a value that is itself invalid.
     pub fn here(reason: Reason) -> FirstError
         ensures { result ≡ InvalidValue (record { reason = reason; location = AtTop }) }
     {
@@ -30,7 +34,7 @@ impl FirstError {
         })
     }
 
-    /// Whether this, under a part of a list or an object, counts there, where that stands before it.
+    /// Whether this error, which comes later in the value, takes precedence over `found`.
     pub fn overrides(&self, found: &Option<FirstError>) -> bool
         ensures { (part : List ℕ) → first_of found.now (Some (first_error_under part self.now))
             ≡ (if result then Some (first_error_under part self.now) else found.now) }
@@ -43,7 +47,7 @@ impl FirstError {
         }
     }
 
-    /// The same, of an object that has the value under a name.
+    /// The error as seen from the object with the value at this name.
     pub fn below(self, alloc: Global, name: &str) -> Result<FirstError, NoMemory>
         ensures { IfOk result (λ first_error. first_error ≡ first_error_under name.now self) }
     {
@@ -56,9 +60,10 @@ impl FirstError {
         }
     }
 
-    /// The same, of a list that has the value as its item.
+    /// The error as seen from the list with the value at index `at`.
     pub fn below_item(self, alloc: Global, at: usize) -> Result<FirstError, NoMemory>
-        ensures { IfOk result (λ first_error. first_error ≡ first_error_under (index_part at) self) }
+        ensures { IfOk result (λ first_error. first_error
+            ≡ first_error_under (index_part at) self) }
     {
         let part = format!(in alloc; "[{at}]")?;
         self.below(alloc, part.as_str())

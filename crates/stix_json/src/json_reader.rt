@@ -7,8 +7,8 @@ use flow_values::NoMemory;
 use json::Scratch;
 use std::alloc::Global;
 
-/// Reads texts, one after the other, in memory that is kept from one to the next: capacity for the longest of
-/// them, and a table of 16 KB, which `read_json` makes anew for each text.
+/// Reads JSON texts one after another and reuses its working memory: a buffer for the longest text,
+/// and a table of 16 KB. `read_json` allocates these for each text.
 #[derive(Drop)]
 pub struct JsonReader {
     alloc: Global,
@@ -16,14 +16,13 @@ pub struct JsonReader {
 }
 
 impl JsonReader {
-    /// A reader that has read nothing.
+    /// A reader with empty working memory.
     pub fn new(alloc: Global) -> Result<JsonReader, NoMemory> {
         let scratch = Box::new(alloc, Scratch::new(alloc))?;
         Ok(JsonReader { alloc, scratch })
     }
 
-    /// The JSON value that bytes are, or why they are none, as `read_json` says. What was read before makes
-    /// no difference.
+    /// Reads a JSON value, exactly as `read_json` does. Earlier texts make no difference.
     pub fn read(&mut self, bytes: &[u8]) -> Result<Json, JsonRefusal>
         ensures ok { IfOk result (λ json. IsJsonOf bytes.now json) }
         ensures err { IfErr result (λ refusal. IsJsonRefusedAs bytes.now refusal) }

@@ -1,3 +1,7 @@
+//! Strings as slices of a shared source text (reference counting), with an owned copy as the
+//! fallback. A slice is made only after its bytes are compared with the string, so it can't differ
+//! from it.
+
 ghost use Rattle.std.specs.Prelude.{◌≡◌, ◌≤◌, ◌<◌, IfOk, IfSome};
 ghost use Rattle.std.specs.Str.{IsCharBoundary};
 
@@ -6,8 +10,8 @@ use std::alloc::Global;
 use std::marker::Model;
 use std::rc::Rc;
 
-/// A text of a value, which contracts see as the list of its bytes. Most lie in the text that they were read from, and keep that:
-/// so a text takes no memory of its own.
+/// A string of a JSON value. Its value in contracts is the list of its bytes. Most strings are
+/// slices of the source text, which they share by reference counting, so they allocate nothing.
 #[derive(Drop)]
 pub struct JsonText {
     form: TextForm,
@@ -19,7 +23,7 @@ enum TextForm {
     Owned(Box<Text>),
 }
 
-/// A part of a text, which it keeps, from one of its places to another.
+/// A slice of a shared text, by byte offsets.
 #[derive(Drop)]
 struct TextSlice {
     whole: Rc<Text>,
@@ -40,7 +44,8 @@ impl Model for JsonText {
 }
 
 impl JsonText {
-    /// The text, which keeps its memory, in a box: so a value is no larger for the few texts that lie in no other.
+    /// Takes over a text and its allocation. It is boxed, so that `Json` stays small for the common
+    /// case of a slice.
     pub fn from_text(alloc: Global, text: Text) -> Result<JsonText, NoMemory>
         ensures { IfOk result (λ found. found ≡ text) }
     {
@@ -50,7 +55,7 @@ impl JsonText {
         })
     }
 
-    /// The text, lent.
+    /// Borrows the text.
     pub fn as_str(&self) -> &str
         ensures { result.now ≡ self.now }
     {
@@ -60,7 +65,8 @@ impl JsonText {
         }
     }
 
-    /// This text, which may begin at that place of the whole; it is copied where it doesn't, as one with escapes.
+    /// The string `text`, as a slice of `whole` if it stands there at byte `location`. Otherwise,
+    /// as for a string with escapes, it is copied.
     pub(crate) fn within(
         alloc: Global,
         whole: &Rc<Text>,
@@ -81,7 +87,7 @@ impl JsonText {
 impl TextSlice {
     ghost use Rattle.stix_json.specs.inner.Texts.{part_text};
 
-    /// The part of the whole that begins at the place and is this text.
+    /// The slice of `whole` at byte `location` that equals `text`, if it does.
     fn at(whole: &Rc<Text>, location: usize, text: &str) -> Option<TextSlice>
         ensures { IfSome result (λ part. part_text part ≡ text.now) }
     {

@@ -1,8 +1,15 @@
-//! JSON values without fractions and null (RFC 8259), which own their lists; their texts lie in the
-//! text that they were read from, which they keep.
+//! JSON (RFC 8259) for STIX 2.1: values with integers only, and without null. `read_json` parses
+//! and checks a text in one pass. It returns the value, or the first error with its path.
+//! `write_json` writes compact JSON that reads back as the same value.
 //!
-//! `read_json` gives the value that `serde_json`'s definition of reading gives, or the first reason
-//! against it, with its path. `write_json` writes a value so that it reads back.
+//! Reading is defined by `serde_json`'s specification. Strings are slices of the source text and
+//! share it (`JsonText`).
+//!
+//! ```ignore
+//! let value = read_json(alloc, br#"{"type":"tool","name":"nmap"}"#)?;
+//! let name = text_at(&value, "name"); // Some("nmap")
+//! let text = write_json(alloc, &value)?;
+//! ```
 #![tactic(auto)]
 
 mod checked;

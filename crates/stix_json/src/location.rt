@@ -4,19 +4,19 @@ ghost use Rattle.stix_json.specs.inner.ValueErrors.{under, path_of};
 use flow_values::{NoMemory, Text};
 use std::alloc::Global;
 
-/// Where a value stands inside another one.
+/// The location of a value inside another one.
 #[derive(Debug, Drop)]
 pub(crate) enum Location {
-    /// It is that value.
+    /// The value itself.
     Here,
-    /// It has that path.
+    /// The value at this path.
     Below(Text),
 }
 
 impl Location {
-    // A path is made where a value is refused. Out of line, that costs the others no stack.
+    // Paths are built only for errors. Kept out of line, they cost the common case no stack.
 
-    /// The place in a value that has this one's value under a part.
+    /// The location as seen from a value that has this one at `part`.
     #[inline(never)]
     pub fn below(self, alloc: Global, part: &str) -> Result<Location, NoMemory>
         ensures { IfOk result (λ location. location ≡ under part.now self) }
@@ -29,7 +29,7 @@ impl Location {
         Ok(Location::Below(path))
     }
 
-    /// The path, empty where the value is the whole one.
+    /// The path, which is empty for the value itself.
     pub fn into_path(self, alloc: Global) -> Text
         ensures { result ≡ path_of self }
     {

@@ -1,4 +1,4 @@
-//! The number that a text of JSON is, checked.
+//! Checks a JSON number: only integers in range are valid.
 
 ghost use Rattle.std.specs.Prelude.{◌≡◌, ◌==◌, ◌<◌, ℕ, true, false, None, Some, IfOk, IfErr, IsTrue, length, slice_index, option_map};
 ghost use Rattle.serde_json.specs.Data.{Num, number as number_data};
@@ -16,7 +16,7 @@ use crate::{Json, MAX_SAFE_INTEGER};
 use fast_float::Numeral;
 use serde_json::Number;
 
-/// The number that a text is, checked. None is read from one too large for a float.
+/// Checks a number. `NotJson` if it is too large for a double.
 pub(crate) fn check_number(text: &str) -> Result<Checked, ReadError>
     ensures ok { IfOk result (λ checked. (n : Num) × (number_text_of text.now ≡ Some n)
         × ((levels : ℕ) → IsCheckedAs levels (number_data n) checked)) }
@@ -29,10 +29,11 @@ pub(crate) fn check_number(text: &str) -> Result<Checked, ReadError>
     }
 }
 
-/// The whole number that a number is, where it is one in range.
+/// The integer of a number, or why it has none in range.
 fn whole_of(number: Number) -> Result<i64, Reason>
     ensures ok { IfOk result
-        (λ whole. (number_value_error (number_view number) ≡ None) × (of_integer whole ≡ number_view number)) }
+        (λ whole. (number_value_error (number_view number) ≡ None)
+        × (of_integer whole ≡ number_view number)) }
     ensures err { IfErr result (λ reason. number_value_error (number_view number) ≡ Some reason) }
 {
     if number.is_f64() {
@@ -47,7 +48,7 @@ fn whole_of(number: Number) -> Result<i64, Reason>
     Ok(whole)
 }
 
-/// The number that a text is.
+/// The number that `serde_json` reads in a text.
 fn number_of(text: &str) -> Option<Number>
     ensures { option_map number_view result ≡ number_text_of text.now }
 {
@@ -66,7 +67,7 @@ fn has_minus(bytes: &[u8]) -> bool
     !bytes.is_empty() && bytes[0] == b'-'
 }
 
-/// The number with this numeral behind a minus. `-0` is none that is whole.
+/// The number of a minus and this numeral. `-0` is a double, not an integer.
 fn below_zero(numeral: &Numeral<'_>) -> Option<Number>
     ensures { option_map number_view result ≡ number_from true numeral.now }
 {
@@ -87,7 +88,7 @@ fn not_below_zero(numeral: &Numeral<'_>) -> Option<Number>
     }
 }
 
-/// The float nearest to it, where there is one.
+/// The nearest double. `None` if it would be infinite.
 fn nearest(negative: bool, numeral: &Numeral<'_>) -> Option<Number>
     ensures { option_map number_view result ≡ float_of negative numeral.now }
 {

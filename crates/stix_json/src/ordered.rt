@@ -6,8 +6,8 @@ ghost use Rattle.stix_json.specs.Ordered.{IsNameBefore, IsOrdered, ItemsAreOrder
 
 use crate::{Field, Json};
 
-/// Whether in each object of the value the names ascend strictly by their bytes. What `read_json` gives
-/// is so. Takes no memory.
+/// Whether the names of each object in the value are strictly ascending by their bytes, as they are
+/// after `read_json`. Allocates nothing.
 #[cycle(ordered)]
 pub fn is_ordered(value: &Json) -> bool
     ensures { IsTrue result ↔ IsOrdered (data_of value.now) }
@@ -43,11 +43,12 @@ fn are_ordered_fields(fields: &[Field]) -> bool
     true
 }
 
-/// Whether the name of the field at a place is before the next one's, if there is a next one.
+/// Whether the name at an index is less than the next one, if any.
 fn is_before_next(fields: &[Field], at: usize) -> bool
     requires { at < length fields.now }
     ensures { (field : Field) → slice_get fields.now at ≡ Some field
-        → IsTrue result ↔ IsNameBefore field.name (members_of (map field_data (drop (at + 1) fields.now))) }
+        → IsTrue result ↔ IsNameBefore field.name
+        (members_of (map field_data (drop (at + 1) fields.now))) }
 {
     match fields.get(at + 1) {
         Some(next) => fields[at].name.as_str() < next.name.as_str(),

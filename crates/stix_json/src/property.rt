@@ -6,7 +6,7 @@ ghost use Rattle.stix_json.specs.Properties.{text_at as text_under, list_at as l
 
 use crate::{Json, get};
 
-/// The text that a value is. Takes no memory, as the three below.
+/// The text of a string value. The functions of this module allocate nothing.
 pub fn text_of(value: &Json) -> Option<&str>
     ensures { option_map (λ text. text.now) result ≡ as_str (data_of value.now) }
 {
@@ -16,9 +16,10 @@ pub fn text_of(value: &Json) -> Option<&str>
     }
 }
 
-/// The items of the list that a value is.
+/// The items of a list value.
 pub fn list_of(value: &Json) -> Option<&[Json]>
-    ensures { option_map (λ items. items_of (map data_of items.now)) result ≡ as_array (data_of value.now) }
+    ensures { option_map (λ items. items_of (map data_of items.now)) result
+        ≡ as_array (data_of value.now) }
 {
     match value {
         Json::Array(items) => Some(items.as_slice()),
@@ -26,17 +27,19 @@ pub fn list_of(value: &Json) -> Option<&[Json]>
     }
 }
 
-/// The text of a property. None where the property is absent or no text, or the value is no object.
+/// The text of a property. `None` if the property is absent or isn't a string, or the value isn't
+/// an object.
 pub fn text_at<'a>(object: &'a Json, name: &str) -> Option<&'a str>
     ensures { option_map (λ text. text.now) result ≡ text_under name.now (data_of object.now) }
 {
     text_of(get(object, name)?)
 }
 
-/// The items of a property that is a list. None where the property is absent or no list, or the value
-/// is no object.
+/// The items of a property. `None` if the property is absent or isn't a list, or the value isn't an
+/// object.
 pub fn list_at<'a>(object: &'a Json, name: &str) -> Option<&'a [Json]>
-    ensures { option_map (λ items. items_of (map data_of items.now)) result ≡ list_under name.now (data_of object.now) }
+    ensures { option_map (λ items. items_of (map data_of items.now)) result
+        ≡ list_under name.now (data_of object.now) }
 {
     list_of(get(object, name)?)
 }

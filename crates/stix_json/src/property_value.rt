@@ -1,4 +1,5 @@
-//! The properties of an object of which lists are checked item by item, as a page of objects wants it.
+//! The properties of an object, with lists checked item by item: so one bad entry doesn't reject a
+//! page of objects.
 
 ghost use Rattle.std.specs.Prelude.{◌≡◌, ◌<◌, ◌∷◌, ◌++◌, [], suc, Some, IfOk, IfErr, IfSome, IfNone, OnOk, length, option_map};
 ghost use Rattle.json.specs.Json.{value, items, members};
@@ -23,28 +24,30 @@ use json::{Reader, Scratch, Token};
 use std::alloc::Global;
 use std::rc::Rc;
 
-/// How many levels a text may nest below a list in an object.
+/// The most nested levels of a text inside a list of an object.
 const LEFT: usize = MAX_TEXT_LEVELS - 2;
 
-/// A property of an object, as it came.
+/// A property of an object, in source order.
 #[derive(Drop)]
 pub(crate) struct Property {
     pub name: Name,
     pub property_value: PropertyValue,
 }
 
-/// What a property holds.
+/// The value of a property.
 #[derive(Drop)]
 pub(crate) enum PropertyValue {
-    /// A list, each item checked by itself.
+    /// A list, with each item checked on its own.
     List(Items<Entry>),
-    /// Something else.
+    /// Any other value.
     Value(Checked),
 }
 
-/// The properties of the object that bytes are, as they come. `NotJson` where they are no JSON, `NotList` where they are no object.
+/// The properties of an object, in source order. `NotJson` if the bytes aren't JSON, `NotList` if
+/// they aren't an object.
 pub(crate) fn read_properties(alloc: Global, bytes: &[u8]) -> Result<Vec<Property>, JsonRefusal>
-    ensures ok { IfOk result (λ properties. (ms : Members) × IsValueOf bytes.now (object ms) × HoldsProperties ms properties.items) }
+    ensures ok { IfOk result (λ properties. (ms : Members) × IsValueOf bytes.now (object ms)
+        × HoldsProperties ms properties.items) }
     ensures err { IfErr result (λ refusal. IsNotReadAsProperties bytes.now refusal) }
 {
     let whole = whole_text(alloc, bytes)?;
@@ -61,17 +64,21 @@ pub(crate) fn read_properties(alloc: Global, bytes: &[u8]) -> Result<Vec<Propert
     properties.ok_or(JsonRefusal::NotList)
 }
 
-/// The properties of the next value. None where it is no object.
+/// The properties of the next value. `None` if it isn't an object.
 fn take_object(
     alloc: Global,
     whole: &Rc<Text>,
     reader: &mut Reader<'_>,
 ) -> Result<Option<Vec<Property>>, ReadError>
     ensures some { IfOk result (λ found. IfSome found (λ properties. (ms : Members)
-        × (converted of_json (value (suc (suc LEVELS_LEFT)) reader.old) ≡ Some (object ms, reader.new)) × HoldsProperties ms properties.items)) }
+        × (converted of_json (value (suc (suc LEVELS_LEFT)) reader.old)
+        ≡ Some (object ms, reader.new)) × HoldsProperties ms properties.items)) }
     ensures none { IfOk result (λ found. IfNone found ((«data» : Data)
-        × (converted of_json (value (suc (suc LEVELS_LEFT)) reader.old) ≡ Some («data», reader.new)) × IsNoObject «data»)) }
-    ensures err { IfErr result (λ read_error. IsReadError (converted of_json (value (suc (suc LEVELS_LEFT)) reader.old)) read_error) }
+        × (converted of_json (value (suc (suc LEVELS_LEFT)) reader.old) ≡ Some («data», reader.new))
+        × IsNoObject «data»)) }
+    ensures err { IfErr result
+        (λ read_error. IsReadError (converted of_json (value (suc (suc LEVELS_LEFT)) reader.old))
+        read_error) }
 {
     let location = reader.offset();
     let Some(token) = reader.next() else {
@@ -112,17 +119,20 @@ fn opens_list(token: &Token<'_>) -> bool
     }
 }
 
-/// The properties up to the brace that closes their object.
+/// The properties up to the closing brace of their object.
 fn take_properties(
     alloc: Global,
     whole: &Rc<Text>,
     reader: &mut Reader<'_>,
 ) -> Result<Vec<Property>, ReadError>
     ensures ok { IfOk result (λ properties. (ms : Members)
-        × (converted (λ found. of_members found no_members) (members (value (suc LEVELS_LEFT)) (length reader.old) reader.old) ≡ Some (ms, reader.new))
+        × (converted (λ found. of_members found no_members)
+        (members (value (suc LEVELS_LEFT)) (length reader.old) reader.old) ≡ Some (ms, reader.new))
         × HoldsProperties ms properties.items) }
     ensures err { IfErr result
-        (λ read_error. IsReadError (converted (λ found. of_members found no_members) (members (value (suc LEVELS_LEFT)) (length reader.old) reader.old)) read_error) }
+        (λ read_error. IsReadError
+        (converted (λ found. of_members found no_members)
+        (members (value (suc LEVELS_LEFT)) (length reader.old) reader.old)) read_error) }
 {
     let mut properties = Vec::new(alloc);
     'members: while let Some(name) = reader.next_key()? {
@@ -133,13 +143,14 @@ fn take_properties(
     Ok(properties)
 }
 
-/// Adds a property behind the others.
+/// Appends a property.
 fn push_property(
     properties: &mut Vec<Property>,
     name: Name,
     property_value: PropertyValue,
 ) -> Result<(), NoMemory>
-    ensures { OnOk result (properties.new.items ≡ properties.old.items ++ record { name = name; property_value = property_value } ∷ []) }
+    ensures { OnOk result (properties.new.items
+        ≡ properties.old.items ++ record { name = name; property_value = property_value } ∷ []) }
 {
     properties.push(Property {
         name,
@@ -148,14 +159,18 @@ fn push_property(
     Ok(())
 }
 
-/// What the next value is to a property.
+/// Reads the next value as the value of a property.
 fn take_property_value(
     alloc: Global,
     whole: &Rc<Text>,
     reader: &mut Reader<'_>,
 ) -> Result<PropertyValue, ReadError>
-    ensures ok { IfOk result (λ property_value. («data» : Data) × (converted of_json (value (suc LEVELS_LEFT) reader.old) ≡ Some («data», reader.new)) × IsPropertyValue «data» property_value) }
-    ensures err { IfErr result (λ read_error. IsReadError (converted of_json (value (suc LEVELS_LEFT) reader.old)) read_error) }
+    ensures ok { IfOk result (λ property_value. («data» : Data)
+        × (converted of_json (value (suc LEVELS_LEFT) reader.old) ≡ Some («data», reader.new))
+        × IsPropertyValue «data» property_value) }
+    ensures err { IfErr result
+        (λ read_error. IsReadError (converted of_json (value (suc LEVELS_LEFT) reader.old))
+        read_error) }
     ensures shorter { OnOk result (length reader.new < length reader.old) }
 {
     let location = reader.offset();
@@ -169,15 +184,19 @@ fn take_property_value(
     Ok(PropertyValue::Value(checked))
 }
 
-/// The entries of a list up to the bracket that closes it.
+/// The entries of a list up to its closing bracket.
 fn take_entries(
     alloc: Global,
     whole: &Rc<Text>,
     reader: &mut Reader<'_>,
 ) -> Result<Items<Entry>, ReadError>
     ensures ok { IfOk result (λ entries. (ds : DataItems)
-        × (converted of_items (items (value LEVELS_LEFT) (length reader.old) reader.old) ≡ Some (ds, reader.new)) × AreEntriesFor ds entries) }
-    ensures err { IfErr result (λ read_error. IsReadError (converted of_items (items (value LEVELS_LEFT) (length reader.old) reader.old)) read_error) }
+        × (converted of_items (items (value LEVELS_LEFT) (length reader.old) reader.old)
+        ≡ Some (ds, reader.new)) × AreEntriesFor ds entries) }
+    ensures err { IfErr result
+        (λ read_error. IsReadError
+        (converted of_items (items (value LEVELS_LEFT) (length reader.old) reader.old))
+        read_error) }
     ensures shorter { OnOk result (length reader.new < length reader.old) }
 {
     let mut entries = Items::new(alloc);
@@ -188,12 +207,14 @@ fn take_entries(
     Ok(entries)
 }
 
-/// What the last property of a name holds.
+/// The value of the last property of this name.
 pub(crate) fn property_value_under<'a>(
     properties: &'a [Property],
     name: &str,
 ) -> Option<&'a PropertyValue>
-    ensures { option_map (λ property_value. property_value.now) result ≡ option_map (λ property. property.property_value) (last_named property_name name.now properties.now) }
+    ensures { option_map (λ property_value. property_value.now) result
+        ≡ option_map (λ property. property.property_value)
+        (last_named property_name name.now properties.now) }
 {
     let mut found = None;
     for property in properties {
@@ -204,12 +225,13 @@ pub(crate) fn property_value_under<'a>(
     found
 }
 
-/// The same, taken out of them.
+/// Moves the value of the last property of this name out of the properties.
 pub(crate) fn take_property_value_under(
     properties: Vec<Property>,
     name: &str,
 ) -> Option<PropertyValue>
-    ensures { result ≡ option_map (λ property. property.property_value) (last_named property_name name.now properties.items) }
+    ensures { result ≡ option_map (λ property. property.property_value)
+        (last_named property_name name.now properties.items) }
 {
     let mut properties = properties;
     while let Some(property) = properties.pop() {

@@ -1,4 +1,5 @@
-//! The members of an object: gathered as they come, and then insert in the order of their names.
+//! The members of an object: collected in source order, then stably sorted by name. Of members with
+//! one name, the last counts, as in `serde_json`.
 
 ghost use Rattle.std.specs.Prelude.{◌≡◌, [], ◌∷◌, ◌++◌, IsTrue, IfOk, OnOk};
 ghost use Rattle.stix_json.specs.inner.Insertion.{insert_all, ends_with, NamesAscend, NamesAreSorted};
@@ -8,14 +9,14 @@ use crate::checked::Checked;
 use flow_values::{Name, NoMemory};
 use std::alloc::Global;
 
-/// A member of an object as it came: its name, and its value checked.
+/// A member of an object, in source order: its name, and its checked value.
 #[derive(Drop)]
 pub(crate) struct RawMember {
     pub name: Name,
     pub checked: Checked,
 }
 
-/// Objects seldom have more members: so many are gathered in memory that isn't moved.
+/// The initial capacity for members, which few objects exceed.
 const USUAL_MEMBERS: usize = 12;
 
 /// No members yet.
@@ -25,19 +26,20 @@ pub(crate) fn no_members_yet(alloc: Global) -> Result<Vec<RawMember>, NoMemory>
     Ok(Vec::with_capacity(alloc, USUAL_MEMBERS)?)
 }
 
-/// Adds a member behind the others.
+/// Appends a member.
 pub(crate) fn push_member(
     members: &mut Vec<RawMember>,
     name: Name,
     checked: Checked,
 ) -> Result<(), NoMemory>
-    ensures { OnOk result (members.new.items ≡ members.old.items ++ record { name = name; checked = checked } ∷ []) }
+    ensures { OnOk result (members.new.items
+        ≡ members.old.items ++ record { name = name; checked = checked } ∷ []) }
 {
     members.push(RawMember { name, checked })?;
     Ok(())
 }
 
-/// The members in the order of their names; of those that have one name the last that came.
+/// The members sorted by name; of those with one name, only the last.
 pub(crate) fn order_members(
     alloc: Global,
     members: Vec<RawMember>,
@@ -55,23 +57,24 @@ pub(crate) fn order_members(
     keep_last(alloc, members)
 }
 
-/// Puts members in the order of their names. Those that have one name stay in the order that they came in.
+/// Sorts members by name. The sort is stable.
 fn sort_by_name(members: &mut Vec<RawMember>) -> Result<(), NoMemory>
     ensures ascends { OnOk result (NamesAreSorted name_of members.new.items) }
-    ensures same { insert_all name_of members.new.items [] ≡ insert_all name_of members.old.items [] }
+    ensures same { insert_all name_of members.new.items []
+        ≡ insert_all name_of members.old.items [] }
 {
     members.sort_by(|one, other| one.name.as_str().cmp(other.name.as_str()))?;
     Ok(())
 }
 
-/// Whether each name is before the next.
+/// Whether the names are strictly ascending.
 fn names_ascend(members: &[RawMember]) -> bool
     ensures { IsTrue result → NamesAscend name_of members.now }
 {
     members.is_sorted_by(|one, next| one.name.as_str() < next.name.as_str())
 }
 
-/// Members whose names don't fall; of those that have one name the last.
+/// Drops all but the last member of each name. The members are sorted by name.
 fn keep_last(alloc: Global, members: Vec<RawMember>) -> Result<Vec<RawMember>, NoMemory>
     requires { NamesAreSorted name_of members.items }
     ensures { IfOk result (λ kept. kept.items ≡ insert_all name_of members.items []) }
@@ -86,7 +89,7 @@ fn keep_last(alloc: Global, members: Vec<RawMember>) -> Result<Vec<RawMember>, N
     Ok(kept)
 }
 
-/// Whether the last of these has the name of that one.
+/// Whether the last of the members has the name of `next`.
 fn ends_with_name(members: &[RawMember], next: &RawMember) -> bool
     ensures { result ≡ ends_with name_of next.now.name members.now }
 {
@@ -96,7 +99,7 @@ fn ends_with_name(members: &[RawMember], next: &RawMember) -> bool
     }
 }
 
-/// Adds a member behind the others.
+/// Appends a member.
 fn push(members: &mut Vec<RawMember>, member: RawMember) -> Result<(), NoMemory>
     ensures { OnOk result (members.new.items ≡ members.old.items ++ member ∷ []) }
 {

@@ -14,8 +14,12 @@ use json::{Reader, Scratch};
 use std::alloc::Global;
 use std::rc::Rc;
 
-/// The JSON value that bytes are, which is ordered, or why they are none: `NotJson`, else `TooDeep`, else
-/// the first value that `Json` doesn't hold, with its path. Never `NotList`.
+/// Reads a JSON value and checks it. The value is ordered: the names of each object are sorted, and
+/// unique.
+///
+/// `NotJson` if the bytes aren't JSON. Otherwise `TooDeep`, with the path of the first list or
+/// object nested too deep. Otherwise `NotWhole`, `Null` or `OutOfRange`, with the path of the first
+/// value that `Json` can't represent. Never `NotList`.
 pub fn read_json(alloc: Global, bytes: &[u8]) -> Result<Json, JsonRefusal>
     ensures ok { IfOk result (λ json. IsJsonOf bytes.now json) }
     ensures err { IfErr result (λ refusal. IsJsonRefusedAs bytes.now refusal) }
@@ -24,7 +28,7 @@ pub fn read_json(alloc: Global, bytes: &[u8]) -> Result<Json, JsonRefusal>
     read_with(alloc, &mut scratch, bytes)
 }
 
-/// The same with a scratch that may have served other texts.
+/// Reads a JSON value with working memory that may have served other texts.
 pub(crate) fn read_with(
     alloc: Global,
     scratch: &mut Scratch,
@@ -37,7 +41,8 @@ pub(crate) fn read_with(
     read_whole(alloc, scratch, &whole)
 }
 
-/// The same of bytes that are taken over: the value's texts lie in them, where `read_json` copies them first.
+/// Reads a JSON value from bytes that it takes over. Strings are slices of these bytes, where
+/// `read_json` copies the text first.
 pub fn read_owned(alloc: Global, bytes: Items<u8>) -> Result<Json, JsonRefusal>
     ensures ok { IfOk result (λ json. IsJsonOf bytes json) }
     ensures err { IfErr result (λ refusal. IsJsonRefusedAs bytes refusal) }
@@ -54,7 +59,7 @@ pub fn read_owned(alloc: Global, bytes: Items<u8>) -> Result<Json, JsonRefusal>
     }
 }
 
-/// The text that bytes are, which the texts of its value keep.
+/// The bytes as a shared text, which the strings of its value refer to.
 pub(crate) fn whole_text(alloc: Global, bytes: &[u8]) -> Result<Rc<Text>, ReadError>
     ensures ok { IfOk result (λ whole. whole.value ≡ bytes.now) }
     ensures err { IfErr result (λ read_error. IsNoText bytes.now read_error) }
@@ -69,7 +74,7 @@ pub(crate) fn whole_text(alloc: Global, bytes: &[u8]) -> Result<Rc<Text>, ReadEr
     }
 }
 
-/// The JSON value of a whole text.
+/// Reads the JSON value of a whole text.
 fn read_whole(alloc: Global, scratch: &mut Scratch, whole: &Rc<Text>) -> Result<Json, JsonRefusal>
     ensures ok { IfOk result (λ json. IsJsonOf whole.now.value json) }
     ensures err { IfErr result (λ refusal. IsJsonRefusedAs whole.now.value refusal) }
@@ -80,9 +85,10 @@ fn read_whole(alloc: Global, scratch: &mut Scratch, whole: &Rc<Text>) -> Result<
     }
 }
 
-/// The value of a whole text, checked.
+/// Checks the value of a whole text.
 fn check_whole(alloc: Global, scratch: &mut Scratch, whole: &Rc<Text>) -> Result<Checked, ReadError>
-    ensures ok { IfOk result (λ checked. («data» : Data) × IsValueOf whole.now.value «data» × IsCheckedAs LEVELS «data» checked) }
+    ensures ok { IfOk result (λ checked. («data» : Data) × IsValueOf whole.now.value «data»
+        × IsCheckedAs LEVELS «data» checked) }
     ensures err { IfErr result (λ read_error. IsNoText whole.now.value read_error) }
 {
     let mut reader = match Reader::new(whole.as_str(), scratch) {

@@ -1,7 +1,7 @@
 use flow_values::NoMemory;
 use json::Invalid;
 
-/// Why a text gives no value.
+/// Why a text yields no value.
 #[derive(Clone, Copy, Debug, PartialEq, Eq)]
 pub(crate) enum ReadError {
     NotJson,

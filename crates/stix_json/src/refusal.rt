@@ -2,24 +2,24 @@ use flow_values::{NoMemory, Text};
 use std::error::Error;
 use std::fmt;
 
-/// Why bytes give no JSON value. A path joins the names and the places `[n]`, counted from 0, by dots; the
-/// path of the whole value is empty.
+/// Why bytes yield no JSON value. A path joins names and indices `[n]`, counted from 0, by dots.
+/// The path of the whole value is empty.
 #[derive(Debug, Drop)]
 pub enum JsonRefusal {
     /// The bytes aren't UTF-8, aren't JSON, or nest more than 127 levels.
     NotJson,
     /// The first list or object at level 65.
     TooDeep { path: Text },
-    /// The first such value is a number that isn't read as a whole one: with a fraction or an
-    /// exponent, `-0`, or outside 64 bits.
+    /// The first invalid value is a number that isn't an integer: it has a fraction or an exponent,
+    /// is `-0`, or is outside 64 bits.
     NotWhole { path: Text },
-    /// The first such value is null.
+    /// The first invalid value is null.
     Null { path: Text },
-    /// The first such value is a whole number outside -`MAX_SAFE_INTEGER` to `MAX_SAFE_INTEGER`.
+    /// The first invalid value is an integer outside -`MAX_SAFE_INTEGER` to `MAX_SAFE_INTEGER`.
     OutOfRange { path: Text },
-    /// No list stands under the name, or the value is no object.
+    /// The property isn't a list, or the value isn't an object.
     NotList,
-    /// Memory ran out.
+    /// Out of memory.
     NoMemory,
 }
 
@@ -48,7 +48,7 @@ impl fmt::Display for JsonRefusal {
     }
 }
 
-/// A rule and the path of the value that breaks it, which an empty path leaves out.
+/// Writes a refusal's name, and the path unless it is empty.
 fn write_at<W: fmt::Write>(f: &mut fmt::Formatter<W>, rule: &str, path: &str) -> fmt::Result {
     if path.is_empty() {
         write!(f, "{rule}")

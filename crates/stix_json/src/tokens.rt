@@ -1,8 +1,8 @@
-//! From the tokens of a text to its value, checked by itself, in one pass and with no tree of another kind between: the crate under
-//! `serde_json` gives the tokens.
+//! A recursive-descent parser from tokens to checked values, in one pass and without an
+//! intermediate tree. The tokenizer is the one below `serde_json`.
 //!
-//! A value against which something stands is read to its end too: a text that is no JSON is that before all else, and of members
-//! with one name the last counts.
+//! A value with an error is still parsed to its end. This is needed because a syntax error takes
+//! precedence over all others, and because of members with one name the last counts.
 
 ghost use Rattle.std.specs.Prelude.{◌≡◌, ◌<◌, ◌∷◌, ◌+◌, suc, Some, IfOk, IfErr, OnOk, length};
 ghost use Rattle.json.specs.Json.{value, items, members};
@@ -25,7 +25,8 @@ use json::{Reader, Token};
 use std::alloc::Global;
 use std::rc::Rc;
 
-/// The next value of the whole text, checked. It may nest `left` levels to be read at all, and `levels` to be good.
+/// Parses and checks the next value. It is a syntax error past `left` levels of nesting, and an
+/// error of the value past `levels`.
 #[cycle(take)]
 pub(crate) fn take_value(
     alloc: Global,
@@ -34,9 +35,11 @@ pub(crate) fn take_value(
     left: usize,
     levels: usize,
 ) -> Result<Checked, ReadError>
-    ensures ok { IfOk result (λ checked. («data» : Data) × (converted of_json (value left reader.old) ≡ Some («data», reader.new))
+    ensures ok { IfOk result (λ checked. («data» : Data)
+        × (converted of_json (value left reader.old) ≡ Some («data», reader.new))
         × IsCheckedAs levels «data» checked) }
-    ensures err { IfErr result (λ read_error. IsReadError (converted of_json (value left reader.old)) read_error) }
+    ensures err { IfErr result
+        (λ read_error. IsReadError (converted of_json (value left reader.old)) read_error) }
     ensures shorter { OnOk result (length reader.new < length reader.old) }
 {
     let location = reader.offset();
@@ -46,7 +49,7 @@ pub(crate) fn take_value(
     }
 }
 
-/// The same of the value that begins with that token, which was read at that place.
+/// Parses and checks the value that begins with this token, which was read at byte `location`.
 #[cycle(take)]
 pub(crate) fn check_token(
     alloc: Global,
@@ -57,9 +60,14 @@ pub(crate) fn check_token(
     left: usize,
     levels: usize,
 ) -> Result<Checked, ReadError>
-    ensures ok { IfOk result (λ checked. («data» : Data) × (converted of_json (value left (token_of token.entry ∷ reader.old)) ≡ Some («data», reader.new))
+    ensures ok { IfOk result (λ checked. («data» : Data)
+        × (converted of_json (value left (token_of token.entry ∷ reader.old))
+        ≡ Some («data», reader.new))
         × IsCheckedAs levels «data» checked) }
-    ensures err { IfErr result (λ read_error. IsReadError (converted of_json (value left (token_of token.entry ∷ reader.old))) read_error) }
+    ensures err { IfErr result
+        (λ read_error. IsReadError
+        (converted of_json (value left (token_of token.entry ∷ reader.old))) read_error) }
+    // The value consumes at least its first token, which bounds the recursion and the loops.
     ensures shorter { OnOk result (length reader.new < length reader.old + 1) }
 {
     match token {
@@ -88,7 +96,7 @@ pub(crate) fn check_token(
     }
 }
 
-/// The list that has the items up to the bracket that closes it, checked.
+/// Parses and checks the items of a list, up to its closing bracket.
 #[cycle(take)]
 fn take_items(
     alloc: Global,
@@ -98,9 +106,12 @@ fn take_items(
     levels: usize,
 ) -> Result<Checked, ReadError>
     ensures ok { IfOk result (λ checked. (ds : DataItems)
-        × (converted of_items (items (value left) (length reader.old) reader.old) ≡ Some (ds, reader.new))
+        × (converted of_items (items (value left) (length reader.old) reader.old)
+        ≡ Some (ds, reader.new))
         × IsCheckedAs (suc levels) (array ds) checked) }
-    ensures err { IfErr result (λ read_error. IsReadError (converted of_items (items (value left) (length reader.old) reader.old)) read_error) }
+    ensures err { IfErr result
+        (λ read_error. IsReadError
+        (converted of_items (items (value left) (length reader.old) reader.old)) read_error) }
     ensures shorter { OnOk result (length reader.new < length reader.old) }
 {
     let mut elements = Elements::new(alloc)?;
@@ -111,7 +122,7 @@ fn take_items(
     Ok(elements.into_checked(alloc)?)
 }
 
-/// The object that has the members up to the brace that closes it, checked.
+/// Parses and checks the members of an object, up to its closing brace.
 #[cycle(take)]
 fn take_members(
     alloc: Global,
@@ -121,10 +132,13 @@ fn take_members(
     levels: usize,
 ) -> Result<Checked, ReadError>
     ensures ok { IfOk result (λ checked. (ms : Members)
-        × (converted (λ found. of_members found no_members) (members (value left) (length reader.old) reader.old) ≡ Some (ms, reader.new))
+        × (converted (λ found. of_members found no_members)
+        (members (value left) (length reader.old) reader.old) ≡ Some (ms, reader.new))
         × IsCheckedAs (suc levels) (object ms) checked) }
     ensures err { IfErr result
-        (λ read_error. IsReadError (converted (λ found. of_members found no_members) (members (value left) (length reader.old) reader.old)) read_error) }
+        (λ read_error. IsReadError
+        (converted (λ found. of_members found no_members)
+        (members (value left) (length reader.old) reader.old)) read_error) }
     ensures shorter { OnOk result (length reader.new < length reader.old) }
 {
     let mut raw_members = no_members_yet(alloc)?;

@@ -1,23 +1,23 @@
 use crate::JsonText;
 use flow_values::{Items, Name};
 
-/// A JSON value without fractions and null.
+/// A JSON value with integers only, and without null.
 #[derive(Drop)]
 #[cycle(json)]
 pub enum Json {
     /// `true` or `false`.
     Bool(bool),
-    /// A whole number.
+    /// An integer.
     Integer(i64),
-    /// A text.
+    /// A string.
     String(JsonText),
     /// A list.
     Array(Items<Json>),
-    /// An object. It is ordered where its names ascend strictly by bytes.
+    /// An object. It is ordered if its names are strictly ascending by their bytes.
     Object(Items<Field>),
 }
 
-/// A name of an object and its value.
+/// A member of an object: its name and its value.
 #[derive(Drop)]
 #[cycle(json)]
 pub struct Field {

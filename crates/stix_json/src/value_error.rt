@@ -1,6 +1,6 @@
 use crate::location::Location;
 
-/// Why a value is none that `Json` holds.
+/// Why `Json` can't represent a value.
 #[derive(Clone, Copy, Debug, PartialEq, Eq)]
 pub(crate) enum Reason {
     NotWhole,
@@ -8,7 +8,7 @@ pub(crate) enum Reason {
     OutOfRange,
 }
 
-/// A value that `Json` doesn't hold, and where it stands.
+/// A value that `Json` can't represent: the reason and its location.
 #[derive(Debug, Drop)]
 pub(crate) struct ValueError {
     pub reason: Reason,

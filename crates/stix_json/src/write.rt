@@ -12,17 +12,18 @@ use flow_values::{NoMemory, Text};
 use json::Writer;
 use std::alloc::{AllocError, Global};
 
-/// The text of an ordered value as compact JSON, with its names in byte order. Where nothing in the
-/// value is refused, the text reads as that value.
+/// The compact JSON text of an ordered value, with names in byte order. If the value has no error,
+/// the text reads back as the same value. `NoMemory` is the only error.
 pub fn write_json(alloc: Global, value: &Json) -> Result<Text, NoMemory>
     requires { IsOrdered (data_of value.now) }
     ensures text { IfOk result (λ text. text ≡ compact_text (data_of value.now)) }
-    ensures reads_back { IfOk result (λ text. refusal_of (data_of value.now) ≡ None → IsJsonOf text value.now) }
+    ensures reads_back { IfOk result (λ text. refusal_of (data_of value.now) ≡ None
+        → IsJsonOf text value.now) }
 {
     write_json_with_capacity(alloc, value, 0)
 }
 
-/// The same, with capacity for so many bytes from the start: for a text whose length is known.
+/// Writes compact JSON with an initial capacity of `room` bytes, for texts of known length.
 pub fn write_json_with_capacity(
     alloc: Global,
     value: &Json,
@@ -30,7 +31,8 @@ pub fn write_json_with_capacity(
 ) -> Result<Text, NoMemory>
     requires { IsOrdered (data_of value.now) }
     ensures text { IfOk result (λ text. text ≡ compact_text (data_of value.now)) }
-    ensures reads_back { IfOk result (λ text. refusal_of (data_of value.now) ≡ None → IsJsonOf text value.now) }
+    ensures reads_back { IfOk result (λ text. refusal_of (data_of value.now) ≡ None
+        → IsJsonOf text value.now) }
 {
     let mut out = Writer::new(Vec::with_capacity(alloc, capacity)?);
     write_value(value, &mut out)?;
@@ -40,7 +42,7 @@ pub fn write_json_with_capacity(
     }
 }
 
-/// The text in no more memory than it needs: a store keeps it for long.
+/// The text without spare capacity, since a store keeps it for long.
 fn without_slack(text: String) -> String
     ensures { string_bytes result ≡ string_bytes text }
 {
@@ -51,7 +53,8 @@ fn without_slack(text: String) -> String
 
 #[cycle(write)]
 fn write_value(value: &Json, out: &mut Writer) -> Result<(), AllocError>
-    ensures ok { OnOk result (out.new.tokens ≡ out.old.tokens ++ json_tokens (outline (data_of value.now))) }
+    ensures ok { OnOk result (out.new.tokens
+        ≡ out.old.tokens ++ json_tokens (outline (data_of value.now))) }
     ensures before { out.new.before ≡ out.old.before }
 {
     match value {
@@ -86,7 +89,8 @@ fn write_items(items: &[Json], out: &mut Writer) -> Result<(), AllocError>
 #[cycle(write)]
 fn write_fields(fields: &[Field], out: &mut Writer) -> Result<(), AllocError>
     ensures ok { OnOk result (out.new.tokens
-        ≡ out.old.tokens ++ members_tokens (members_outline (members_of (map field_data fields.now)))) }
+        ≡ out.old.tokens ++ members_tokens
+        (members_outline (members_of (map field_data fields.now)))) }
     ensures before { out.new.before ≡ out.old.before }
 {
     for field in fields {

@@ -1,4 +1,5 @@
-//! The program `stix_mirror`: a collection of a TAXII 2.1 server, copied page by page into a store in a file.
+//! The program `stix_mirror`: copies a collection of a TAXII 2.1 server page by page into a
+//! database file.
 #![tactic(auto)]
 
 use command_line::program_arguments;
@@ -20,7 +21,8 @@ fn main(rt: HostRuntime) -> ExitCode {
     }
 }
 
-/// Does what the arguments ask for, over a file that held what `S` stands for, and answers the program's status.
+/// Executes the arguments over a database file, and returns the exit status. `S` represents the
+/// earlier contents of the file.
 fn mirror<S: Start>(rt: HostRuntime, arguments: &[String], start: S) -> u8 {
     let mut keeper = SqliteKeeper::new(rt, start);
     let status = run_mirror(
@@ -32,7 +34,8 @@ fn mirror<S: Start>(rt: HostRuntime, arguments: &[String], start: S) -> u8 {
         &mut WriteSink::new(rt.stdout()),
         &mut WriteSink::new(rt.stderr()),
     );
-    // All that was absorbed is in the file and its log. Where the log can't be copied into the file, they stay two.
+    // All that was absorbed is in the file and its log. If the log cannot be copied into the file,
+    // both remain.
     let _ = keeper.close();
     status
 }

@@ -1,4 +1,4 @@
--- The breaks of an object: one for each row that it doesn't meet, in the order of the rows.
+-- The violations of an object: one for each row that it doesn't meet, in the order of the rows.
 use Rattle.std.specs.Prelude.{◌≡◌, ⊤, ℕ, List, [], ◌∷◌, ◌++◌, Bool, true, false, ◌&&◌, not, Option, Some, None, MatchOption, if◌then◌else◌, bytes_eq, codes, option_and_then, option_map, filter_map}
 use Rattle.std.specs.List.{list_any}
 use Rattle.serde_json.specs.Data.{Data}
@@ -14,7 +14,7 @@ use Rattle.stix_objects.specs.Types.{type_named, group_in, rows_in}
 use Rattle.stix_json.specs.Properties.{text_at}
 use Rattle.stix_objects.specs.Rows.{Checks}
 
--- whether two groups are one
+-- whether two groups are equal
 abbrev pub same_group : Group → Group → Bool
 same_group Domain Domain = true
 same_group Marking Marking = true
@@ -22,24 +22,24 @@ same_group Observable Observable = true
 same_group Other Other = true
 same_group _ _ = false
 
--- whether the row is a property's of that name
+-- whether the row is about the property of this name
 abbrev pub is_row_of : List ℕ → Row → Bool
 is_row_of name (required own form) = bytes_eq own name
 is_row_of name (optional own form) = bytes_eq own name
 is_row_of name (required_where own form condition) = bytes_eq own name
 is_row_of name _ = false
 
--- the common row as it stands for a group and beside a type's own rows
+-- the common row, if it applies to a type with this group and these own rows
 abbrev pub applicable : Group → List Row → CommonRow → Option Row
 applicable group own (for groups row) = if list_any (same_group group) groups then Some row else None
 applicable group own (unless_own groups name row) =
     if list_any (same_group group) groups && not (list_any (is_row_of name) own) then Some row else None
 
--- the rows of a type: the common rows that stand for it, then its own
+-- the rows of a type: the common rows that apply to it, then its own
 abbrev pub rows_for : Option ObjectType → List Row
 rows_for type = filter_map (applicable (group_in type) (rows_in type)) common_rows ++ rows_in type
 
--- the type of an object, where it has rows of its own
+-- the type of an object, if it has its own rows
 abbrev pub type_of : Data → Option ObjectType
 type_of d = option_and_then type_named (text_at (codes "type") d)
 
@@ -50,13 +50,13 @@ ChecksRows [] d (outcome ∷ outcomes) = ⊥
 ChecksRows (row ∷ rows) d [] = ⊥
 ChecksRows (row ∷ rows) d (outcome ∷ outcomes) = Checks row d outcome × ChecksRows rows d outcomes
 
--- these are the breaks of the rows
+-- these are the violations of the rows
 pub record AreBreaksBy (rows : List Row) (d : Data) (breaks : List Break) : Type 0 where
   pub outcomes : List (Option BreakAt)
   pub checked : ChecksRows rows d outcomes
   pub told : breaks ≡ filter_map (option_map break_of) outcomes
 
--- these are the breaks of a value: of an object those of its rows, and of another value the one that it is none
+-- these are the violations of a value: those of its rows for an object, else NotObject
 abbrev pub AreBreaksOf : Data → List Break → Type 0
 AreBreaksOf d breaks =
     MatchOption (as_object d) (breaks ≡ break_of (here NotObject) ∷ []) (λ ms. AreBreaksBy (rows_for (type_of d)) d breaks)

@@ -1,5 +1,5 @@
--- The rows that the types share, in their order (STIX 2.1, section 3.2, and for observables section 6). A row
--- that some groups require and others allow is two rows here.
+-- The common rows, in order (STIX 2.1, section 3.2, and for observables section 6). A row that some
+-- groups require and others allow is two rows here.
 use Rattle.std.specs.Prelude.{List, [], ◌∷◌, codes}
 use Rattle.stix_objects.specs.declared.form.Precision.TheVariants.{Millis}
 use Rattle.stix_objects.specs.declared.groups.Group.{Group}
@@ -11,7 +11,7 @@ use Rattle.stix_objects.specs.Row.{required, optional, own_id, order, CommonRow,
 abbrev pub all_groups : List Group
 all_groups = Domain ∷ Marking ∷ Observable ∷ Other ∷ []
 
--- the domain and relationship objects, and the types without rows of their own
+-- the domain and relationship objects, and the types without their own rows
 abbrev pub domain_and_other : List Group
 domain_and_other = Domain ∷ Other ∷ []
 
@@ -19,7 +19,7 @@ domain_and_other = Domain ∷ Other ∷ []
 abbrev pub all_but_observable : List Group
 all_but_observable = Domain ∷ Marking ∷ Other ∷ []
 
--- the rows, each with the groups for which it stands
+-- the rows, each with the groups to which it applies
 abbrev pub common_rows : List CommonRow
 common_rows =
     for all_groups (required (codes "type") (one kind))

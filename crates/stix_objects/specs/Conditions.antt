@@ -1,4 +1,4 @@
--- What holds of an object, where a row asks for it.
+-- Conditions on an object that rows refer to.
 use Rattle.std.specs.Prelude.{◌≡◌, ⊤, ℕ, ℤ, ◌<ℤ◌, ◌≤ℤ◌, List, [], ◌∷◌, true, false, Option, Some, None, MatchOption, IsSome, option_and_then, find, bytes_eq, option_map, codes}
 use Rattle.serde_json.specs.Data.{Data, boolean}
 use Rattle.serde_json.specs.Find.{get, as_object}
@@ -11,11 +11,11 @@ use Rattle.stix_objects.specs.Singles.{ChecksOwnId}
 use Rattle.stix_objects.specs.Forms.{MeetsForm}
 use Rattle.stix_objects.specs.Properties.{IsTimestampAt, HasId}
 
--- the property is there and meets the form
+-- the property is present and has the form
 abbrev pub Meets : List ℕ → Form → Data → Type 0
 Meets name form d = MatchOption (get name d) ⊥ (MeetsForm form)
 
--- what a condition says of an object
+-- the meaning of a condition
 abbrev pub Holds : Condition → Data → Type 0
 Holds (is_true name) d = get name d ≡ Some (boolean true)
 Holds (is_false name) d = get name d ≡ Some (boolean false)
@@ -43,7 +43,7 @@ pub record SecondIsNotLater (precision : Precision) (first second : List ℕ) (d
   pub ends : IsTimestampAt precision second d to
   pub not_later : to ≤ℤ from
 
--- a colour of the traffic light protocol, and the number of its UUID (STIX 2.1, section 7.2.1.4)
+-- a TLP colour, and its UUID (STIX 2.1, section 7.2.1.4)
 pub record Colour : Type 0 where
   pub name : List ℕ
   pub number : ℕ
@@ -55,7 +55,7 @@ colours = record { name = codes "white"; number = 0x613f2e26407d48c79ecab8e91df9
     ∷ record { name = codes "amber"; number = 0xf88d31f6486f44dab31701333bde0b82 }
     ∷ record { name = codes "red"; number = 0x5e57c739391a4eb3b6be7d15ca92d5ed } ∷ []
 
--- the number of a colour's UUID
+-- the UUID of a colour
 abbrev pub number_of_colour : List ℕ → Option ℕ
 number_of_colour name = option_map (λ colour. colour.number) (find (λ colour. bytes_eq colour.name name) colours)
 
@@ -63,24 +63,24 @@ number_of_colour name = option_map (λ colour. colour.number) (find (λ colour. 
 abbrev pub defined_text : List ℕ → Data → Option (List ℕ)
 defined_text name d = option_and_then (text_at name) (get (codes "definition") d)
 
--- the number of the UUID of the colour that is defined
+-- the UUID of the colour that is defined
 abbrev pub defined_colour : Data → Option ℕ
 defined_colour d = option_and_then number_of_colour (defined_text (codes "tlp") d)
 
--- the object's definition, where there is one, is an object
+-- the object's definition, if any, is an object
 abbrev pub DefinesObjectOrNone : Data → Type 0
 DefinesObjectOrNone d = MatchOption (get (codes "definition") d) ⊤ (λ v. IsSome (as_object v))
 
--- the object is a marking of this type, and its definition, where there is one, is an object
+-- the object is a marking of this type, and its definition, if any, is an object
 pub record IsMarking (type : List ℕ) (d : Data) : Type 0 where
   pub type_is : text_at (codes "definition_type") d ≡ Some type
   pub definition_is : DefinesObjectOrNone d
 
--- the object has an identifier with that number
+-- the object has an identifier with this UUID
 abbrev pub HasNumber : Data → ℕ → Type 0
 HasNumber d number = (id : Id) × HasId d id × (id.number ≡ number)
 
--- the object's identifier, where there is one, is of the object's type
+-- the object's identifier, if any, is of the object's type
 abbrev pub HasOwnIdOrNone : Data → Type 0
 HasOwnIdOrNone d =
     MatchOption (get (codes "id") d) ⊤ (λ v. ChecksOwnId (text_at (codes "type") d) v None)

@@ -5,7 +5,7 @@ use Rattle.stix_objects.specs.declared.form.Precision.TheVariants.{Any}
 use Rattle.stix_objects.specs.Form.{text, boolean, integer, time, ref, ref_any, refs, refs_any, texts, word, fields, phases}
 use Rattle.stix_objects.specs.Row.{is_true, meets, Row, required, optional, required_where, order, strict_order, needs_one_of, excludes, statement, colour, colour_id}
 
--- a name, and no more: 4.3 course-of-action, 4.5 identity, 4.19 vulnerability
+-- only a name: 4.3 course-of-action, 4.5 identity, 4.19 vulnerability
 abbrev pub named : List Row
 named = required (codes "name") text ∷ []
 

@@ -1,11 +1,11 @@
--- The forms of a property, as data. What each asks is said in Singles and Forms.
+-- The types of properties, as data. Singles and Forms define their meaning.
 use Rattle.std.specs.Prelude.{ℕ, ℤ, pos, List, [], ◌∷◌, codes}
 use Rattle.stix_objects.specs.declared.form.Precision.{Precision}
 use Rattle.stix_objects.specs.declared.form.Precision.TheVariants.{Any, Millis}
 
--- what one value must be: a text, a text that is a kind, the text `2.1`, one of some texts, a timestamp, an
--- identifier, an identifier of one of some kinds, true or false, an integer in a range, an object, an object of
--- texts
+-- the type of one value: a text, a text that is a kind, the text `2.1`, one of some texts, a
+-- timestamp, an identifier, an identifier of one of some kinds, true or false, an integer in a
+-- range, an object, an object of texts
 pub data Single : Type 0 where
   any_text : Single
   kind : Single
@@ -19,14 +19,14 @@ pub data Single : Type 0 where
   object : Single
   texts_by_name : Single
 
--- what an object in a list must have: a property of that form, which must be there, or may be, or one of some
--- properties at least
+-- a requirement on the objects of a list: a required property, an optional one, or at least one of
+-- some properties
 pub data Part : Type 0 where
   must : List ℕ → Single → Part
   may : List ℕ → Single → Part
   some_of : List (List ℕ) → Part
 
--- what a property must be: one value, a list of values, or a list of objects with these parts
+-- the type of a property: one value, a list of values, or a list of objects with these parts
 pub data Form : Type 0 where
   one : Single → Form
   list : Single → Form

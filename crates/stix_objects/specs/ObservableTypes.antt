@@ -4,7 +4,7 @@ use Rattle.stix_objects.specs.declared.form.Precision.TheVariants.{Any}
 use Rattle.stix_objects.specs.Form.{integer_in, one, Form, text, boolean, integer, time, ref, refs, texts, fields, hashes, listed}
 use Rattle.stix_objects.specs.Row.{is_true, is_false, meets, absent, Row, required, optional, required_where, order, needs_one_of, excludes}
 
--- a value, and no more: 6.10 mac-addr, 6.15 url
+-- only a value: 6.10 mac-addr, 6.15 url
 abbrev pub valued : List Row
 valued = required (codes "value") text ∷ []
 
@@ -73,7 +73,7 @@ address = required (codes "value") text
 abbrev pub mutex : List Row
 mutex = required (codes "name") text ∷ []
 
--- the kinds of what network traffic comes from and goes to
+-- the kinds of the source and the destination of network traffic
 abbrev pub endpoints : Form
 endpoints = ref (codes "ipv4-addr" ∷ codes "ipv6-addr" ∷ codes "mac-addr" ∷ codes "domain-name" ∷ [])
 

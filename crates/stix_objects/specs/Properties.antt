@@ -1,4 +1,5 @@
--- What the properties of an object say: an instant (STIX 2.1, sections 2.16 and 3.2), the object's identifier (2.9).
+-- The values of properties: an instant (STIX 2.1, sections 2.16 and 3.2), the object's identifier
+-- (2.9).
 use Rattle.std.specs.Prelude.{◌≡◌, ℕ, ℤ, List, Some, codes}
 use Rattle.serde_json.specs.Data.{Data}
 use Rattle.stix_ids.specs.declared.id.Id.{Id}
@@ -7,7 +8,7 @@ use Rattle.stix_json.specs.Properties.{text_at}
 use Rattle.stix_objects.specs.declared.form.Precision.{Precision}
 use Rattle.stix_objects.specs.Singles.{IsTimestampOf}
 
--- the property is a timestamp of that instant
+-- the property is a timestamp of this instant
 pub record IsTimestampAt (precision : Precision) (name : List ℕ) (object : Data) (instant : ℤ) : Type 0 where
   pub text : List ℕ
   pub there : text_at name object ≡ Some text

@@ -1,20 +1,20 @@
--- The rows of the object rules, as data. What each asks is said in Rows.
+-- The rows of the object rules, as data. Rows defines their meaning.
 use Rattle.std.specs.Prelude.{ℕ, List}
 use Rattle.stix_objects.specs.declared.form.Precision.{Precision}
 use Rattle.stix_objects.specs.declared.groups.Group.{Group}
 use Rattle.stix_objects.specs.Form.{Form}
 
--- what may hold of an object: a property is true, or false, or there and in its form, or absent
+-- a condition on an object: a property is true, or false, or present with this type, or absent
 pub data Condition : Type 0 where
   is_true : List ℕ → Condition
   is_false : List ℕ → Condition
   meets : List ℕ → Form → Condition
   absent : List ℕ → Condition
 
--- a property in a form that must be there, that may be there, or that must be there under a condition; the object's
--- own identifier; two timestamps in order, the second not earlier, or later; one of some properties at least, told at
--- a path; a property that must be absent under conditions; the statement, the colour and the identifier of a
--- marking-definition
+-- a required property, an optional one, or one required under a condition; the object's own
+-- identifier; two timestamps in order, the second not earlier, or later; at least one of some
+-- properties, reported at a path; a property that must be absent under conditions; the statement,
+-- the colour and the identifier of a marking-definition
 pub data Row : Type 0 where
   required : List ℕ → Form → Row
   optional : List ℕ → Form → Row
@@ -28,8 +28,8 @@ pub data Row : Type 0 where
   colour : Row
   colour_id : Row
 
--- a row that stands for the objects of some groups, and one that does so where the type's own rows don't name a
--- property
+-- a row that applies to the objects of some groups, and one that does so unless the type's own rows
+-- name a property
 pub data CommonRow : Type 0 where
   for : List Group → Row → CommonRow
   unless_own : List Group → List ℕ → Row → CommonRow

@@ -1,4 +1,4 @@
--- What an object breaks of a row.
+-- The meaning of a row: the violation by an object.
 use Rattle.std.specs.Prelude.{◌≡◌, ⊤, ℕ, List, [], ◌∷◌, Option, None, option_map, codes}
 use Rattle.serde_json.specs.Data.{Data}
 use Rattle.serde_json.specs.Find.{get}
@@ -24,11 +24,11 @@ LacksStatement d = IsMarking (codes "statement") d × (defined_text (codes "stat
 abbrev pub LacksColour : Data → Type 0
 LacksColour d = IsMarking (codes "tlp") d × (defined_colour d ≡ None)
 
--- the identifier of an object of that type
+-- the identifier of an object of this type
 abbrev pub ChecksOwn : Option (List ℕ) → Data → Option BreakAt → Type 0
 ChecksOwn own d outcome = (rule : Option Rule) × ChecksOwnId own d rule × (outcome ≡ option_map here rule)
 
--- what an object breaks of a row
+-- the violation of a row by an object
 abbrev pub Checks : Row → Data → Option BreakAt → Type 0
 Checks (required name form) d outcome = ChecksValue ⊤ name (ChecksForm form) (get name d) outcome
 Checks (optional name form) d outcome = ChecksValue ⊥ name (ChecksForm form) (get name d) outcome

@@ -1,4 +1,4 @@
--- The names of the rules, as they are told.
+-- The names of the rules, as they are printed.
 use Rattle.std.specs.Prelude.{ℕ, List, codes}
 use Rattle.stix_objects.specs.declared.rule.Rule.{Rule}
 use Rattle.stix_objects.specs.declared.rule.Rule.TheVariants.{NotObject, Missing, WrongKind, BadId, BadTime, NotMillis, OutOfRange, EmptyList, BadOrder, BadReference, NeedsOneOf, Excludes, BadWord, BadSpec}

@@ -1,4 +1,4 @@
--- What one value must be, and the rule that it breaks otherwise.
+-- The meaning of the type of one value, and the rule that is broken otherwise.
 use Rattle.std.specs.Prelude.{◌≡◌, ⊤, ℕ, ℤ, ◌≤ℤ◌, List, Option, Some, None, IsSome, IsTrue, codes}
 use Rattle.serde_json.specs.Data.{Data, null, boolean, number, string, array, object, Members, no_members, member}
 use Rattle.serde_json.specs.Find.{as_integer, as_str, as_bool, as_object}
@@ -15,11 +15,11 @@ use Rattle.stix_objects.specs.Form as forms
 use Rattle.stix_objects.specs.Types.{is_among}
 use Rattle.stix_objects.specs.Checking.{Asks, InTurn, OfKind}
 
--- nothing is found
+-- no violation
 abbrev pub Met : Option Rule → Type 0
 Met outcome = outcome ≡ None
 
--- the integer that a value is
+-- the integer of a value
 abbrev pub integer_of : Data → Option ℤ
 integer_of null = None
 integer_of (boolean b) = None
@@ -28,7 +28,8 @@ integer_of (string s) = None
 integer_of (array ds) = None
 integer_of (object ms) = None
 
--- the text is a timestamp of that instant, STIX 2.1, section 2.16; to the millisecond at least, section 3.2
+-- the text is a timestamp of this instant, STIX 2.1, section 2.16; to the millisecond at least,
+-- section 3.2
 abbrev pub IsTimestampOf : Precision → List ℕ → ℤ → Type 0
 IsTimestampOf Any s instant = IsTimeOf s instant
 IsTimestampOf Millis s instant = IsMillisOf s instant
@@ -37,7 +38,7 @@ IsTimestampOf Millis s instant = IsMillisOf s instant
 abbrev pub IsTimestamp : Precision → List ℕ → Type 0
 IsTimestamp precision s = (instant : ℤ) × IsTimestampOf precision s instant
 
--- what a text breaks of a timestamp
+-- the violation by a text that must be a timestamp
 abbrev pub ChecksTimestamp : Precision → List ℕ → Option Rule → Type 0
 ChecksTimestamp Any s outcome = Asks (IsTimestamp Any s) BadTime outcome
 ChecksTimestamp Millis s outcome = InTurn (Asks (IsTimestamp Any s) BadTime) (Asks (IsTimestamp Millis s) NotMillis) outcome
@@ -46,7 +47,7 @@ ChecksTimestamp Millis s outcome = InTurn (Asks (IsTimestamp Any s) BadTime) (As
 abbrev pub Refers : List (List ℕ) → List ℕ → Type 0
 Refers kinds s = (id : Id) × IsTextOf s id × IsTrue (is_among id.kind kinds)
 
--- what a text breaks of an identifier of these kinds
+-- the violation by a text that must be an identifier of one of these kinds
 abbrev pub ChecksReference : List (List ℕ) → List ℕ → Option Rule → Type 0
 ChecksReference kinds s outcome = InTurn (Asks (IsIdText s) BadId) (Asks (Refers kinds s) BadReference) outcome
 
@@ -55,16 +56,16 @@ abbrev pub AreTexts : Members → Type 0
 AreTexts no_members = ⊤
 AreTexts (member name d ms) = IsSome (as_str d) × AreTexts ms
 
--- there is a member
+-- there is at least one member
 abbrev pub HasMember : Members → Type 0
 HasMember no_members = ⊥
 HasMember (member name d ms) = ⊤
 
--- what the members of an object of hashes break
+-- the violation by the members of an object of hashes
 abbrev pub ChecksTexts : Members → Option Rule → Type 0
 ChecksTexts ms outcome = InTurn (Asks (AreTexts ms) WrongKind) (Asks (HasMember ms) EmptyList) outcome
 
--- what a value breaks of a form
+-- the violation of a type by a value
 abbrev pub ChecksSingle : Single → Data → Option Rule → Type 0
 ChecksSingle any_text d outcome = OfKind (as_str d) (λ s. Met) outcome
 ChecksSingle kind d outcome = OfKind (as_str d) (λ s. Asks (IsKind s) BadWord) outcome
@@ -78,11 +79,11 @@ ChecksSingle (integer_in least most) d outcome = OfKind (integer_of d) (λ z. As
 ChecksSingle forms.object d outcome = OfKind (as_object d) (λ ms. Met) outcome
 ChecksSingle texts_by_name d outcome = OfKind (as_object d) ChecksTexts outcome
 
--- the text is an identifier of the object's own kind, or of any where the object tells none
+-- the text is an identifier of the object's own kind, or of any kind if the object has no type
 abbrev pub NamesOwn : Option (List ℕ) → List ℕ → Type 0
 NamesOwn None s = IsIdText s
 NamesOwn (Some own) s = (number : ℕ) × IsTextOf s (record { kind = own; number = number })
 
--- what an object's identifier breaks
+-- the violation by an object's identifier
 abbrev pub ChecksOwnId : Option (List ℕ) → Data → Option Rule → Type 0
 ChecksOwnId own d outcome = OfKind (as_str d) (λ s. Asks (NamesOwn own s) BadId) outcome

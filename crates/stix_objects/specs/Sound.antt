@@ -1,4 +1,4 @@
--- What an object without breaks is known to have.
+-- Facts about an object without violations.
 use Rattle.std.specs.Prelude.{◌≡◌, ⊤, ℕ, ℤ, ◌≤ℤ◌, List, [], ◌∷◌, Some, None, IsSome, codes}
 use Rattle.serde_json.specs.Data.{Data}
 use Rattle.serde_json.specs.Find.{as_object}
@@ -15,7 +15,7 @@ abbrev pub MeetsAll : List Row → Data → Type 0
 MeetsAll [] d = ⊤
 MeetsAll (row ∷ rows) d = Checks row d None × MeetsAll rows d
 
--- the value is an object with a type, and with an identifier of that type
+-- the value is an object with a type, and with an identifier of this type
 pub record IsNamed (d : Data) : Type 0 where
   pub object : IsSome (as_object d)
   pub type : List ℕ

@@ -1,4 +1,4 @@
--- The object types with rows of their own, and the groups (STIX 2.1, sections 4 to 7).
+-- The object types with their own rows, and the groups (STIX 2.1, sections 4 to 7).
 use Rattle.std.specs.Prelude.{ℕ, List, [], ◌∷◌, Bool, Option, find, bytes_eq, codes, if◌then◌else◌}
 use Rattle.std.specs.List.{list_any}
 use Rattle.std.specs.Option.{option_map_or, option_or}
@@ -68,15 +68,15 @@ observable_types =
 abbrev pub first_named : List ℕ → List ObjectType → Option ObjectType
 first_named name types = find (λ type. bytes_eq type.name name) types
 
--- the type of that name, where it has rows of its own
+-- the type of this name, if it has its own rows
 abbrev pub type_named : List ℕ → Option ObjectType
 type_named name = option_or (first_named name domain_types) (first_named name observable_types)
 
--- the group of a type, and Other where there is none
+-- the group of a type, and Other without a type
 abbrev pub group_in : Option ObjectType → Group
 group_in found = option_map_or (λ type. type.group) found Other
 
--- the own rows of a type, and none where there is no type
+-- the own rows of a type, and none without a type
 abbrev pub rows_in : Option ObjectType → List Row
 rows_in found = option_map_or (λ type. type.rows) found []
 
@@ -84,7 +84,7 @@ rows_in found = option_map_or (λ type. type.rows) found []
 abbrev pub group_of : List ℕ → Group
 group_of name = group_in (type_named name)
 
--- the types that got their rows later than the others
+-- the types whose rows were added in a later release
 abbrev pub later_types : List (List ℕ)
 later_types = codes "malware-analysis" ∷ codes "artifact" ∷ codes "email-message" ∷ codes "x509-certificate" ∷ []
 
@@ -92,6 +92,6 @@ later_types = codes "malware-analysis" ∷ codes "artifact" ∷ codes "email-mes
 abbrev pub is_among : List ℕ → List (List ℕ) → Bool
 is_among word any_text = list_any (λ known. bytes_eq known word) any_text
 
--- the group that a kind had before the later types got their rows
+-- the group of a kind before the rows of the later types were added
 abbrev pub group_before_of : List ℕ → Group
 group_before_of name = if is_among name later_types then Other else group_of name

@@ -1,3 +1,5 @@
+//! The interpreter of rows: it evaluates one row of the tables on one object.
+
 ghost use Rattle.std.specs.Prelude.{◌≡◌, Some, None, IsTrue, if◌then◌else◌, option_map, option_to_list};
 ghost use Rattle.stix_objects.specs.declared.rule.Rule.TheVariants.{NeedsOneOf};
 ghost use Rattle.stix_json.specs.DataOf.{data_of};
@@ -19,8 +21,8 @@ use crate::row::Row;
 use crate::row_break::{ObjectLocation, RowBreak, ValueBreak};
 use crate::timestamp::{second_is_earlier, second_is_not_later};
 
-/// Whether it is plain that an object breaks nothing of a row, which asks for a property that it needn't
-/// have. Most rows of most objects end here.
+/// A fast path: whether the row is about an absent property that it doesn't require. Most rows of
+/// most objects end here.
 pub(crate) fn is_trivially_met(row: &Row, object: &Object<'_>) -> bool
     ensures { IsTrue result → Checks (row_view row.now) (data_of object.now) None }
 {
@@ -39,7 +41,8 @@ pub(crate) fn is_trivially_met(row: &Row, object: &Object<'_>) -> bool
     }
 }
 
-/// What an object breaks of a row. It stays out of the walk over the rows, where few come to it.
+/// The violation of a row by an object, if any. It is kept out of the loop over the rows, since few
+/// rows reach it.
 #[inline(never)]
 pub(crate) fn check(row: &Row, object: &Object<'_>) -> Option<RowBreak>
     ensures { Checks (row_view row.now) (data_of object.now) (option_map row_break_view result) }
@@ -82,7 +85,7 @@ pub(crate) fn check(row: &Row, object: &Object<'_>) -> Option<RowBreak>
     }
 }
 
-/// What an object breaks of a property in that form, which is required or not.
+/// The violation of the form of a property, which is required or optional.
 fn check_property(
     required: bool,
     name: &'static str,
@@ -101,7 +104,7 @@ fn check_property(
     }
 }
 
-/// What an object breaks of its identifier, which is of its type.
+/// The violation by an object's identifier, which must be of the object's type.
 fn check_id(object: &Object<'_>) -> Option<RowBreak>
     ensures { Checks own_id (data_of object.now) (option_map row_break_view result) }
 {
@@ -114,14 +117,15 @@ fn check_id(object: &Object<'_>) -> Option<RowBreak>
     }
 }
 
-/// The row_break, where something is broken.
+/// The violation, if `broken`.
 fn found_where(broken: bool, row_break: RowBreak) -> Option<RowBreak>
     ensures { result ≡ (if broken then Some row_break else None) }
 {
     if broken { Some(row_break) } else { None }
 }
 
-/// None of several properties is there: told at one of them, else of the whole object.
+/// The violation of a row that requires one of several properties: reported at one of them, else at
+/// the whole object.
 fn needs_one_of(at: Option<&'static str>) -> RowBreak
     ensures { row_break_view result ≡ record {
       rule = NeedsOneOf;

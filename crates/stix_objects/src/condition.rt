@@ -35,7 +35,7 @@ pub(crate) fn holds(condition: &Condition, object: &Object<'_>) -> bool
     }
 }
 
-/// Whether the property is there and is that truth value.
+/// Whether the property is present and has this boolean value.
 fn is_boolean(object: &Object<'_>, name: &str, wanted: bool) -> bool
     ensures { IsTrue result ↔ (member_of name.now (data_of object.now) ≡ Some (boolean wanted)) }
 {
@@ -45,7 +45,7 @@ fn is_boolean(object: &Object<'_>, name: &str, wanted: bool) -> bool
     }
 }
 
-/// Whether the property is there and meets the form.
+/// Whether the property is present and has this form.
 fn meets(object: &Object<'_>, name: &str, form: &Form) -> bool
     ensures { IsTrue result ↔ Meets name.now (form_view form.now) (data_of object.now) }
 {

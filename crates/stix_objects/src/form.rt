@@ -1,17 +1,17 @@
-/// How finely a timestamp must be written.
+/// The fraction digits that a timestamp may have (STIX 2.1, sections 2.16 and 3.2).
 #[derive(Clone, Copy, Debug, PartialEq, Eq)]
 pub enum Precision {
-    /// With up to nine digits of a second.
+    /// Up to nine fraction digits.
     Any,
-    /// With three to six digits of a second.
+    /// Three to six fraction digits.
     Millis,
 }
 
-/// What one value must be.
+/// The type of one value.
 #[derive(Clone, Copy)]
 pub(crate) enum Single {
     Text,
-    /// A text that is a kind, the name of an object type.
+    /// A kind: the name of an object type.
     Kind,
     /// The text `2.1`.
     Version,
@@ -25,32 +25,32 @@ pub(crate) enum Single {
     Ref(&'static [&'static str]),
     /// True or false.
     Boolean,
-    /// An integer from the first to the second.
+    /// An integer from the first bound to the second, inclusive.
     Integer(i64, i64),
     /// An object.
     Object,
-    /// An object with one or more members, all texts.
+    /// An object with one or more members, all of them texts.
     Hashes,
 }
 
-/// What an object in a list must have.
+/// A requirement on the objects of a list.
 #[derive(Clone, Copy)]
 pub(crate) enum Part {
-    /// The property must be there.
+    /// The property is required, with this type.
     Must(&'static str, Single),
-    /// The property may be there.
+    /// The property is optional, with this type.
     May(&'static str, Single),
-    /// At least one of the properties must be there.
+    /// At least one of the properties is required.
     SomeOf(&'static [&'static str]),
 }
 
-/// What a property must be.
+/// The type of a property.
 #[derive(Clone, Copy)]
 pub(crate) enum Form {
     One(Single),
-    /// A list of one or more such values.
+    /// A list of one or more values of this type.
     List(Single),
-    /// A list of one or more objects with these parts.
+    /// A list of one or more objects that meet these requirements.
     Records(&'static [Part]),
 }
 
@@ -78,7 +78,7 @@ pub(crate) const HASHES: Form = Form::One(Single::Hashes);
 
 pub(crate) const LISTED: Form = Form::List(Single::Object);
 
-/// External references.
+/// External references (STIX 2.1, section 2.5).
 pub(crate) const EXTERNAL: Form = Form::Records(&[
     Part::Must("source_name", Single::Text),
     Part::May("description", Single::Text),
@@ -88,7 +88,7 @@ pub(crate) const EXTERNAL: Form = Form::Records(&[
     Part::SomeOf(&["description", "url", "external_id"]),
 ]);
 
-/// Kill chain phases.
+/// Kill chain phases (STIX 2.1, section 2.11).
 pub(crate) const PHASES: Form = Form::Records(&[
     Part::Must("kill_chain_name", Single::Text),
     Part::Must("phase_name", Single::Text),

@@ -3,20 +3,20 @@ ghost use Rattle.std.specs.List.{list_any};
 ghost use Rattle.stix_objects.specs.Breaks.{same_group};
 ghost use Rattle.stix_objects.specs.inner.Views.{groups_view};
 
-/// Which common rows stand for a type.
+/// The group of an object type: it selects the common rows that apply.
 #[derive(Clone, Copy, Debug, PartialEq, Eq)]
 pub enum Group {
-    /// The domain and relationship objects with rows of their own.
+    /// A domain or relationship object type with its own rows.
     Domain,
     /// The marking-definition.
     Marking,
-    /// The observables with rows of their own.
+    /// An observable type with its own rows.
     Observable,
     /// Every other type.
     Other,
 }
 
-/// Some of the groups: those for which a common row stands.
+/// A set of groups: those to which a common row applies.
 #[derive(Clone, Copy)]
 pub(crate) struct Groups {
     pub(crate) domain: bool,

@@ -15,7 +15,7 @@ use stix_ids::IdRef;
 use stix_ids::laws::one_identifier;
 use stix_json::{Json, text_at, text_of};
 
-/// The identifier that a text is, which is the only one.
+/// Reads an identifier.
 fn identifier_of(text: &str) -> Option<IdRef<'_>>
     ensures some { IfSome result (λ parts. IsTextOf text.now (id_of parts)) }
     ensures only { (id : Id) → IsTextOf text.now id → option_map id_of result ≡ Some id }
@@ -23,7 +23,7 @@ fn identifier_of(text: &str) -> Option<IdRef<'_>>
     IdRef::read(text).ok()
 }
 
-/// What a value breaks of an identifier of any kind.
+/// The violation by a value that must be an identifier of any kind.
 pub(crate) fn check_any_reference(value: &Json) -> Option<Rule>
     ensures { ChecksSingle any_reference (data_of value.now) result }
 {
@@ -36,9 +36,10 @@ pub(crate) fn check_any_reference(value: &Json) -> Option<Rule>
     }
 }
 
-/// What a value breaks of an identifier of one of these kinds.
+/// The violation by a value that must be an identifier of one of these kinds.
 pub(crate) fn check_reference(kinds: &[&str], value: &Json) -> Option<Rule>
-    ensures { ChecksSingle (reference (map (λ kind. kind.now) kinds.now)) (data_of value.now) result }
+    ensures { ChecksSingle (reference (map (λ kind. kind.now) kinds.now))
+        (data_of value.now) result }
 {
     let Some(text) = text_of(value) else {
         return Some(Rule::WrongKind);
@@ -53,7 +54,7 @@ pub(crate) fn check_reference(kinds: &[&str], value: &Json) -> Option<Rule>
     }
 }
 
-/// What a value breaks of the identifier of an object of that type, where it tells one.
+/// The violation by the identifier of an object of this type, if the type is known.
 pub(crate) fn check_own_id(own: Option<&str>, value: &Json) -> Option<Rule>
     ensures { ChecksOwnId (option_map (λ kind. kind.now) own.entry) (data_of value.now) result }
 {
@@ -79,14 +80,15 @@ fn names_own(own: Option<&str>, text: &str) -> bool
     }
 }
 
-/// The identifier of an object. Takes no memory.
+/// The identifier of an object, borrowed. `None` if `id` is absent or not an identifier. Allocates
+/// nothing.
 pub fn object_id(object: &Json) -> Option<IdRef<'_>>
     ensures { FindsExactly (HasId (data_of object.now)) (option_map id_of result) }
 {
     identifier_of(text_at(object, "id")?)
 }
 
-/// Whether the object has an identifier with that number.
+/// Whether the object has an identifier with this UUID.
 pub(crate) fn has_number(object: &Object<'_>, number: u128) -> bool
     ensures { IsTrue result ↔ HasNumber (data_of object.now) number }
 {

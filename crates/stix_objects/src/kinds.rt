@@ -4,14 +4,14 @@ ghost use Rattle.stix_objects.specs.Types.{group_of, group_before_of};
 use crate::Group;
 use crate::object_type::{group_in, type_named};
 
-/// The group of the type of this name. Takes no memory.
+/// The group of an object type. Allocates nothing.
 pub fn group(kind: &str) -> Group
     ensures { result ≡ group_of kind.now }
 {
     group_in(type_named(kind))
 }
 
-/// The types that got their rows later than the others.
+/// The types whose rows were added in a later release.
 const LATER_TYPES: [&str; 4] = [
     "malware-analysis",
     "artifact",
@@ -19,7 +19,8 @@ const LATER_TYPES: [&str; 4] = [
     "x509-certificate",
 ];
 
-/// The group that the type of this name had before the later types got their rows. Takes no memory.
+/// The group that an object type had before the rows of `LATER_TYPES` were added. Allocates
+/// nothing.
 pub fn group_before(kind: &str) -> Group
     ensures { result ≡ group_before_of kind.now }
 {

@@ -1,5 +1,5 @@
-//! What follows from the definitions: the contracts are the laws, and the functions do nothing.
-//! That there is one is said as: not every one fails.
+//! Consequences of the definitions: each contract is a theorem, and its function does nothing.
+//! Existence is stated weakly: as "not every candidate fails".
 
 ghost use Rattle.std.specs.Prelude.{◌≡◌, ℕ, ℤ, List, [], Some, codes};
 ghost use Rattle.serde_json.specs.Data.{Data};
@@ -14,36 +14,39 @@ ghost use Rattle.stix_objects.specs.Sound.{MeetsAll, IsNamed, IsTimed};
 use stix_ids::laws::one_identifier;
 use stix_times::laws::one_instant;
 
-/// A value has one list of breaks.
+/// A value has at most one list of violations.
 pub fn one_list()
     ensures { (value : Data) (first second : List Break) → AreBreaksOf value first
         → AreBreaksOf value second → first ≡ second }
 {}
 
-/// No value is without its list of breaks.
+/// Every value has a list of violations.
 pub fn some_list()
     ensures { (value : Data) → ¬ ((breaks : List Break) → ¬ AreBreaksOf value breaks) }
 {}
 
 /// An object has at most one identifier.
 pub fn one_id()
-    ensures { (object : Data) (first second : Id) → HasId object first → HasId object second → first ≡ second }
+    ensures { (object : Data) (first second : Id) → HasId object first → HasId object second
+        → first ≡ second }
 {
     one_identifier();
 }
 
 /// A property is a timestamp of at most one instant.
 pub fn one_timestamp()
-    ensures { (precision : Precision) (name : List ℕ) (object : Data) (first second : ℤ) → IsTimestampAt precision name object first
+    ensures { (precision : Precision) (name : List ℕ) (object : Data) (first second : ℤ)
+        → IsTimestampAt precision name object first
         → IsTimestampAt precision name object second → first ≡ second }
 {
     one_instant();
 }
 
-/// What is known of a value without breaks: it meets all the rows of its type, it has a type and an
-/// identifier of that type, and an observed-data has its two times in order.
+/// Facts about a value without violations. It meets all the rows of its type, and has a type and an
+/// identifier of that type. An observed-data has its two times in order.
 pub fn no_breaks()
-    ensures rows { (value : Data) → AreBreaksOf value [] → MeetsAll (rows_for (type_of value)) value }
+    ensures rows { (value : Data) → AreBreaksOf value []
+        → MeetsAll (rows_for (type_of value)) value }
     ensures named { (value : Data) → AreBreaksOf value [] → IsNamed value }
     ensures observed { (value : Data) → AreBreaksOf value []
         → text_at (codes "type") value ≡ Some (codes "observed-data")

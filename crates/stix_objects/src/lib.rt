@@ -1,8 +1,17 @@
-//! The rules of STIX 2.1 for one object: the properties that its type names, their forms, and what
-//! they ask of each other (sections 2 to 7). `breaks` tells each row that an object doesn't meet,
-//! with the rule that is broken and its path; the rows are tables, which one check walks.
+//! Validates one STIX 2.1 object (sections 2 to 7): the properties of its type, their types, and
+//! the constraints between them. `breaks` returns every violation, as a `Break`: the broken rule,
+//! and the path to the value that breaks it.
 //!
-//! A type's rows stand in `tables`, and in the definitions of specs/ beside them.
+//! The rules are data: the tables of `tables` have a row for each requirement of the standard, and
+//! one interpreter (`check`) evaluates them. The modules of specs/ state the same tables
+//! independently.
+//!
+//! ```ignore
+//! let value = read_json(alloc, bytes)?;
+//! for found in breaks(alloc, &value)?.as_slice() {
+//!     report(found.rule.name(), found.path.as_str()); // "BadTime", "valid_from"
+//! }
+//! ```
 #![tactic(auto)]
 
 mod check;

@@ -12,9 +12,10 @@ use crate::row_break::{ItemBreak, ValueBreak};
 use crate::single::check_single;
 use stix_json::Json;
 
-/// What a property's value breaks of its form.
+/// The violation of a form by a property's value, if any.
 pub(crate) fn check_form(form: &Form, value: &Json) -> Option<ValueBreak>
-    ensures { ChecksForm (form_view form.now) (data_of value.now) (option_map value_break_view result) }
+    ensures { ChecksForm (form_view form.now) (data_of value.now)
+        (option_map value_break_view result) }
 {
     match form {
         Form::One(single) => check_here(single, value),
@@ -24,7 +25,8 @@ pub(crate) fn check_form(form: &Form, value: &Json) -> Option<ValueBreak>
 }
 
 fn check_here(single: &Single, value: &Json) -> Option<ValueBreak>
-    ensures { ChecksHere (single_view single.now) (data_of value.now) (option_map value_break_view result) }
+    ensures { ChecksHere (single_view single.now) (data_of value.now)
+        (option_map value_break_view result) }
 {
     match check_single(single, value) {
         Some(rule) => Some(ValueBreak::here(rule)),
@@ -33,7 +35,8 @@ fn check_here(single: &Single, value: &Json) -> Option<ValueBreak>
 }
 
 fn check_list(single: &Single, value: &Json) -> Option<ValueBreak>
-    ensures { ChecksForm (list (single_view single.now)) (data_of value.now) (option_map value_break_view result) }
+    ensures { ChecksForm (list (single_view single.now)) (data_of value.now)
+        (option_map value_break_view result) }
 {
     let Json::Array(items) = value else {
         return Some(ValueBreak::here(Rule::WrongKind));
@@ -41,7 +44,7 @@ fn check_list(single: &Single, value: &Json) -> Option<ValueBreak>
     check_filled(single, items.as_slice())
 }
 
-/// What a list breaks that must have an item.
+/// The violation by a list that must not be empty, if any.
 pub(crate) fn check_filled(single: &Single, items: &[Json]) -> Option<ValueBreak>
     ensures { ChecksList (ChecksHere (single_view single.now)) (items_of (map data_of items.now))
         (option_map value_break_view result) }
@@ -52,7 +55,7 @@ pub(crate) fn check_filled(single: &Single, items: &[Json]) -> Option<ValueBreak
     first_broken(single, items)
 }
 
-/// What the first item breaks that breaks something.
+/// The violation by the first invalid item, if any.
 fn first_broken(single: &Single, items: &[Json]) -> Option<ValueBreak>
     ensures { ChecksItems (ChecksHere (single_view single.now)) 0 (items_of (map data_of items.now))
         (option_map value_break_view result) }

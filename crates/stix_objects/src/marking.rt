@@ -7,21 +7,21 @@ use crate::identifier::{check_own_id, has_number};
 use crate::object::Object;
 use stix_json::{Json, text_at};
 
-/// Whether the object is a marking by a statement and lacks its text.
+/// Whether the object is a statement marking without its text (STIX 2.1, section 7.2.1.3).
 pub(crate) fn lacks_statement(object: &Object<'_>) -> bool
     ensures { IsTrue result ↔ LacksStatement (data_of object.now) }
 {
     is_marking(object, "statement") && defined_text(object, "statement").is_none()
 }
 
-/// Whether the object is a marking by a colour and lacks one of the four.
+/// Whether the object is a TLP marking without one of the four colours (section 7.2.1.4).
 pub(crate) fn lacks_colour(object: &Object<'_>) -> bool
     ensures { IsTrue result ↔ LacksColour (data_of object.now) }
 {
     is_marking(object, "tlp") && defined_colour(object).is_none()
 }
 
-/// Whether the object is a marking by a colour and hasn't that colour's identifier.
+/// Whether the object is a TLP marking whose identifier isn't the one fixed for its colour.
 pub(crate) fn has_other_colour(object: &Object<'_>) -> bool
     ensures { IsTrue result ↔ HasOtherColour (data_of object.now) }
 {
@@ -33,14 +33,14 @@ pub(crate) fn has_other_colour(object: &Object<'_>) -> bool
     }
 }
 
-/// Whether the object is a marking of the type, and its definition, if there is one, an object.
+/// Whether the object is a marking of this type, and its definition, if any, is an object.
 fn is_marking(object: &Object<'_>, definition_type: &str) -> bool
     ensures { IsTrue result ↔ IsMarking definition_type.now (data_of object.now) }
 {
     object.text_at("definition_type") == Some(definition_type) && defines_object_or_none(object)
 }
 
-/// Whether the object's definition, if there is one, is an object.
+/// Whether the object's definition, if any, is an object.
 fn defines_object_or_none(object: &Object<'_>) -> bool
     ensures { IsTrue result ↔ DefinesObjectOrNone (data_of object.now) }
 {
@@ -50,7 +50,7 @@ fn defines_object_or_none(object: &Object<'_>) -> bool
     }
 }
 
-/// Whether the object's identifier, if there is one, is of its type.
+/// Whether the object's identifier, if any, is of its type.
 fn has_own_id_or_none(object: &Object<'_>) -> bool
     ensures { IsTrue result ↔ HasOwnIdOrNone (data_of object.now) }
 {
@@ -67,14 +67,14 @@ fn defined_text<'a>(object: &Object<'a>, name: &str) -> Option<&'a str>
     text_at(object.get("definition")?, name)
 }
 
-/// The number of the identifier of the colour that the marking defines.
+/// The UUID of the colour that the marking defines.
 fn defined_colour(object: &Object<'_>) -> Option<u128>
     ensures { result ≡ colour_defined (data_of object.now) }
 {
     number_of(defined_text(object, "tlp")?)
 }
 
-/// The number of a colour's identifier, which is the same everywhere.
+/// The UUID of a colour, fixed by the standard.
 fn number_of(colour: &str) -> Option<u128>
     ensures { result ≡ number_of_colour colour.now }
 {

@@ -7,15 +7,15 @@ ghost use Rattle.stix_objects.specs.inner.Names.{slot, Covers, AreCovered};
 use std::marker::Model;
 use stix_json::{Field, Json, get, text_of};
 
-/// How many slots there are for names.
+/// The number of slots of the filter.
 const SLOTS: usize = 64;
 
-/// An object that is checked. Most rows ask for a property that isn't there, and are told so by the
-/// slot of its name, without a walk over the fields.
+/// An object with a filter over its property names, like a Bloom filter with one hash function.
+/// Most rows are about absent properties; the filter rules these out without a scan of the fields.
 #[derive(Drop)]
 pub(crate) struct Object<'a> {
     json: &'a Json,
-    /// The slots of the names that the object has.
+    /// For each slot, whether some name of the object has it.
     taken: [bool; SLOTS],
 }
 
@@ -36,7 +36,7 @@ impl<'a> Model for Object<'a> {
 }
 
 impl<'a> Object<'a> {
-    /// The value as an object; one without names where it is none.
+    /// The value as an object. Other values have no names.
     pub(crate) fn new(json: &'a Json) -> Object<'a>
         ensures { result ≡ json.now }
     {
@@ -46,16 +46,17 @@ impl<'a> Object<'a> {
         }
     }
 
-    /// The value that it is.
+    /// The value itself.
     pub(crate) fn json(&self) -> &'a Json
         ensures { result.now ≡ self.now }
     {
         self.json
     }
 
-    /// The value of the property of that name.
+    /// The value of the property of this name.
     pub(crate) fn get(&self, name: &str) -> Option<&'a Json>
-        ensures { option_map (λ value. data_of value.now) result ≡ member_of name.now (data_of self.now) }
+        ensures { option_map (λ value. data_of value.now) result
+            ≡ member_of name.now (data_of self.now) }
     {
         if self.definitely_lacks(name) {
             None
@@ -64,14 +65,15 @@ impl<'a> Object<'a> {
         }
     }
 
-    /// Whether the slot of the name tells that it has no such property.
+    /// Whether the filter proves that the object lacks the property. A false answer says nothing.
     pub(crate) fn definitely_lacks(&self, name: &str) -> bool
+        // Sound but not complete: a shared slot only costs a search.
         ensures { IsTrue result → member_of name.now (data_of self.now) ≡ None }
     {
         !self.taken[slot_of(name)]
     }
 
-    /// The text of the property of that name, where it is one.
+    /// The text of the property of this name, if it is one.
     pub(crate) fn text_at(&self, name: &str) -> Option<&'a str>
         ensures { option_map (λ text. text.now) result ≡ text_under name.now (data_of self.now) }
     {
@@ -79,7 +81,7 @@ impl<'a> Object<'a> {
     }
 }
 
-/// The slots of the names that a value has.
+/// The slots of the names of a value.
 fn slots_in(json: &Json) -> [bool; SLOTS]
     ensures { Covers result (data_of json.now) }
 {
@@ -100,7 +102,7 @@ fn slots_of(fields: &[Field]) -> [bool; SLOTS]
     taken
 }
 
-/// The slot of a name, by its first byte and its length, in which few properties agree.
+/// The slot of a name: a hash of its first byte and its length, which few property names share.
 fn slot_of(name: &str) -> usize
     ensures slot { result ≡ slot name.now }
     ensures within { result < 64 }

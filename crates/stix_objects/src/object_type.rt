@@ -7,7 +7,7 @@ use crate::Group;
 use crate::row::Row;
 use crate::tables::types::type_tables;
 
-/// An object type with rows of its own.
+/// An object type with its own rows.
 #[derive(Clone, Copy)]
 pub(crate) struct ObjectType {
     pub(crate) name: &'static str,
@@ -16,7 +16,8 @@ pub(crate) struct ObjectType {
 }
 
 impl ObjectType {
-    /// Whether it has that name. Most names differ in length, which tells them apart with no call.
+    /// Whether the type has this name. Compares the lengths first, since most names differ in
+    /// length.
     fn is_named(&self, name: &str) -> bool
         ensures { result ≡ bytes_eq self.now.name.now name.now }
     {
@@ -24,14 +25,14 @@ impl ObjectType {
     }
 }
 
-/// The type of this name, where it has rows of its own.
+/// The type of this name, if it has its own rows.
 pub(crate) fn type_named(name: &str) -> Option<&'static ObjectType>
     ensures { option_map (λ found. type_view found.now) result ≡ named_type name.now }
 {
     first_in(&type_tables(), name)
 }
 
-/// The first type of some tables that has the name.
+/// The first type with the name in some tables.
 fn first_in(tables: &[&'static [ObjectType]], name: &str) -> Option<&'static ObjectType>
     ensures { option_map (λ found. type_view found.now) result
         ≡ first_type name.now (flat_map (λ types. map type_view types.now) tables.now) }
@@ -44,7 +45,7 @@ fn first_in(tables: &[&'static [ObjectType]], name: &str) -> Option<&'static Obj
     None
 }
 
-/// The first of some types that has the name.
+/// The first type with the name.
 fn first_named(types: &'static [ObjectType], name: &str) -> Option<&'static ObjectType>
     ensures { option_map (λ found. type_view found.now) result
         ≡ first_type name.now (map type_view types.now) }
@@ -57,7 +58,7 @@ fn first_named(types: &'static [ObjectType], name: &str) -> Option<&'static Obje
     None
 }
 
-/// The group of a type, and `Other` where there is none.
+/// The group of a type: `Other` without a type.
 pub(crate) fn group_in(object_type: Option<&'static ObjectType>) -> Group
     ensures { result ≡ group_of_type (option_map (λ found. type_view found.now) object_type.entry) }
 {
@@ -67,7 +68,7 @@ pub(crate) fn group_in(object_type: Option<&'static ObjectType>) -> Group
     }
 }
 
-/// The own rows of a type, and none where there is no type.
+/// The own rows of a type: none without a type.
 pub(crate) fn rows_in(object_type: Option<&'static ObjectType>) -> &'static [Row]
     ensures { map row_view result.now
         ≡ rows_of_type (option_map (λ found. type_view found.now) object_type.entry) }

@@ -13,9 +13,10 @@ use crate::row_break::{ItemBreak, ValueBreak};
 use crate::single::check_single;
 use stix_json::Json;
 
-/// What a value breaks of a list of objects with these parts.
+/// The violation by a value that must be a list of objects with these parts.
 pub(crate) fn check_records(parts: &[Part], value: &Json) -> Option<ValueBreak>
-    ensures { ChecksForm (records (map part_view parts.now)) (data_of value.now) (option_map value_break_view result) }
+    ensures { ChecksForm (records (map part_view parts.now)) (data_of value.now)
+        (option_map value_break_view result) }
 {
     let Json::Array(items) = value else {
         return Some(ValueBreak::here(Rule::WrongKind));
@@ -26,9 +27,10 @@ pub(crate) fn check_records(parts: &[Part], value: &Json) -> Option<ValueBreak>
     }
 }
 
-/// What the first object breaks that breaks one of the parts.
+/// The violation by the first object that lacks or breaks a part.
 fn first_broken_record(parts: &[Part], items: &[Json]) -> Option<ValueBreak>
-    ensures { ChecksItems (ChecksParts (map part_view parts.now)) 0 (items_of (map data_of items.now))
+    ensures { ChecksItems (ChecksParts (map part_view parts.now)) 0
+        (items_of (map data_of items.now))
         (option_map value_break_view result) }
 {
     for (at, item) in items.iter().enumerate() {
@@ -39,9 +41,10 @@ fn first_broken_record(parts: &[Part], items: &[Json]) -> Option<ValueBreak>
     None
 }
 
-/// What an object breaks of the first part that it breaks.
+/// The violation of the first part that an object breaks.
 fn check_parts(parts: &[Part], object: &Object<'_>) -> Option<ItemBreak>
-    ensures { ChecksParts (map part_view parts.now) (data_of object.now) (option_map item_break_view result) }
+    ensures { ChecksParts (map part_view parts.now) (data_of object.now)
+        (option_map item_break_view result) }
 {
     for part in parts {
         if let Some(item_break) = check_part(part, object) {
@@ -52,7 +55,8 @@ fn check_parts(parts: &[Part], object: &Object<'_>) -> Option<ItemBreak>
 }
 
 fn check_part(part: &Part, object: &Object<'_>) -> Option<ItemBreak>
-    ensures { ChecksPart (part_view part.now) (data_of object.now) (option_map item_break_view result) }
+    ensures { ChecksPart (part_view part.now) (data_of object.now)
+        (option_map item_break_view result) }
 {
     match part {
         Part::Must(name, single) => match object.get(name) {
@@ -79,7 +83,7 @@ fn check_part(part: &Part, object: &Object<'_>) -> Option<ItemBreak>
     }
 }
 
-/// What the value of a part breaks of its form.
+/// The violation by the value of a part.
 fn check_in(name: &'static str, single: &Single, value: &Json) -> Option<ItemBreak>
     ensures { ChecksUnder name.now (ChecksHere (single_view single.now) (data_of value.now))
         (option_map item_break_view result) }
@@ -93,7 +97,7 @@ fn check_in(name: &'static str, single: &Single, value: &Json) -> Option<ItemBre
     }
 }
 
-/// Whether none of the properties is there.
+/// Whether none of the properties is present.
 pub(crate) fn lacks_all(object: &Object<'_>, names: &[&str]) -> bool
     ensures { IsTrue result ↔ LacksAll (map (λ name. name.now) names.now) (data_of object.now) }
 {

@@ -18,9 +18,11 @@ use flow_values::{Items, NoMemory, Text};
 use std::alloc::Global;
 use stix_json::{Json, text_at};
 
-/// The breaks of a value: one for each row of its type that it doesn't meet, in the order of the
-/// rows, the common ones first. A value that is no object has one break. Each row looks its fields up
-/// by `get`, and a type's rows are fixed in number, so the cost is linear in the number of fields.
+/// All violations of a value: at most one for each row of its type, in the order of the rows, with
+/// the common rows first. A value that isn't an object has the one violation `NotObject`.
+///
+/// Linear in the number of fields, since a type has a fixed number of rows. `NoMemory` is the only
+/// error.
 pub fn breaks(alloc: Global, value: &Json) -> Result<Items<Break>, NoMemory>
     ensures { IfOk result (λ found. AreBreaksOf (data_of value.now) found) }
 {
@@ -30,7 +32,7 @@ pub fn breaks(alloc: Global, value: &Json) -> Result<Items<Break>, NoMemory>
     }
 }
 
-/// The break of what is no object.
+/// The violation `NotObject`.
 fn not_object(alloc: Global) -> Result<Items<Break>, NoMemory>
     ensures { IfOk result (λ found. found ≡ break_of (here NotObject) ∷ []) }
 {
@@ -42,7 +44,7 @@ fn not_object(alloc: Global) -> Result<Items<Break>, NoMemory>
     Ok(found)
 }
 
-/// The breaks of the rows of an object's type.
+/// The violations of the rows of an object's type.
 fn object_breaks(alloc: Global, object: &Json) -> Result<Items<Break>, NoMemory>
     ensures { IfOk result (λ found. AreBreaksBy (rows_for (type_of (data_of object.now)))
         (data_of object.now) found) }
@@ -63,14 +65,14 @@ fn object_breaks(alloc: Global, object: &Json) -> Result<Items<Break>, NoMemory>
     Ok(found)
 }
 
-/// The type of an object, where it has rows of its own.
+/// The type of an object, if it has its own rows.
 fn object_type(object: &Json) -> Option<&'static ObjectType>
     ensures { option_map (λ found. type_view found.now) result ≡ type_of (data_of object.now) }
 {
     type_named(text_at(object, "type")?)
 }
 
-/// Adds the breaks of the common rows that stand for a group and beside a type's own rows.
+/// Adds the violations of the common rows that apply to a type, by its group and its own rows.
 fn add_common(
     alloc: Global,
     commons: &[CommonRow],
@@ -89,7 +91,7 @@ fn add_common(
     Ok(())
 }
 
-/// Adds the break of a common row, if it stands there and there is one.
+/// Adds the violation of a common row, if the row applies and is broken.
 fn add_applicable(
     alloc: Global,
     common: &CommonRow,
@@ -108,7 +110,7 @@ fn add_applicable(
     Ok(())
 }
 
-/// Adds the breaks of the rows.
+/// Adds the violations of the rows.
 fn add_own(
     alloc: Global,
     rows: &[Row],
@@ -123,7 +125,7 @@ fn add_own(
     Ok(())
 }
 
-/// Adds the break of a row, if there is one.
+/// Adds the violation of a row, if any.
 fn add_break(
     alloc: Global,
     row: &Row,

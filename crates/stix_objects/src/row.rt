@@ -7,51 +7,52 @@ use crate::Group;
 use crate::form::{Form, Precision};
 use crate::groups::Groups;
 
-/// What may hold of an object.
+/// A condition on an object.
 #[derive(Clone, Copy)]
 pub(crate) enum Condition {
     IsTrue(&'static str),
     IsFalse(&'static str),
-    /// The property is there and in its form.
+    /// The property is present and has this form.
     Meets(&'static str, Form),
     Absent(&'static str),
 }
 
-/// What an object must meet.
+/// One requirement on an object.
 #[derive(Clone, Copy)]
 pub(crate) enum Row {
     Required(&'static str, Form),
     Optional(&'static str, Form),
     RequiredWhere(&'static str, Form, Condition),
-    /// The identifier, which is of the object's type.
+    /// The identifier is of the object's type.
     OwnId,
     /// The second timestamp isn't earlier than the first.
     Order(Precision, &'static str, &'static str),
     /// The second timestamp is later than the first.
     StrictOrder(Precision, &'static str, &'static str),
-    /// At least one of the properties is there. It is told at a property, else of the whole object.
+    /// At least one of the properties is present. The violation is reported at a property, else at
+    /// the whole object.
     NeedsOneOf(Option<&'static str>, &'static [&'static str]),
-    /// The property may not be there where all this holds.
+    /// The property must be absent if all conditions hold.
     Excludes(&'static str, &'static [Condition]),
-    /// A marking by a statement has its text.
+    /// A statement marking has its text.
     Statement,
-    /// A marking by a colour has one of the four.
+    /// A TLP marking has one of the four colours.
     Colour,
-    /// A marking by a colour has that colour's identifier.
+    /// A TLP marking has the identifier of its colour.
     ColourId,
 }
 
-/// A row of several types.
+/// A row that several types share.
 #[derive(Drop)]
 pub(crate) enum CommonRow {
-    /// It stands for these groups.
+    /// It applies to these groups.
     For(Groups, Row),
-    /// It stands for these groups, unless the type's own rows name the property.
+    /// It applies to these groups, unless the type's own rows name the property.
     UnlessOwn(Groups, &'static str, Row),
 }
 
 impl Row {
-    /// Whether it is the row of the property of this name.
+    /// Whether the row is about the property of this name.
     fn is_of(&self, name: &str) -> bool
         ensures { result ≡ is_row_of name.now (row_view self.now) }
     {
@@ -72,9 +73,10 @@ impl Row {
 }
 
 impl CommonRow {
-    /// The row as it stands for a group and beside a type's own rows.
+    /// The row, if it applies to a type with this group and these own rows.
     pub(crate) fn applicable(&self, group: Group, own: &[Row]) -> Option<&Row>
-        ensures { option_map (λ row. row_view row.now) result ≡ applicable_row group (map row_view own.now) (common_view self.now) }
+        ensures { option_map (λ row. row_view row.now) result
+            ≡ applicable_row group (map row_view own.now) (common_view self.now) }
     {
         match self {
             CommonRow::For(groups, row) => {
@@ -98,7 +100,7 @@ impl CommonRow {
     }
 }
 
-/// Whether one of the rows is that of the property of this name.
+/// Whether one of the rows is about the property of this name.
 fn name_property(rows: &[Row], name: &str) -> bool
     ensures { result ≡ list_any (λ row. is_row_of name.now (row_view row)) rows.now }
 {

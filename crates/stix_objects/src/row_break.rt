@@ -7,7 +7,7 @@ use crate::{Break, Rule};
 use flow_values::{NoMemory, Text};
 use std::alloc::Global;
 
-/// What is broken in an object of a list, and in which of its properties, if in one.
+/// A violation in an object of a list: the rule, and the property, if it is in one.
 #[derive(Clone, Copy)]
 pub(crate) struct ItemBreak {
     pub(crate) rule: Rule,
@@ -15,7 +15,7 @@ pub(crate) struct ItemBreak {
 }
 
 impl ItemBreak {
-    /// The same, seen from the list.
+    /// The violation as seen from the list.
     pub(crate) fn in_item(self, at: usize) -> ValueBreak
         ensures { value_break_view result ≡ under (index_part at) (item_break_view self) }
     {
@@ -30,18 +30,18 @@ impl ItemBreak {
     }
 }
 
-/// Where something stands in the value of a property.
+/// A location in the value of a property.
 #[derive(Clone, Copy)]
 pub(crate) enum ValueLocation {
-    /// It is that value.
+    /// The value itself.
     Here,
-    /// It is the item at this place.
+    /// The item at this index.
     Item(usize),
-    /// It is a property of the item.
+    /// A property of the item at this index.
     ItemPart(usize, &'static str),
 }
 
-/// What is broken in the value of a property.
+/// A violation in the value of a property.
 #[derive(Clone, Copy)]
 pub(crate) struct ValueBreak {
     pub(crate) rule: Rule,
@@ -59,7 +59,7 @@ impl ValueBreak {
         }
     }
 
-    /// The same, seen from the object.
+    /// The violation as seen from the object.
     pub(crate) fn in_property(self, name: &'static str) -> RowBreak
         ensures { row_break_view result ≡ under name.now (value_break_view self) }
     {
@@ -70,14 +70,14 @@ impl ValueBreak {
     }
 }
 
-/// Where something stands in an object.
+/// A location in an object.
 #[derive(Clone, Copy)]
 pub(crate) enum ObjectLocation {
-    /// It is the object.
+    /// The whole object.
     Whole,
-    /// It stands in this property.
+    /// In this property.
     Property(&'static str, ValueLocation),
-    /// It is a property of the object in a property.
+    /// A property of the object in a property.
     Within(&'static str, &'static str),
 }
 
@@ -101,7 +101,7 @@ impl ObjectLocation {
     }
 }
 
-/// What is broken in an object.
+/// A violation in an object.
 #[derive(Clone, Copy)]
 pub(crate) struct RowBreak {
     pub(crate) rule: Rule,
@@ -116,7 +116,7 @@ impl RowBreak {
         ValueBreak::here(rule).in_property(name)
     }
 
-    /// The break, with its path.
+    /// The violation with its path as text.
     #[cold]
     pub(crate) fn into_break(self, alloc: Global) -> Result<Break, NoMemory>
         ensures { IfOk result (λ found. found ≡ break_of (row_break_view self)) }

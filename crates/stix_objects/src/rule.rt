@@ -3,41 +3,41 @@ ghost use Rattle.stix_objects.specs.RuleName.{rule_name};
 
 use std::fmt;
 
-/// What an object breaks.
+/// A rule of STIX 2.1 for objects, by how it is broken.
 #[derive(Clone, Copy, Debug, PartialEq, Eq)]
 pub enum Rule {
-    /// The value is no object.
+    /// The value isn't an object.
     NotObject,
     /// A required property is absent.
     Missing,
-    /// The value is of another kind of JSON than its form asks for.
+    /// The value has another JSON type than its property requires.
     WrongKind,
-    /// The text is no identifier, or not the object's own.
+    /// The text isn't an identifier, or not one of the object's own type.
     BadId,
-    /// The text is no timestamp.
+    /// The text isn't a timestamp.
     BadTime,
-    /// The timestamp hasn't three to six digits of a second.
+    /// The timestamp doesn't have three to six fraction digits.
     NotMillis,
-    /// The number lies outside its range.
+    /// The number is outside its range.
     OutOfRange,
     /// The list or the object of hashes is empty.
     EmptyList,
     /// The second of two timestamps is too early.
     BadOrder,
-    /// The identifier names an object of a kind that may not stand here.
+    /// The identifier is of a kind that isn't allowed here.
     BadReference,
-    /// None of several properties is there, of which one is required.
+    /// None of several properties is present, of which one is required.
     NeedsOneOf,
-    /// The property may not stand beside another one.
+    /// The property isn't allowed beside another one.
     Excludes,
-    /// The text is none of those that may stand here.
+    /// The text isn't one of those allowed here.
     BadWord,
-    /// The version of the specification is another one.
+    /// `spec_version` isn't `2.1`.
     BadSpec,
 }
 
 impl Rule {
-    /// The rule's name, as it is told.
+    /// The rule's name, as it is printed.
     pub fn name(self) -> &'static str
         ensures { result.now ≡ rule_name self }
     {

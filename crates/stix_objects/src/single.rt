@@ -11,7 +11,7 @@ use crate::timestamp::check_timestamp;
 use stix_ids::read_kind;
 use stix_json::{Field, Json, text_of};
 
-/// What a value breaks of its form.
+/// The violation of a type by a value, if any.
 pub(crate) fn check_single(single: &Single, value: &Json) -> Option<Rule>
     ensures { ChecksSingle (single_view single.now) (data_of value.now) result }
 {
@@ -122,7 +122,7 @@ fn check_hashes(value: &Json) -> Option<Rule>
     }
 }
 
-/// What the members of an object of hashes break.
+/// The violation by the members of an object of hashes, if any.
 fn check_texts(fields: &[Field]) -> Option<Rule>
     ensures { ChecksTexts (members_of (map field_data fields.now)) result }
 {

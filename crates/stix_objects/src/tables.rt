@@ -1,4 +1,4 @@
-//! The tables of the rules: the rows that types share, the own rows of each type, and the types.
+//! The tables of the rules: the common rows, the own rows of each type, and the types.
 
 pub(crate) mod common;
 mod domain;

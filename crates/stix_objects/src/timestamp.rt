@@ -15,7 +15,7 @@ use stix_json::{Json, text_at, text_of};
 use stix_times::laws::{is_before, one_instant};
 use stix_times::{Instant, TimeRefusal, read, read_millis};
 
-/// What a value breaks of a timestamp.
+/// The violation by a value that must be a timestamp, if any.
 pub(crate) fn check_timestamp(precision: Precision, value: &Json) -> Option<Rule>
     ensures { ChecksSingle (timestamp precision) (data_of value.now) result }
 {
@@ -55,10 +55,11 @@ fn check_millis(text: &str) -> Option<Rule>
     }
 }
 
-/// The instant that a text names in that precision.
+/// The instant of a text with this precision.
 fn instant_of(precision: Precision, text: &str) -> Option<Instant>
     ensures some { IfSome result (IsTimestampOf precision text.now) }
-    ensures only { (instant : ℤ) → IsTimestampOf precision text.now instant → result ≡ Some instant }
+    ensures only { (instant : ℤ) → IsTimestampOf precision text.now instant
+        → result ≡ Some instant }
 {
     match precision {
         Precision::Any => time_of(text),
@@ -86,14 +87,15 @@ fn millis_of(text: &str) -> Option<Instant>
     }
 }
 
-/// The instant of a property that is a timestamp in that precision. Takes no memory.
+/// The instant of a property with this precision. `None` if it is absent or not such a timestamp.
+/// Allocates nothing.
 pub fn timestamp_at(object: &Json, precision: Precision, name: &str) -> Option<Instant>
     ensures { FindsExactly (IsTimestampAt precision name.now (data_of object.now)) result }
 {
     instant_at(object, precision, name)
 }
 
-/// The same.
+/// The instant of a property with this precision.
 fn instant_at(object: &Json, precision: Precision, name: &str) -> Option<Instant>
     ensures there { IfSome result (IsTimestampAt precision name.now (data_of object.now)) }
     ensures only { (instant : ℤ) → IsTimestampAt precision name.now (data_of object.now) instant
@@ -102,8 +104,8 @@ fn instant_at(object: &Json, precision: Precision, name: &str) -> Option<Instant
     instant_of(precision, text_at(object, name)?)
 }
 
-/// Whether both properties are timestamps, and the second is earlier than the first. Mostly both are
-/// the same text, which isn't read then.
+/// Whether both properties are timestamps, and the second is earlier than the first. A fast path
+/// skips parsing if the texts are equal, as they mostly are.
 pub(crate) fn second_is_earlier(
     object: &Object<'_>,
     precision: Precision,

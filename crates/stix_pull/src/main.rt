@@ -1,5 +1,5 @@
-//! The program `stix_pull`: all objects of a collection of a TAXII 2.1 server, fetched page by page and written as
-//! lines, each page before the next one is asked for.
+//! The program `stix_pull`: fetches all objects of a collection of a TAXII 2.1 server page by page,
+//! and writes them as lines. Each page is written before the next one is requested.
 #![tactic(auto)]
 
 use command_line::program_arguments;

@@ -149,7 +149,7 @@ one_canonical_text z a b p q =
     let fraction = same_fraction p.0.fraction q.0.fraction p.1.shaped.fraction q.1.shaped.fraction p.2.0.fine q.2.0.fine p.2.2 q.2.2 in
     p.1.spelling ∙ ap text_of (same_timestamp p.0 q.0 p.1.shaped q.1.shaped p.2.0 q.2.0 (p.2.1 ∙ sym q.2.1) fraction) ∙ sym q.1.spelling
 
--- and one with so many digits
+-- and one with this many digits
 pub one_text_of_digits : (n : ℕ) (z : ℤ) (a b : List ℕ) → IsTextOfDigits n a z → IsTextOfDigits n b z → a ≡ b
 one_text_of_digits n z a b p q =
     let fraction = same_length_fraction p.0.fraction q.0.fraction p.1.shaped.fraction q.1.shaped.fraction (p.2.2 ∙ sym q.2.2) in

@@ -1,4 +1,4 @@
--- The bytes that fit their offsets, over lists: how far they reach, and what is in front or behind.
+-- The bytes that fit their offsets, over lists: how far they reach, and what is before or after.
 use Rattle.std.proofs.Common.{◌≡◌, ℕ, zero, suc, ◌+◌, ◌≤◌, true, false, cond, List, [], ◌∷◌, ◌++◌, length, take, refl, subst, arith, add-zero}
 use Rattle.std.proofs.lemmas.Bool.{false≢true}
 use Rattle.stix_times.specs.Offsets.{fits, bounds_at, fitting_end, end_from}

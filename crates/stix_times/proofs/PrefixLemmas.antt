@@ -1,5 +1,5 @@
 -- The prefixes that begin a text of the shape are those whose bytes fit their offsets: any such prefix
--- goes on to a whole text. So where the bytes stop to fit is where a refusal points.
+-- extends to a whole text. So where the bytes stop fitting is where a refusal points.
 use Rattle.std.proofs.Common.{◌≡◌, ℕ, ◌+◌, ◌<◌, ◌≤◌, ⊎_elim, List, [], ◌∷◌, ◌++◌, length, take, drop, refl, sym, ◌∙◌, subst, arith, below_more, below_none, length-append, length-drop}
 use Rattle.std.proofs.lemmas.Bool.Decides.{nat_tests}
 use Rattle.std.proofs.lemmas.Bool.{cases_lt, cases_eq}
@@ -105,7 +105,7 @@ last_or-append_list : (before : ℕ) (p q : List ℕ) → last_or before (p ++ q
 last_or-append_list before [] q = refl
 last_or-append_list before (x ∷ xs) q = last_or-append_list x xs q
 
--- how a text whose bytes fit goes on
+-- how a text whose bytes fit continues
 record IsEndOf (p rest : List ℕ) : Type 0 where
   fit : AllFit (length p) (last_or 0 p) rest
   long : 20 ≤ length p + length rest
@@ -143,7 +143,7 @@ BeginsShape-from_fit p f = ⊎_elim
 pub fit_from_BeginsShape : (p : List ℕ) → BeginsShape p → AllFit 0 0 p
 fit_from_BeginsShape p h = AllFit-front 0 0 p h.0 (Spells-ends h.1.0 (p ++ h.0) h.1.1).0
 
--- where the bytes stop to fit is the longest prefix that begins the shape
+-- where the bytes stop fitting is the longest prefix that begins the shape
 pub longest_prefix : (s : List ℕ) (n : ℕ) → n ≡ fitting_end 0 0 s → IsLongestShapePrefix s n
 longest_prefix s n e = record {
   within = omega (arith, fitting_end-le 0 0 s);

@@ -1,4 +1,4 @@
--- The shape by its parts is the shape by its offsets: a text of the shape has each byte in its offset,
+-- The shape by its parts is the shape by its offsets: a text of the shape has each byte at its offset,
 -- and bytes that fit up to a last `Z` spell the parts that stand at the offsets.
 use Rattle.std.proofs.Common.{◌≡◌, ◌≢◌, ℕ, zero, suc, subst, length-append, ◌+◌, ◌-◌, ◌*◌, ◌/◌, ◌%◌, ◌<◌, ◌≤◌, true, List, [], ◌∷◌, ◌++◌, length, take, drop, get_or, All, refl, sym, ap, ◌∙◌, arith}
 use Rattle.std.specs.Char.{IsAsciiDigit}
@@ -148,7 +148,7 @@ fraction_from_fit before (x ∷ y ∷ ys) l f z =
     let r = digits_from_fit 21 y ys (omega arith) dot.1 f.1.1 z in
     (y ∷ r.0, record { digits = all_cons y r.0 dot.1 r.1.digits; is = ap (λ v. x ∷ y ∷ v) r.1.is ∙ ap (λ v. v ∷ y ∷ r.0 ++ 90 ∷ []) dot.0 })
 
--- where the fraction's digits stand behind the seconds
+-- where the fraction's digits stand after the seconds
 fraction_offset : (ds : List ℕ) → take (length (fraction_text ds ++ 90 ∷ []) - 2) (drop 1 (fraction_text ds ++ 90 ∷ [])) ≡ ds
 fraction_offset [] = refl
 fraction_offset (d ∷ ds) =

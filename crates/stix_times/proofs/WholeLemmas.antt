@@ -29,7 +29,7 @@ sum_whole day seconds nanos micros is = omega (arith, ints)
 seconds_of : Timestamp → ℕ
 seconds_of t = 3600 * t.hour + 60 * t.minute + t.second
 
--- the microseconds of a text with so many digits
+-- the microseconds of a text with this many digits
 pub millis_whole : (text : List ℕ) (instant : ℤ) → IsMillisTextOf text instant → (micros : ℤ) × (instant ≡ micros *ℤ pos 1000)
 unfolding seconds_of
 millis_whole text instant named =

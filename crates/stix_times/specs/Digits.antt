@@ -1,4 +1,4 @@
--- The digits of a fraction that is written.
+-- The digits of a fraction to write.
 use Rattle.std.specs.Prelude.{◌≡◌, ℕ, zero, suc, ◌+◌, ◌/◌, ◌%◌, ◌^◌, List, [], ◌∷◌, ◌++◌}
 
 -- a number below 10 ^ n in n digits

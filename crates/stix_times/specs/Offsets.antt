@@ -1,5 +1,5 @@
--- The shape of specs/Timestamp.antt byte by byte: which byte may stand at a offset, after which byte.
--- That the two are the same is proved in proofs/ShapeLemmas.antt and proofs/PrefixLemmas.antt.
+-- The form of specs/Timestamp.antt byte by byte: which byte may stand at an offset, after which
+-- byte. proofs/ShapeLemmas.antt and proofs/PrefixLemmas.antt prove that both definitions agree.
 use Rattle.std.specs.Prelude.{ℕ, ◌+◌, ◌-◌, ◌*◌, Bool, false, ◌||◌, ◌==◌, nat_lt, if◌then◌else◌, List, [], ◌∷◌, length, take, drop, slice_index}
 use Rattle.std.specs.Char.{IsAsciiDigit}
 use Rattle.std.specs.Int.{is_in_range}
@@ -28,19 +28,19 @@ fits_fraction before byte =
     else (if before == 46 then is_in_range 48 57 byte
     else is_in_range 48 57 byte || byte == 90)
 
--- the byte may stand at this offset of a text of the shape
+-- the byte may stand at this offset of a timestamp
 unfoldable pub fits : ℕ → ℕ → ℕ → Bool
 fits at before byte =
     if nat_lt at 19 then is_in_range (bounds_at at before).0 (bounds_at at before).1 byte
     else (if at == 19 then byte == 46 || byte == 90 else fits_fraction before byte)
 
--- how far the bytes from a offset on fit
+-- the end of the longest run of fitting bytes from an offset on
 abbrev pub fitting_end : ℕ → ℕ → List ℕ → ℕ
 fitting_end at before [] = at
 fitting_end at before (byte ∷ bytes) =
     if fits at before byte then fitting_end (at + 1) byte bytes else at
 
--- how far the bytes of a text fit, if those before this offset do
+-- the end of the longest fitting prefix of a text, if the bytes before this offset fit
 abbrev pub end_from : List ℕ → ℕ → ℕ
 end_from text at = fitting_end at (slice_index text (at - 1)) (drop at text)
 
@@ -61,11 +61,11 @@ pub record AreDigits (text : List ℕ) : Type 0 where
   pub digit_17 : IsAsciiDigit (slice_index text 17)
   pub digit_18 : IsAsciiDigit (slice_index text 18)
 
--- the number of two digits
+-- the number written by two digits
 abbrev pub pair_at : List ℕ → ℕ → ℕ
 pair_at text at = 10 * (slice_index text at - 48) + (slice_index text (at + 1) - 48)
 
--- the parts that stand at the offsets of the shape
+-- the parts at their fixed offsets
 unfoldable pub parts_at : List ℕ → Timestamp
 parts_at text = record {
   year = 100 * pair_at text 0 + pair_at text 2;

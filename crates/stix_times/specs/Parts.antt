@@ -1,4 +1,4 @@
--- The parts that reading a text of the shape finds, and which instant they name.
+-- The parts of a text in the form of a timestamp, and the instant that they name.
 use Rattle.std.specs.Prelude.{◌≡◌, ◌<◌, ℤ, length}
 use Rattle.stix_times.specs.declared.parts.Parts.{Parts}
 use Rattle.stix_times.specs.declared.refusal.TimeRefusal.{TimeRefusal}

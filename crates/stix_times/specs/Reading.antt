@@ -1,10 +1,10 @@
--- What reading a text answers: the instant that the text names, or why it names none.
+-- The result of reading a text: the instant that the text names, or why it names none.
 use Rattle.std.specs.Prelude.{◌≡◌, ℕ, ◌<◌, ◌≤◌, ℤ, List, length, take, Result, Ok, Err}
 use Rattle.stix_times.specs.declared.refusal.TimeRefusal.{TimeRefusal}
 use Rattle.stix_times.specs.declared.refusal.TimeRefusal.TheVariants.{Shape, NoSuchDay, TooFine, NotMillis}
 use Rattle.stix_times.specs.Timestamp.{Timestamp, Spells, HasDay, HasShape, BeginsShape, nanos_of}
 
--- the text has the shape, with parts of which the fact holds
+-- the text has the form, with parts that meet the condition
 abbrev pub HasShapeWhere : (Timestamp → Type 0) → List ℕ → Type 0
 HasShapeWhere P text = (t : Timestamp) × Spells t text × P t
 
@@ -25,7 +25,7 @@ IsTextOf text instant = HasShapeWhere (λ t. IsExact t × (nanos_of t ≡ instan
 abbrev pub IsMillisTextOf : List ℕ → ℤ → Type 0
 IsMillisTextOf text instant = HasShapeWhere (λ t. IsExact t × HasMillis t × (nanos_of t ≡ instant)) text
 
--- the first `at` bytes begin a text of the shape, and no more do
+-- the first `at` bytes begin a text of the form, and no longer prefix does
 pub record IsLongestShapePrefix (text : List ℕ) (at : ℕ) : Type 0 where
   pub within : at ≤ length text
   pub begins : BeginsShape (take at text)
@@ -45,12 +45,12 @@ IsRefusedMillis text NoSuchDay = IsRefused text NoSuchDay
 IsRefusedMillis text TooFine = IsRefused text TooFine
 IsRefusedMillis text NotMillis = HasShapeWhere (λ t. IsExact t × (¬ HasMillis t)) text
 
--- what reading the text answers
+-- the result of reading the text
 abbrev pub Reads : List ℕ → Result ℤ TimeRefusal → Type 0
 Reads text (Ok instant) = IsTextOf text instant
 Reads text (Err refusal) = IsRefused text refusal
 
--- what reading the text answers, where three to six digits of a fraction are asked for
+-- the result of reading the text with three to six fraction digits required
 abbrev pub ReadsMillis : List ℕ → Result ℤ TimeRefusal → Type 0
 ReadsMillis text (Ok instant) = IsMillisTextOf text instant
 ReadsMillis text (Err refusal) = IsRefusedMillis text refusal

@@ -1,6 +1,6 @@
--- Timestamps of STIX 2.1, section 2.16 `timestamp`: the `date-time` of RFC 3339, section 5.6, in UTC,
--- with the capitals `T` and `Z`, and no leap second. A timestamp is its parts, a printer from the
--- parts to the text, and facts that say which parts are valid. Of the bytes, 45 is `-`, 46 is `.`,
+-- Timestamps of STIX 2.1, section 2.16 `timestamp`: the `date-time` of RFC 3339, section 5.6, in
+-- UTC, with the capitals `T` and `Z`, and no leap second. A timestamp is defined by its parts, a
+-- printer from the parts to the text, and the conditions on valid parts. Byte 45 is `-`, 46 is `.`,
 -- 48 is `0`, 58 is `:`, 84 is `T` and 90 is `Z`.
 use Rattle.std.specs.Prelude.{◌≡◌, ℕ, ◌+◌, ◌-◌, ◌*◌, ◌/◌, ◌%◌, ◌^◌, ◌<◌, ◌≤◌, ℤ, pos, ◌+ℤ◌, ◌*ℤ◌, List, [], ◌∷◌, ◌++◌, length, All}
 use Rattle.std.specs.Char.{IsAsciiDigit}
@@ -8,7 +8,7 @@ use Rattle.std.specs.Int.{IsInRange}
 use Rattle.std.specs.Str.Parse.{digits_value}
 use Rattle.jiff_core.specs.Calendar.{days_in_month, days_from_civil}
 
--- the parts of a timestamp: the fraction is the bytes of its digits, none where there is no dot
+-- the parts of a timestamp: the fraction is the bytes of its digits, none if there is no dot
 pub record Timestamp : Type 0 where
   pub year : ℕ
   pub month : ℕ
@@ -41,7 +41,7 @@ fraction_text (d ∷ ds) = 46 ∷ d ∷ ds
 unfoldable pub text_of : Timestamp → List ℕ
 text_of t = date_text t ++ 84 ∷ time_text t ++ (fraction_text t.fraction ++ 90 ∷ [])
 
--- each part lies in its range, whatever the month
+-- each part is in its range, whatever the month
 pub record IsShaped (t : Timestamp) : Type 0 where
   pub year : t.year < 10000
   pub month : IsInRange 1 12 t.month
@@ -55,7 +55,7 @@ pub record IsShaped (t : Timestamp) : Type 0 where
 abbrev pub HasDay : Timestamp → Type 0
 HasDay t = t.day ≤ days_in_month (pos t.year) t.month
 
--- the fraction's digits as nanoseconds, where there are at most nine
+-- the fraction's digits as nanoseconds, for at most nine of them
 abbrev pub fraction_nanos : List ℕ → ℕ
 fraction_nanos digits = digits_value 10 digits * 10 ^ (9 - length digits)
 
@@ -71,15 +71,15 @@ day_number t = days_from_civil (pos t.year) t.month t.day
 abbrev pub nanos_of : Timestamp → ℤ
 nanos_of t = day_number t *ℤ pos 86_400_000_000_000 +ℤ pos (nanos_of_day t)
 
--- the text is of the shape, with these parts
+-- the text has the form, with these parts
 pub record Spells (t : Timestamp) (text : List ℕ) : Type 0 where
   pub shaped : IsShaped t
   pub spelling : text ≡ text_of t
 
--- the text is of the shape
+-- the text has the form
 abbrev pub HasShape : List ℕ → Type 0
 HasShape text = (t : Timestamp) × Spells t text
 
--- some text of the shape begins so
+-- some text of the form has this prefix
 abbrev pub BeginsShape : List ℕ → Type 0
 BeginsShape prefix = (rest : List ℕ) × HasShape (prefix ++ rest)

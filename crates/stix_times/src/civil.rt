@@ -1,3 +1,6 @@
+//! From an instant to a civil date and time: division by the length of a day, and the calendar of
+//! `jiff_core` for the days.
+
 ghost use Rattle.std.specs.Prelude.{◌≡◌, ◌<◌, ◌≤◌, ◌≤ℤ◌, ◌+ℤ◌, ◌*ℤ◌, pos, [], ◌++◌, length, take, drop};
 ghost use Rattle.jiff_core.specs.Date.{epoch_day};
 ghost use Rattle.stix_times.specs.Timestamp.{IsShaped, date_text, time_text, text_of};
@@ -16,7 +19,7 @@ const NANOS_BEFORE_EPOCH: i128 = 62_167_219_200_000_000_000;
 /// The days from -9999-01-01 to 0000-01-01.
 const DAYS_BEFORE_ZERO: u32 = 3_652_059;
 
-/// The date and the time of day of an instant.
+/// A civil date and time of day, in UTC.
 #[derive(Clone, Copy)]
 pub(crate) struct Civil {
     pub(crate) year: u16,
@@ -39,7 +42,7 @@ impl Civil {
         Civil::new(date, (since_zero % NANOS_PER_DAY) as u64)
     }
 
-    /// The date, and the time of day so many nanoseconds after midnight.
+    /// The date, and the time of day `nanos` nanoseconds after midnight.
     fn new(date: Date, nanos: u64) -> Civil
         requires from_zero { pos 0 ≤ℤ date.year }
         requires within { nanos < 86_400_000_000_000 }
@@ -57,7 +60,7 @@ impl Civil {
         }
     }
 
-    /// Writes the timestamp with these digits of a second to the start of `out`, and answers its
+    /// Writes the timestamp to the start of `out`, with this fraction of a second, and returns its
     /// length.
     pub(crate) fn write(&self, fraction: Fraction, out: &mut [u8; 32]) -> usize
         requires { IsShaped (timestamp_with self.now []) }
@@ -75,7 +78,7 @@ impl Civil {
         line.copy_to(out)
     }
 
-    /// Adds `YYYY-MM-DD`.
+    /// Appends `YYYY-MM-DD`.
     #[tactic(auto, unfolding(crate::specs::Civil::timestamp_with))]
     fn push_date(&self, line: &mut Line)
         requires shaped { IsShaped (timestamp_with self.now []) }
@@ -90,7 +93,7 @@ impl Civil {
         line.push_pair(self.day);
     }
 
-    /// Adds `HH:mm:ss`.
+    /// Appends `HH:mm:ss`.
     #[tactic(auto, unfolding(crate::specs::Civil::timestamp_with))]
     fn push_time(&self, line: &mut Line)
         requires shaped { IsShaped (timestamp_with self.now []) }

@@ -2,7 +2,7 @@ ghost use Rattle.std.specs.Prelude.{◌≡◌, ◌%◌, ◌^◌, ◌<◌, ◌≤
 ghost use Rattle.std.specs.Char.{IsAsciiDigit};
 ghost use Rattle.stix_times.specs.Timestamp.{fraction_nanos};
 
-/// The digits after the dot as nanoseconds: the first stands for tenths of a second.
+/// The digits after the dot as nanoseconds: the first digit counts tenths of a second.
 pub(crate) fn nanos_of_fraction(digits: &[u8]) -> u64
     requires fine { length digits.now ≤ 9 }
     requires digits { All IsAsciiDigit digits.now }
@@ -16,7 +16,7 @@ pub(crate) fn nanos_of_fraction(digits: &[u8]) -> u64
     value * 10u64.pow(9 - digits.len() as u32)
 }
 
-/// A fraction to be written: the number that its digits write, and how many they are.
+/// A fraction to write: `value` in `digits` decimal digits, padded with leading zeros.
 #[derive(Clone, Copy)]
 pub(crate) struct Fraction {
     pub(crate) value: u32,
@@ -28,7 +28,7 @@ pub(crate) struct Fraction {
 impl Fraction {
     ghost use Rattle.std.specs.Prelude.{◌*◌, ◌-◌, ◌≢◌};
 
-    /// The fraction that writes the number with that many digits.
+    /// The fraction with this value and number of digits.
     pub(crate) fn new(value: u32, digits: usize) -> Fraction
         requires few { digits ≤ 9 }
         requires fits { value < 10 ^ digits }
@@ -38,7 +38,7 @@ impl Fraction {
         Fraction { value, digits }
     }
 
-    /// The fraction of that many nanoseconds with the fewest digits.
+    /// The fraction with the fewest digits that equals this number of nanoseconds.
     pub(crate) fn shortest(nanosecond: u32) -> Fraction
         requires { nanosecond < 1_000_000_000 }
         ensures value { result.value * 10 ^ (9 - result.digits) ≡ nanosecond }

@@ -3,7 +3,7 @@ ghost use Rattle.stix_times.specs.Instant.{IsInstant};
 
 use std::marker::Model;
 
-/// An instant of the years 0000 to 9999, to the nanosecond. Instants are ordered as time is.
+/// An instant of the years 0000 to 9999, to the nanosecond. The order of instants is that of time.
 #[derive(Clone, Copy, Debug, PartialEq, Eq, PartialOrd, Ord, Hash)]
 pub struct Instant {
     nanos: i128,
@@ -29,7 +29,7 @@ const FIRST: i128 = -62_167_219_200_000_000_000;
 const LAST: i128 = 253_402_300_799_999_999_999;
 
 impl Instant {
-    /// The instant that many nanoseconds after 1970-01-01T00:00:00Z.
+    /// The instant `nanos` nanoseconds after 1970-01-01T00:00:00Z.
     pub(crate) fn new(nanos: i128) -> Instant
         requires { IsInstant nanos }
         ensures { result ≡ nanos }
@@ -46,7 +46,7 @@ pub fn nanos(instant: Instant) -> i128
     instant.nanos
 }
 
-/// The instant that many nanoseconds after 1970-01-01T00:00:00Z, if it lies in the years 0000 to
+/// The instant `nanos` nanoseconds after 1970-01-01T00:00:00Z. `None` outside the years 0000 to
 /// 9999.
 pub fn from_nanos(nanos: i128) -> Option<Instant>
     ensures { SomeIff result (IsInstant nanos) nanos }
@@ -57,7 +57,7 @@ pub fn from_nanos(nanos: i128) -> Option<Instant>
     Some(Instant { nanos })
 }
 
-/// The instant that many microseconds after 1970-01-01T00:00:00Z, if it lies before the year 10000.
+/// The instant `micros` microseconds after 1970-01-01T00:00:00Z. `None` from the year 10000 on.
 pub fn from_micros(micros: u64) -> Option<Instant>
     ensures { SomeIff result (micros ≤ 253_402_300_799_999_999) (pos (1000 * micros)) }
 {

@@ -1,4 +1,4 @@
-//! What follows from the definitions: the contracts are the laws, and the functions do next to
+//! Consequences of the definitions: each contract is a theorem, and its function does next to
 //! nothing.
 
 ghost use Rattle.std.specs.Prelude.{◌≡◌, ◌↔◌, ℕ, ℤ, List, IsTrue, ◌<ℤ◌, ◌≤◌};
@@ -19,15 +19,15 @@ pub fn one_canonical_text()
         → IsCanonicalTextOf second instant → first ≡ second }
 {}
 
-/// An instant has at most one text with a given number of digits of a second.
+/// An instant has at most one text with a given number of fraction digits.
 pub fn one_text_of_digits()
     ensures { (digits : ℕ) (instant : ℤ) (first second : List ℕ)
         → IsTextOfDigits digits first instant → IsTextOfDigits digits second instant
         → first ≡ second }
 {}
 
-/// What is written reads as the instant that it was written for, and three to six digits also where
-/// so many are asked for.
+/// A written text reads back as its instant. With three to six fraction digits, so does
+/// `read_millis`.
 pub fn written_reads_back()
     ensures shortest { (instant : ℤ) (text : List ℕ) → IsCanonicalTextOf text instant
         → IsTextOf text instant }
@@ -37,12 +37,12 @@ pub fn written_reads_back()
         → IsTextOfDigits digits text instant → IsMillisTextOf text instant }
 {}
 
-/// A text with three to six digits of a second names a whole number of microseconds.
+/// A text with three to six fraction digits names a whole number of microseconds.
 pub fn millis_are_whole()
     ensures { (text : List ℕ) (instant : ℤ) → IsMillisTextOf text instant → IsWhole 1000 instant }
 {}
 
-/// Instants are ordered as their numbers are.
+/// The order of instants is that of their nanoseconds.
 pub fn is_before(first: Instant, second: Instant) -> bool
     ensures { IsTrue result ↔ (first <ℤ second) }
 {

@@ -5,7 +5,7 @@ ghost use Rattle.stix_times.specs.Civil.{digits_of_fraction};
 use crate::fraction::Fraction;
 use std::marker::Model;
 
-/// A text as it is written, of at most 32 bytes.
+/// A text buffer of 32 bytes, inline.
 #[derive(Drop)]
 pub(crate) struct Line {
     bytes: [u8; 32],
@@ -33,7 +33,7 @@ impl Line {
         }
     }
 
-    /// Adds a byte.
+    /// Appends a byte.
     pub(crate) fn push(&mut self, byte: u8)
         requires { length self.old < 32 }
         ensures { self.new ≡ self.old ++ byte ∷ [] }
@@ -42,7 +42,7 @@ impl Line {
         self.end += 1;
     }
 
-    /// Adds the two digits of a number.
+    /// Appends the two digits of a number below 100.
     pub(crate) fn push_pair(&mut self, number: u8)
         requires small { number < 100 }
         requires room { length self.old + 2 ≤ 32 }
@@ -52,7 +52,7 @@ impl Line {
         self.push(b'0' + number % 10);
     }
 
-    /// Adds a dot and the digits of a fraction, or nothing where it has none.
+    /// Appends a dot and the digits of a fraction, or nothing if it has no digits.
     pub(crate) fn push_fraction(&mut self, fraction: Fraction)
         requires { length self.old + fraction.digits < 32 }
         ensures text { self.new ≡ self.old ++ fraction_text (digits_of_fraction fraction) }
@@ -64,7 +64,7 @@ impl Line {
         }
     }
 
-    /// Adds the digits of a fraction.
+    /// Appends the digits of a fraction.
     fn push_digits(&mut self, fraction: Fraction)
         requires { length self.old + fraction.digits ≤ 32 }
         ensures { self.new ≡ self.old ++ digits_of_fraction fraction }
@@ -78,7 +78,8 @@ impl Line {
         }
     }
 
-    /// Copies the text to the start of `out`, and answers its length. The rest stays as it was.
+    /// Copies the text to the start of `out`, and returns its length. The rest of `out` is
+    /// unchanged.
     pub(crate) fn copy_to(self, out: &mut [u8; 32]) -> usize
         ensures text { take result out.new ≡ self }
         ensures length { result ≡ length self }

@@ -1,11 +1,15 @@
+//! A table-driven recognizer for the form of a timestamp: for each offset, the least and the
+//! greatest byte. The longest prefix of fitting bytes is the longest viable prefix, since each
+//! fitting byte leaves a valid continuation.
+
 ghost use Rattle.std.specs.Prelude.{◌≡◌, ◌+◌, ◌<◌, ◌≤◌, IsTrue, length};
 ghost use Rattle.stix_times.specs.Offsets.{bounds_at, fits_fraction, fits, fitting_end, end_from};
 
-/// How many bytes from the start fit their offsets.
+/// The length of the longest prefix that some timestamp begins with.
 ///
-/// Nearly every text that is read is a timestamp. So the offsets up to the fraction are tested with no
-/// loop first: where the offset is a constant, a test is a compare or two. Only where that fails does
-/// the loop tell which byte it is.
+/// Nearly every input is a valid timestamp. So the 19 bytes before the fraction are first checked
+/// without a loop: with constant offsets, each check is a comparison or two. Only if one fails, a
+/// loop finds the first bad byte.
 #[tactic(auto, using(crate::proofs::OffsetLemmas::end_from_start))]
 pub(crate) fn longest_prefix_length(bytes: &[u8]) -> usize
     ensures { result ≡ fitting_end 0 0 bytes.now }
@@ -17,7 +21,7 @@ pub(crate) fn longest_prefix_length(bytes: &[u8]) -> usize
     }
 }
 
-/// Whether `YYYY-MM-DD` fits its offsets.
+/// Whether the bytes may be those of `YYYY-MM-DD`.
 fn date_fits(bytes: &[u8]) -> bool
     requires { 20 ≤ length bytes.now }
     ensures { IsTrue result → end_from bytes.now 0 ≡ end_from bytes.now 10 }
@@ -30,7 +34,7 @@ fn date_fits(bytes: &[u8]) -> bool
         && pair_fits(bytes, 8)
 }
 
-/// Whether `THH:mm:ss` and the byte behind it fit their offsets.
+/// Whether the bytes may be those of `THH:mm:ss` and one more.
 fn time_fits(bytes: &[u8]) -> bool
     requires { 20 ≤ length bytes.now }
     ensures { IsTrue result → end_from bytes.now 10 ≡ end_from bytes.now 20 }
@@ -44,7 +48,7 @@ fn time_fits(bytes: &[u8]) -> bool
         && byte_fits(bytes, 19)
 }
 
-/// Whether the two bytes from this offset on fit.
+/// Whether the two bytes at this offset may stand there.
 fn pair_fits(bytes: &[u8], at: usize) -> bool
     requires { at + 1 < length bytes.now }
     ensures { IsTrue result → end_from bytes.now at ≡ end_from bytes.now (at + 2) }
@@ -52,7 +56,7 @@ fn pair_fits(bytes: &[u8], at: usize) -> bool
     byte_fits(bytes, at) && byte_fits(bytes, at + 1)
 }
 
-/// Whether the byte at this offset fits.
+/// Whether the byte at this offset may stand there.
 fn byte_fits(bytes: &[u8], at: usize) -> bool
     requires { at < length bytes.now }
     ensures { IsTrue result → end_from bytes.now at ≡ end_from bytes.now (at + 1) }
@@ -60,7 +64,7 @@ fn byte_fits(bytes: &[u8], at: usize) -> bool
     fits(at, bytes[at.saturating_sub(1)], bytes[at])
 }
 
-/// How far the bytes of the fraction fit.
+/// The offset of the first byte that can't be a part of the fraction, or the end.
 #[tactic(auto, unfolding(crate::specs::Offsets::fits))]
 fn fraction_end(bytes: &[u8]) -> usize
     requires { 20 ≤ length bytes.now }
@@ -76,7 +80,7 @@ fn fraction_end(bytes: &[u8]) -> usize
     bytes.len()
 }
 
-/// The first byte that doesn't fit its offset, or the end.
+/// The offset of the first byte that may not stand there, or the end. Linear in the length.
 fn first_mismatch(bytes: &[u8]) -> usize
     ensures { result ≡ fitting_end 0 0 bytes.now }
 {
@@ -90,7 +94,7 @@ fn first_mismatch(bytes: &[u8]) -> usize
     bytes.len()
 }
 
-/// Whether the byte may stand at this offset of a text of the shape, after the byte `before`.
+/// Whether `byte` may stand at offset `at`, after the byte `before`.
 #[tactic(auto, unfolding(crate::specs::Offsets::fits))]
 fn fits(at: usize, before: u8, byte: u8) -> bool
     ensures { result ≡ fits at before byte }
@@ -105,8 +109,8 @@ fn fits(at: usize, before: u8, byte: u8) -> bool
     }
 }
 
-/// The least and the greatest byte at a offset before the fraction, where the first digit of two
-/// bounds the second.
+/// The least and the greatest byte at an offset before the fraction. The first digit of a pair
+/// bounds the second, as in `1x` for a month.
 #[tactic(auto, unfolding(crate::specs::Offsets::bounds_at))]
 fn bounds(at: usize, before: u8) -> (u8, u8)
     ensures { result ≡ bounds_at at before }
@@ -128,7 +132,7 @@ fn bounds(at: usize, before: u8) -> (u8, u8)
     }
 }
 
-/// Whether the byte may stand after the first byte of a fraction, as a digit or the last `Z`.
+/// Whether the byte may follow the first byte of a fraction: as a digit, or as the final `Z`.
 #[tactic(auto, unfolding(crate::specs::Offsets::fits_fraction))]
 fn fits_fraction(before: u8, byte: u8) -> bool
     ensures { result ≡ fits_fraction before byte }

@@ -14,7 +14,7 @@ use jiff_core::civil::Date;
 
 const NANOS_PER_DAY: i128 = 86_400_000_000_000;
 
-/// The parts of a text of the shape, where the month may lack the day.
+/// The parts of a text in the form of a timestamp. The month may lack the day.
 #[derive(Clone, Copy)]
 pub(crate) struct Parts<'a> {
     pub(crate) year: u16,
@@ -27,7 +27,7 @@ pub(crate) struct Parts<'a> {
 }
 
 impl<'a> Parts<'a> {
-    /// The parts of the text, or where it leaves the shape.
+    /// Splits a text in the form of a timestamp. `Shape` with the offset of the first bad byte.
     pub(crate) fn read(text: &'a [u8]) -> Result<Parts<'a>, TimeRefusal>
         ensures ok { IfOk result (λ p. Spells (timestamp_of p) text.now) }
         ensures err { IfErr result (IsRefused text.now) }
@@ -39,7 +39,7 @@ impl<'a> Parts<'a> {
         Ok(Parts::at_offsets(text))
     }
 
-    /// The instant that the parts name, or why they name none.
+    /// The instant of the parts. `NoSuchDay` or `TooFine` if they name none.
     #[tactic(auto, unfolding(crate::specs::Parts::timestamp_of))]
     pub(crate) fn instant(&self) -> Result<Instant, TimeRefusal>
         requires { IsShaped (timestamp_of self.now) }
@@ -56,7 +56,7 @@ impl<'a> Parts<'a> {
         Ok(Instant::new(i128::from(day) * NANOS_PER_DAY + nanos))
     }
 
-    /// The days from 1970-01-01 to the day, where the month has it.
+    /// The days from 1970-01-01 to this day. `None` if the month lacks it.
     #[tactic(auto, unfolding(crate::specs::Parts::timestamp_of))]
     fn day_number(&self) -> Option<i32>
         requires { IsShaped (timestamp_of self.now) }
@@ -70,7 +70,7 @@ impl<'a> Parts<'a> {
         }
     }
 
-    /// The nanoseconds from midnight.
+    /// The nanoseconds since midnight.
     #[tactic(auto, unfolding(crate::specs::Parts::timestamp_of))]
     fn nanos_of_day(&self) -> u64
         requires shaped { IsShaped (timestamp_of self.now) }
@@ -91,7 +91,7 @@ impl<'a> Parts<'a> {
         (3..=6).contains(&self.fraction.len())
     }
 
-    /// The parts at the offsets of the shape.
+    /// The parts at their fixed offsets.
     #[tactic(auto, unfolding(crate::specs::Offsets::parts_at, crate::specs::Parts::timestamp_of))]
     fn at_offsets(text: &'a [u8]) -> Parts<'a>
         requires long { 20 ≤ length text.now }
@@ -110,7 +110,7 @@ impl<'a> Parts<'a> {
     }
 }
 
-/// The number that the two digits at a offset write.
+/// The number written by the two digits at an offset.
 fn pair(text: &[u8], at: usize) -> u8
     requires within { at + 1 < length text.now }
     requires first { IsAsciiDigit (slice_index text.now at) }

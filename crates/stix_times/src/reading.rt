@@ -5,7 +5,7 @@ ghost use Rattle.stix_times.specs.Reading.{IsTextOf, IsRefused, Reads, IsMillisT
 use crate::parts::Parts;
 use crate::{Instant, TimeRefusal};
 
-/// The instant that the text names, with a fraction of at most nine digits.
+/// The instant of a timestamp with at most nine fraction digits.
 pub fn read(text: &str) -> Result<Instant, TimeRefusal>
     ensures ok { IfOk result (IsTextOf text.now) }
     ensures err { IfErr result (IsRefused text.now) }
@@ -15,7 +15,8 @@ pub fn read(text: &str) -> Result<Instant, TimeRefusal>
     parts.instant()
 }
 
-/// The instant that the text names, with a fraction of three to six digits.
+/// The instant of a timestamp with three to six fraction digits, as `created` and `modified` have
+/// (STIX 2.1, section 3.2).
 pub fn read_millis(text: &str) -> Result<Instant, TimeRefusal>
     ensures ok { IfOk result (IsMillisTextOf text.now) }
     ensures err { IfErr result (IsRefusedMillis text.now) }

@@ -3,11 +3,11 @@ use thiserror::Error;
 /// Why a text names no instant.
 #[derive(Clone, Copy, Debug, PartialEq, Eq, Error)]
 pub enum TimeRefusal {
-    /// The text isn't of the shape `YYYY-MM-DDTHH:mm:ssZ`, with `.` and digits before the `Z` or
-    /// without: only its first `at` bytes begin a text of the shape.
+    /// The text isn't `YYYY-MM-DDTHH:mm:ssZ`, with or without a `.` and digits before the `Z`. Its
+    /// longest prefix that begins some timestamp has `at` bytes.
     #[error("not a timestamp after {at} bytes")]
     Shape { at: usize },
-    /// The month lacks the day.
+    /// The month doesn't have this day.
     #[error("the month lacks the day")]
     NoSuchDay,
     /// The fraction has more than nine digits.

@@ -6,8 +6,8 @@ use crate::Instant;
 use crate::civil::Civil;
 use crate::fraction::Fraction;
 
-/// Writes the instant to the start of `out` with no more digits than it needs, and answers the
-/// number of bytes written.
+/// Writes the instant to the start of `out` with the fewest fraction digits, and returns the length
+/// in bytes.
 pub fn write(instant: Instant, out: &mut [u8; 32]) -> usize
     ensures text { IsCanonicalTextOf (take result out.new) instant }
     ensures length { IsInRange 20 30 result }
@@ -17,7 +17,8 @@ pub fn write(instant: Instant, out: &mut [u8; 32]) -> usize
     civil.write(Fraction::shortest(civil.nanosecond), out)
 }
 
-/// The same with three digits of a second, for a whole number of milliseconds.
+/// Writes an instant of whole milliseconds with three fraction digits, and returns the length in
+/// bytes.
 pub fn write_millis(instant: Instant, out: &mut [u8; 32]) -> usize
     requires { IsWhole 1_000_000 instant }
     ensures text { IsTextOfDigits 3 (take result out.new) instant }
@@ -28,7 +29,8 @@ pub fn write_millis(instant: Instant, out: &mut [u8; 32]) -> usize
     civil.write(Fraction::new(civil.nanosecond / 1_000_000, 3), out)
 }
 
-/// The same with six digits of a second, for a whole number of microseconds.
+/// Writes an instant of whole microseconds with six fraction digits, and returns the length in
+/// bytes.
 pub fn write_micros(instant: Instant, out: &mut [u8; 32]) -> usize
     requires { IsWhole 1000 instant }
     ensures text { IsTextOfDigits 6 (take result out.new) instant }

@@ -1,4 +1,4 @@
--- Parts joined by dots: the text behind the first dot is that of the parts behind the first one.
+-- Parts joined by dots: the text after the first dot is that of the parts after the first one.
 use Rattle.std.proofs.Common.{arith, ◌≡◌, ◌≢◌, ◌↔◌, inl, inr, ℕ, zero, suc, ◌<◌, List, [], ◌∷◌, ◌++◌, length, map, get_or, Option, Some, None, MatchOption, length-append, refl, sym, ap, subst, ◌∙◌}
 use Rattle.std.proofs.lemmas.Str.Pattern.{IsSplitOnceResult, split_parts, split_after}
 use Rattle.std.proofs.lemmas.List.{get_or_append_left}

@@ -12,11 +12,11 @@ use Rattle.stix_versions.specs.declared.marking_break.MarkingRule.TheVariants.{M
 use Rattle.stix_versions.specs.declared.marking_break.MarkingBreak.{MarkingBreak}
 use Rattle.stix_versions.specs.Selector.{Part, IsSelector, value_at}
 
--- the property is there
+-- the property is present
 abbrev pub Has : List ℕ → Data → Type 0
 Has name d = IsSome (get name d)
 
--- exactly one of `marking_ref` and `lang` is there
+-- exactly one of `marking_ref` and `lang` is present
 abbrev pub HasOne : Data → Type 0
 HasOne marking = (Has (codes "marking_ref") marking × (¬ Has (codes "lang") marking)) ⊎ ((¬ Has (codes "marking_ref") marking) × Has (codes "lang") marking)
 
@@ -42,7 +42,7 @@ pub record ListsSelectors (marking : Data) (texts : List (List ℕ)) : Type 0 wh
 abbrev pub HasSelectors : Data → Type 0
 HasSelectors marking = (texts : List (List ℕ)) × ListsSelectors marking texts × AreSelectors texts
 
--- one of the selectors names nothing in the object
+-- one of the selectors selects nothing in the object
 pub record MissesOne (object marking : Data) : Type 0 where
   pub texts : List (List ℕ)
   pub lists : ListsSelectors marking texts
@@ -63,28 +63,28 @@ BreaksMarkingRule d marking SelectorMissing = HasOne marking × (Has (codes "mar
 abbrev pub IsBreakOf : Data → Data → Option MarkingRule → Type 0
 IsBreakOf d marking found = MatchOption found ((rule : MarkingRule) → ¬ BreaksMarkingRule d marking rule) (BreaksMarkingRule d marking)
 
--- a rule, told of a marking of an object by their places
+-- a violation by a marking of an object, with both positions
 abbrev pub break_of_marking : ℕ → ℕ → MarkingRule → MarkingBreak
 break_of_marking place at rule = record { object = place; marking = at; rule = rule }
 
--- the breaks of the markings of an object, from a place on
+-- the violations of the markings of an object, from a position on
 abbrev pub AreBreaksOfMarkings : ℕ → Data → ℕ → List Data → List MarkingBreak → Type 0
 AreBreaksOfMarkings place d at [] breaks = breaks ≡ []
 AreBreaksOfMarkings place d at (marking ∷ markings) breaks = (found : Option MarkingRule) × (rest : List MarkingBreak)
     × IsBreakOf d marking found × AreBreaksOfMarkings place d (at + 1) markings rest
     × (breaks ≡ map (break_of_marking place at) (option_to_list found) ++ rest)
 
--- the granular markings of an object: none where it names none, or names no list
+-- the granular markings of an object: none if the property is absent or isn't a list
 abbrev pub AreMarkings : Data → List Data → Type 0
 AreMarkings d markings = MatchOption (get (codes "granular_markings") d) (markings ≡ []) (λ value. MatchOption (as_array value) (markings ≡ []) (λ items. markings ≡ listed items))
 
--- the breaks of the objects from a place on, object by object
+-- the violations of the objects from a position on, object by object
 abbrev pub AreMarkingBreaksFrom : ℕ → List Data → List MarkingBreak → Type 0
 AreMarkingBreaksFrom place [] breaks = breaks ≡ []
 AreMarkingBreaksFrom place (d ∷ ds) breaks = (markings : List Data) × (own rest : List MarkingBreak)
     × AreMarkings d markings × AreBreaksOfMarkings place d 0 markings own × AreMarkingBreaksFrom (place + 1) ds rest
     × (breaks ≡ own ++ rest)
 
--- all breaks of the granular markings in a bundle
+-- all violations by granular markings in a bundle
 abbrev pub AreMarkingBreaks : List Data → List MarkingBreak → Type 0
 AreMarkingBreaks objects = AreMarkingBreaksFrom 0 objects

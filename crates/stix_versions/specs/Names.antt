@@ -1,4 +1,4 @@
--- The names of the rules, as they are told.
+-- The names of the rules, as they are printed.
 use Rattle.std.specs.Prelude.{ℕ, List, codes}
 use Rattle.stix_versions.specs.declared.version_break.VersionRule.{VersionRule}
 use Rattle.stix_versions.specs.declared.version_break.VersionRule.TheVariants.{CreatedChanged, AfterRevoked, SameVersionTwice}

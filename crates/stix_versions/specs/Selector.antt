@@ -1,5 +1,5 @@
--- Selectors of granular markings (STIX 2.1, section 7.2.3.1): property names and places of lists, joined by dots, from a
--- property of the object on.
+-- Selectors of granular markings (STIX 2.1, section 7.2.3.1): property names and list indices,
+-- joined by dots, beginning at a property of the object.
 use Rattle.std.specs.Prelude.{◌≡◌, ◌≢◌, ◌⊎◌, ℕ, List, [], ◌∷◌, ◌++◌, map, All, Option, Some, option_and_then, slice_index, codes}
 use Rattle.std.specs.Char.{IsAsciiLowercase, IsAsciiDigit}
 use Rattle.std.specs.Str.Parse.{IsNumeral, digits_value}
@@ -19,7 +19,7 @@ IsName name = (name ≢ []) × All IsNameCharacter name
 abbrev pub IsIndex : List ℕ → Type 0
 IsIndex digits = IsNumeral 10 digits × ((digits ≡ codes "0") ⊎ (slice_index digits 0 ≢ 48))
 
--- one part: a property's name, or the digits of a place in a list, counted from 0
+-- one part: a property's name, or the digits of a list index, counted from 0
 pub data Part : Type 0 where
   named : List ℕ → Part
   indexed : List ℕ → Part
@@ -53,12 +53,12 @@ pub record IsSelector (text : List ℕ) (parts : List Part) : Type 0 where
   pub begins : BeginsNamed parts
   pub spelled : text ≡ path_text (map part_text parts)
 
--- what a part names in a value
+-- the value that a part selects in a value
 abbrev pub chosen : Part → Data → Option Data
 chosen (named name) d = get name d
 chosen (indexed digits) d = item_at (digits_value 10 digits) d
 
--- what parts name in a value, one after another
+-- the value that parts select in a value, one after another
 abbrev pub value_at : List Part → Data → Option Data
 value_at [] d = Some d
 value_at (part ∷ parts) d = option_and_then (value_at parts) (chosen part d)

@@ -1,5 +1,6 @@
--- Versions (STIX 2.1, section 3.6): objects of one identifier are versions of one object. All have its `created`, none is
--- later than one that revokes it, and two of one `modified` are the same.
+-- Versions (STIX 2.1, section 3.6): objects of one identifier are versions of one object. All have
+-- the same `created`, none is later than a version that is revoked, and two with the same
+-- `modified` are equal.
 use Rattle.std.specs.Prelude.{◌≡◌, ◌≢◌, ◌⊎◌, ℕ, ◌+◌, ◌<◌, ℤ, ◌<ℤ◌, List, [], ◌∷◌, ◌++◌, map, Some, slice_get, true, codes}
 use Rattle.serde_json.specs.Data.{Data, boolean}
 use Rattle.serde_json.specs.Find.{get}
@@ -17,8 +18,8 @@ use Rattle.stix_versions.specs.declared.version_break.VersionBreak.{VersionBreak
 abbrev pub IsObservable : Data → Type 0
 IsObservable d = (kind : List ℕ) × (text_at (codes "type") d ≡ Some kind) × (group_of kind ≡ Observable)
 
--- the object at the place is a version of the identifier, created and modified then, to the millisecond at least
--- (sections 3.2 and 2.16)
+-- the object at the position is a version of the identifier, with these `created` and `modified`
+-- times, to the millisecond at least (sections 3.2 and 2.16)
 pub record IsVersion (objects : List Data) (at : ℕ) (id : Id) (created modified : ℤ) (object : Data) : Type 0 where
   pub there : slice_get objects at ≡ Some object
   pub versioned : ¬ IsObservable object
@@ -40,7 +41,7 @@ pub record ChangesCreated (objects : List Data) (at : ℕ) (id : Id) (created : 
   pub version : IsVersion objects earlier id other_created other_modified other
   pub changed : other_created ≢ created
 
--- some version is revoked that was modified before
+-- some version with an earlier `modified` is revoked
 pub record FollowsRevoked (objects : List Data) (id : Id) (modified : ℤ) : Type 0 where
   pub place : ℕ
   pub other_created : ℤ
@@ -50,7 +51,7 @@ pub record FollowsRevoked (objects : List Data) (id : Id) (modified : ℤ) : Typ
   pub revoked : IsRevoked other
   pub before : other_modified <ℤ modified
 
--- an earlier version was modified then too, and is another object
+-- an earlier version in the bundle has the same `modified`, and differs
 pub record RepeatsVersion (objects : List Data) (at : ℕ) (id : Id) (modified : ℤ) (object : Data) : Type 0 where
   pub earlier : ℕ
   pub before : earlier < at
@@ -59,13 +60,13 @@ pub record RepeatsVersion (objects : List Data) (at : ℕ) (id : Id) (modified :
   pub version : IsVersion objects earlier id other_created modified other
   pub differs : other ≢ object
 
--- the version at the place breaks the rule
+-- the version at the position breaks the rule
 abbrev pub BreaksAs : List Data → ℕ → Id → ℤ → ℤ → Data → VersionRule → Type 0
 BreaksAs objects at id created modified d CreatedChanged = ChangesCreated objects at id created
 BreaksAs objects at id created modified d AfterRevoked = FollowsRevoked objects id modified
 BreaksAs objects at id created modified d SameVersionTwice = RepeatsVersion objects at id modified d
 
--- the object at the place is a version that breaks the rule
+-- the object at the position is a version that breaks the rule
 pub record BreaksVersionRule (objects : List Data) (at : ℕ) (rule : VersionRule) : Type 0 where
   pub id : Id
   pub created : ℤ
@@ -74,7 +75,7 @@ pub record BreaksVersionRule (objects : List Data) (at : ℕ) (rule : VersionRul
   pub version : IsVersion objects at id created modified object
   pub breaks : BreaksAs objects at id created modified object rule
 
--- the rules, in the order in which they are told
+-- the rules, in the order in which they are reported
 abbrev pub rules_reported : List VersionRule
 rules_reported = CreatedChanged ∷ AfterRevoked ∷ SameVersionTwice ∷ []
 
@@ -85,16 +86,16 @@ AreBroken IsBroken (rule ∷ rules) broken =
     (IsBroken rule × ((rest : List VersionRule) × AreBroken IsBroken rules rest × (broken ≡ rule ∷ rest)))
     ⊎ ((¬ IsBroken rule) × AreBroken IsBroken rules broken)
 
--- a rule, told of the object at the place
+-- a violation by the object at the position
 abbrev pub break_of_version : ℕ → VersionRule → VersionBreak
 break_of_version at rule = record { object = at; rule = rule }
 
--- the breaks of so many objects from a place on, object by object
+-- the violations of the objects from a position on, object by object
 abbrev pub AreVersionBreaksFrom : List Data → ℕ → List Data → List VersionBreak → Type 0
 AreVersionBreaksFrom objects at [] breaks = breaks ≡ []
 AreVersionBreaksFrom objects at (d ∷ ds) breaks = (own : List VersionRule) × (rest : List VersionBreak)
     × AreBroken (BreaksVersionRule objects at) rules_reported own × AreVersionBreaksFrom objects (at + 1) ds rest × (breaks ≡ map (break_of_version at) own ++ rest)
 
--- all breaks of the objects of a bundle
+-- all violations by the objects of a bundle
 abbrev pub AreVersionBreaks : List Data → List VersionBreak → Type 0
 AreVersionBreaks objects = AreVersionBreaksFrom objects 0 objects

@@ -1,3 +1,7 @@
+//! A running check for differing versions of one `modified` time. It is enough to keep the first
+//! one and whether a later one differs: a version conflicts with an earlier one exactly if it
+//! differs from the first, or an earlier one does.
+
 ghost use Rattle.std.specs.Prelude.{◌≡◌, ◌↔◌, ◌+◌, ◌<◌, ◌≤◌, List, length, IsTrue, IfOk, OnOk, Some, slice_get};
 ghost use Rattle.serde_json.specs.Data.{Data};
 ghost use Rattle.stix_json.specs.DataOf.{data_of};
@@ -18,22 +22,23 @@ use stix_json::Json;
 use stix_objects::laws::{one_id, one_timestamp};
 use stix_times::nanos;
 
-/// Of an object's versions of one `modified` so far, the position of the first, and whether another
-/// one is another object.
+/// Of an object's versions with one `modified` so far: the position of the first, and whether a
+/// later one differs from it.
 #[derive(Clone, Copy)]
 pub(crate) struct FirstDuplicate {
     pub(crate) at: u32,
     pub(crate) differs: bool,
 }
 
-/// The same for each object and `modified`, by the group of its versions and the instant.
+/// A map from objects and `modified` times to their `FirstDuplicate`. The key is the group of
+/// versions and the instant.
 #[derive(Drop)]
 pub(crate) struct Duplicates {
     instants: BTreeMap<(u32, i128), FirstDuplicate>,
 }
 
 impl Duplicates {
-    /// That of no versions. Takes no memory.
+    /// The empty map. Allocates nothing.
     pub(crate) fn new(alloc: Global) -> Duplicates
         ensures { (objects : List Data) → AreDuplicatesBefore objects 0 result }
     {
@@ -42,8 +47,8 @@ impl Duplicates {
         }
     }
 
-    /// Adds the version at a position, and tells whether one before it of the same `modified` is
-    /// another object.
+    /// Adds the version at a position, and returns whether an earlier one with the same `modified`
+    /// differs from it.
     pub(crate) fn add(
         &mut self,
         objects: &[Json],
@@ -54,7 +59,8 @@ impl Duplicates {
         requires there { at < length objects.now }
         requires version { IsVersionAs (data_in objects.now) at version.now }
         requires before { AreDuplicatesBefore (data_in objects.now) at self.old }
-        ensures told { IfOk result (λ differs. IsTrue differs ↔ BreaksVersionRule (data_in objects.now) at rule.SameVersionTwice) }
+        ensures told { IfOk result (λ differs. IsTrue differs
+            ↔ BreaksVersionRule (data_in objects.now) at rule.SameVersionTwice) }
         ensures kept { OnOk result (AreDuplicatesBefore (data_in objects.now) (at + 1) self.new) }
     {
         one_id();
@@ -74,7 +80,7 @@ impl Duplicates {
     }
 }
 
-/// What is kept of versions of one `modified`, with this object at that position.
+/// The state after this object at this position.
 fn next_duplicate(objects: &[Json], first: FirstDuplicate, object: &Json, at: u32) -> FirstDuplicate
     requires { slice_get (data_in objects.now) at ≡ Some (data_of object.now) }
     ensures { IsNextDuplicate (data_in objects.now) (Some first) (data_of object.now) at result }
@@ -86,7 +92,7 @@ fn next_duplicate(objects: &[Json], first: FirstDuplicate, object: &Json, at: u3
     }
 }
 
-/// Whether the same object stands at a position.
+/// Whether the object at a position equals this one.
 fn stands_at(objects: &[Json], at: u32, object: &Json) -> bool
     ensures { IsTrue result ↔ (slice_get (data_in objects.now) at ≡ Some (data_of object.now)) }
 {

@@ -1,6 +1,15 @@
-//! What the objects of a STIX 2.1 bundle must agree on: `version_breaks` tells which versions of an
-//! object don't fit the others (section 3.6), `marking_breaks` which granular markings are wrong (section
-//! 7.2.3).
+//! Validates a STIX 2.1 bundle across objects. `version_breaks` checks that the versions of each
+//! object are consistent (section 3.6). `marking_breaks` checks granular markings (section 7.2.3)
+//! and their selectors.
+//!
+//! `version_breaks` groups versions by object in B-tree maps: O(n log n) lookups for n objects.
+//!
+//! ```ignore
+//! let bundle = read_bundle(alloc, value)?;
+//! for found in version_breaks(alloc, &bundle)?.as_slice() {
+//!     report(found.object, found.rule.name()); // the position, and "AfterRevoked"
+//! }
+//! ```
 #![tactic(auto)]
 
 mod created;

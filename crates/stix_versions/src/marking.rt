@@ -24,14 +24,14 @@ pub(crate) fn broken_rule(object: &Json, marking: &Json) -> Option<MarkingRule>
     broken_by_selectors(object, marking)
 }
 
-/// Whether exactly one of `marking_ref` and `lang` is there.
+/// Whether exactly one of `marking_ref` and `lang` is present.
 fn has_one(marking: &Json) -> bool
     ensures { IsTrue result ↔ HasOne (data_of marking.now) }
 {
     has(marking, "marking_ref") != has(marking, "lang")
 }
 
-/// Whether the property is there.
+/// Whether the property is present.
 fn has(object: &Json, name: &str) -> bool
     ensures { IsTrue result ↔ Has name.now (data_of object.now) }
 {
@@ -48,7 +48,7 @@ fn refers_to_marking(marking: &Json) -> bool
     }
 }
 
-/// The first rule that the selectors of a marking break, which names one marking or language well.
+/// The first rule that the selectors of a marking break. The marking names one marking or language.
 fn broken_by_selectors(object: &Json, marking: &Json) -> Option<MarkingRule>
     requires named { IsWellNamed (data_of marking.now) }
     requires ordered { IsOrdered (data_of object.now) }
@@ -60,7 +60,7 @@ fn broken_by_selectors(object: &Json, marking: &Json) -> Option<MarkingRule>
     broken_in_list(object, marking, selectors)
 }
 
-/// The same of the list that they are.
+/// The first rule that these selectors break.
 fn broken_in_list(object: &Json, marking: &Json, selectors: &[Json]) -> Option<MarkingRule>
     requires named { IsWellNamed (data_of marking.now) }
     requires ordered { IsOrdered (data_of object.now) }
@@ -92,10 +92,11 @@ fn is_selector_text(value: &Json) -> bool
     }
 }
 
-/// Whether one of the values is a selector that names nothing in the object.
+/// Whether one of the values is a selector that selects nothing in the object.
 fn misses_one(object: &Json, values: &[Json]) -> bool
     requires { IsOrdered (data_of object.now) }
-    ensures { IsTrue result ↔ Any (λ value. Misses (data_of object.now) (data_of value)) values.now }
+    ensures { IsTrue result ↔ Any (λ value. Misses (data_of object.now) (data_of value))
+        values.now }
 {
     values.iter().any(|value| misses(object, value))
 }

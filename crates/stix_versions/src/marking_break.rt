@@ -1,7 +1,7 @@
 ghost use Rattle.std.specs.Prelude.{◌≡◌};
 ghost use Rattle.stix_versions.specs.Names.{marking_rule_name};
 
-/// What is wrong with a granular marking (STIX 2.1, section 7.2.3).
+/// The rules of a granular marking (STIX 2.1, section 7.2.3), by how they are broken.
 #[derive(Clone, Copy, Debug, PartialEq, Eq)]
 pub enum MarkingRule {
     /// It has both of `marking_ref` and `lang`, or none.
@@ -10,12 +10,12 @@ pub enum MarkingRule {
     BadMarkingRef,
     /// `selectors` isn't a list of one or more selectors.
     BadSelector,
-    /// A selector names nothing in the object.
+    /// A selector selects nothing in the object.
     SelectorMissing,
 }
 
 impl MarkingRule {
-    /// The rule's name, as it is told.
+    /// The rule's name, as it is printed.
     pub fn name(self) -> &'static str
         ensures { result.now ≡ marking_rule_name self }
     {
@@ -28,8 +28,8 @@ impl MarkingRule {
     }
 }
 
-/// A break of a rule of granular markings, by the positions of the object in its bundle and of the
-/// marking in the object, both counted from 0.
+/// A violation by a granular marking: the position of the object in its bundle, and of the marking
+/// in the object, both counted from 0.
 #[derive(Clone, Copy, Debug, PartialEq, Eq)]
 pub struct MarkingBreak {
     pub object: u32,

@@ -14,16 +14,16 @@ use std::alloc::Global;
 use stix_bundles::Bundle;
 use stix_json::{Json, list_at};
 
-/// What is wrong with the granular markings of the objects of a bundle, object by object, and for each
-/// in the order of its markings (STIX 2.1, section 7.2.3); for each marking the first rule that it
-/// breaks.
+/// The violations of granular markings in a bundle (STIX 2.1, section 7.2.3), object by object, in
+/// the order of the markings. Reports only the first rule that a marking breaks. `NoMemory` is the
+/// only error.
 pub fn marking_breaks(alloc: Global, bundle: &Bundle) -> Result<Items<MarkingBreak>, NoMemory>
     ensures { IfOk result (AreMarkingBreaks (data_in bundle.now)) }
 {
     all_breaks(alloc, bundle.objects())
 }
 
-/// The same of a list of objects.
+/// The violations in a list of objects.
 fn all_breaks(alloc: Global, objects: &[Json]) -> Result<Items<MarkingBreak>, NoMemory>
     requires counted { length objects.now ≤ MAX_OBJECTS }
     requires ordered { All IsOrdered (data_in objects.now) }
@@ -36,10 +36,11 @@ fn all_breaks(alloc: Global, objects: &[Json]) -> Result<Items<MarkingBreak>, No
     Ok(found)
 }
 
-/// Adds the breaks of the object at a position.
+/// Adds the violations of the object at a position.
 fn add_breaks(at: u32, object: &Json, found: &mut Items<MarkingBreak>) -> Result<(), NoMemory>
     requires { IsOrdered (data_of object.now) }
-    ensures { OnOk result ((own : List MarkingBreak) × AreOwnBreaks at (data_of object.now) own × (found.new ≡ found.old ++ own)) }
+    ensures { OnOk result ((own : List MarkingBreak) × AreOwnBreaks at (data_of object.now) own
+        × (found.new ≡ found.old ++ own)) }
 {
     match list_at(object, "granular_markings") {
         Some(markings) => add_list(at, object, markings, found),
@@ -47,7 +48,7 @@ fn add_breaks(at: u32, object: &Json, found: &mut Items<MarkingBreak>) -> Result
     }
 }
 
-/// Adds the breaks of these markings of the object.
+/// Adds the violations of these markings of the object.
 fn add_list(
     object_at: u32,
     object: &Json,
@@ -56,7 +57,8 @@ fn add_list(
 ) -> Result<(), NoMemory>
     requires { IsOrdered (data_of object.now) }
     ensures { OnOk result ((own : List MarkingBreak)
-        × AreBreaksOfMarkings object_at (data_of object.now) 0 (data_in markings.now) own × (found.new ≡ found.old ++ own)) }
+        × AreBreaksOfMarkings object_at (data_of object.now) 0 (data_in markings.now) own
+        × (found.new ≡ found.old ++ own)) }
 {
     for at in 0..markings.len() {
         if let Some(rule) = broken_rule(object, &markings[at]) {

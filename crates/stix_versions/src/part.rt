@@ -20,7 +20,7 @@ pub(crate) fn is_part(text: &str) -> bool
     }
 }
 
-/// What a part names in a value.
+/// The value that a part selects in a value.
 pub(crate) fn chosen<'a>(text: &str, value: &'a Json) -> Option<&'a Json>
     requires { IsOrdered (data_of value.now) }
     ensures value { (part : Part) → IsPartOf text.now part
@@ -33,7 +33,7 @@ pub(crate) fn chosen<'a>(text: &str, value: &'a Json) -> Option<&'a Json>
     }
 }
 
-/// What stands between the brackets.
+/// The text between the brackets.
 fn bracketed(text: &str) -> Option<&str>
     ensures some { IfSome result (λ inner. text.now ≡ in_brackets inner.now) }
     ensures none { IfNone result ((inner : List ℕ) → text.now ≢ in_brackets inner) }
@@ -41,7 +41,7 @@ fn bracketed(text: &str) -> Option<&str>
     text.strip_prefix('[')?.strip_suffix(']')
 }
 
-/// Whether the text is a place: digits without leading zeros.
+/// Whether the text is an index: digits without leading zeros.
 fn is_index(text: &str) -> bool
     ensures { IsTrue result ↔ IsIndex text.now }
 {
@@ -73,12 +73,13 @@ fn is_name_character(byte: u8) -> bool
     matches!(byte, b'a'..=b'z' | b'0'..=b'9' | b'_' | b'-')
 }
 
-/// The item of a list at the place that the digits write. None in what is no list, and where the list
-/// has no such place.
+/// The item of a list at the index written by the digits. `None` if the value isn't a list, or is
+/// too short.
 fn item_at<'a>(digits: &str, value: &'a Json) -> Option<&'a Json>
     requires { IsOrdered (data_of value.now) }
     ensures value { IsNumeral 10 digits.now
-        → option_map (λ item. data_of item.now) result ≡ at_place (digits_value 10 digits.now) (data_of value.now) }
+        → option_map (λ item. data_of item.now) result
+        ≡ at_place (digits_value 10 digits.now) (data_of value.now) }
     ensures ordered { IfSome result (λ item. IsOrdered (data_of item.now)) }
 {
     ordered_parts();
@@ -88,7 +89,7 @@ fn item_at<'a>(digits: &str, value: &'a Json) -> Option<&'a Json>
     }
 }
 
-/// The item at the place that the digits write.
+/// The item at the index written by the digits.
 fn numbered<'a>(digits: &str, items: &'a [Json]) -> Option<&'a Json>
     requires { All (λ item. IsOrdered (data_of item)) items.now }
     ensures value { IsNumeral 10 digits.now

@@ -1,3 +1,6 @@
+//! The earliest revocation of each object: a running minimum of `modified` over its revoked
+//! versions. A version follows a revocation exactly if it follows the earliest one.
+
 ghost use Rattle.std.specs.Prelude.{◌↔◌, ◌+◌, ◌<◌, ℕ, List, length, IsTrue, IfOk, IfSome, IfNone, OnOk};
 ghost use Rattle.serde_json.specs.Data.{Data};
 ghost use Rattle.stix_bundles.specs.Objects.{data_in};
@@ -16,15 +19,15 @@ use stix_objects::laws::{one_id, one_timestamp};
 use stix_times::Instant;
 use stix_times::laws::is_before;
 
-/// For each object with a version that is revoked, the earliest `modified` of such a version, by the
-/// group of its versions.
+/// For each object with a revoked version, the earliest `modified` of such a version. The key is
+/// the group of versions.
 #[derive(Drop)]
 pub(crate) struct Revoked {
     groups: BTreeMap<u32, Instant>,
 }
 
 impl Revoked {
-    /// That of the versions of a bundle.
+    /// Collects the revoked versions of a bundle.
     pub(crate) fn of(alloc: Global, bundle: &Bundle) -> Result<Revoked, NoMemory>
         ensures { IfOk result (AreRevokedBefore (data_in bundle.now) (length bundle.now)) }
     {
@@ -55,10 +58,12 @@ impl Revoked {
         Ok(())
     }
 
-    /// Whether a version of the same object that was modified before is revoked.
+    /// Whether a version of the same object is revoked and was modified earlier.
     pub(crate) fn precedes(&self, version: &Version) -> bool
+        // The map must be complete: a later object in the bundle may be the revoked version.
         ensures { (objects : List Data) (at : ℕ) → IsVersionAs objects at version.now
-            → AreRevokedBefore objects (length objects) self.now → IsTrue result ↔ BreaksVersionRule objects at rule.AfterRevoked }
+            → AreRevokedBefore objects (length objects) self.now
+            → IsTrue result ↔ BreaksVersionRule objects at rule.AfterRevoked }
     {
         one_id();
         one_meaning();
@@ -72,8 +77,8 @@ impl Revoked {
     }
 }
 
-/// The version that the object at a position is, where it is revoked. Few are, so that is asked before
-/// the version is read.
+/// The version at a position, if it is revoked. Checks `revoked` first, since few objects are, and
+/// parses the version only then.
 fn revoked_at(bundle: &Bundle, at: usize) -> Option<Version>
     requires { at < length bundle.now }
     ensures some { IfSome result (IsRevokedAs (data_in bundle.now) at) }
@@ -86,7 +91,7 @@ fn revoked_at(bundle: &Bundle, at: usize) -> Option<Version>
     }
 }
 
-/// The earlier time.
+/// The earlier of two times.
 fn earlier(first: Option<Instant>, modified: Instant) -> Instant
     ensures { IsNextRevoked first modified result }
 {

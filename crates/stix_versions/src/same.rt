@@ -3,7 +3,7 @@ ghost use Rattle.stix_json.specs.DataOf.{data_of, field_data};
 
 use stix_json::{Field, Json};
 
-/// Whether two JSON values are the same value.
+/// Whether two JSON values are equal.
 #[cycle(same)]
 pub(crate) fn is_same(first: &Json, second: &Json) -> bool
     ensures { IsTrue result ↔ (data_of first.now ≡ data_of second.now) }
@@ -25,7 +25,7 @@ pub(crate) fn is_same(first: &Json, second: &Json) -> bool
     }
 }
 
-/// Whether two lists have the same items.
+/// Whether two lists have equal items.
 #[cycle(same)]
 fn are_same_items(first: &[Json], second: &[Json]) -> bool
     ensures { IsTrue result ↔ (map data_of first.now ≡ map data_of second.now) }
@@ -41,7 +41,7 @@ fn are_same_items(first: &[Json], second: &[Json]) -> bool
     true
 }
 
-/// Whether two objects have the same fields.
+/// Whether two objects have equal fields, in order.
 #[cycle(same)]
 fn are_same_fields(first: &[Field], second: &[Field]) -> bool
     ensures { IsTrue result ↔ (map field_data first.now ≡ map field_data second.now) }

@@ -1,3 +1,6 @@
+//! Selectors of granular markings: parsed by splitting at dots, and resolved part by part from the
+//! object down.
+
 ghost use Rattle.std.specs.Prelude.{◌≡◌, ◌↔◌, List, IsTrue, option_map};
 ghost use Rattle.stix_json.specs.DataOf.{data_of};
 ghost use Rattle.stix_json.specs.Ordered.{IsOrdered};
@@ -7,14 +10,14 @@ ghost use Rattle.stix_versions.specs.inner.Paths.{IsPath};
 use crate::part::{chosen, is_part};
 use stix_json::Json;
 
-/// Whether the text is a selector.
+/// Whether the text is a selector (STIX 2.1, section 7.2.3.1).
 pub(crate) fn is_selector(text: &str) -> bool
     ensures { IsTrue result ↔ ((parts : List Part) × IsSelector text.now parts) }
 {
     !text.starts_with('[') && is_path(text)
 }
 
-/// Whether the text is parts joined by dots.
+/// Whether the text is one or more parts joined by dots.
 fn is_path(text: &str) -> bool
     ensures { IsTrue result ↔ ((parts : List Part) × IsPath text.now parts) }
 {
@@ -28,7 +31,7 @@ fn is_path(text: &str) -> bool
     is_part(rest)
 }
 
-/// What a selector names in an object.
+/// The value that a selector selects in an object.
 pub(crate) fn selected<'a>(text: &str, object: &'a Json) -> Option<&'a Json>
     requires { IsOrdered (data_of object.now) }
     ensures { (parts : List Part) → IsPath text.now parts

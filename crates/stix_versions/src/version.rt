@@ -15,14 +15,14 @@ use stix_times::Instant;
 /// A version of an object.
 #[derive(Clone, Copy)]
 pub(crate) struct Version {
-    /// The position of the latest version of the object.
+    /// The group of versions: the position of the object's latest version.
     pub(crate) group: u32,
     pub(crate) created: Instant,
     pub(crate) modified: Instant,
 }
 
-/// The version that the object at a position is. None where it has no versions. Most objects that have
-/// none lack `created`, so that is asked first.
+/// The version of the object at a position. `None` if its type has no versions, or a property is
+/// missing. Most such objects lack `created`, so that is checked first.
 pub(crate) fn version_at(bundle: &Bundle, at: usize) -> Option<Version>
     requires { at < length bundle.now }
     ensures some { IfSome result (IsVersionAs (data_in bundle.now) at) }
@@ -54,7 +54,7 @@ fn is_observable(object: &Json) -> bool
     }
 }
 
-/// Whether a version revokes its object.
+/// Whether a version is revoked.
 pub(crate) fn is_revoked(object: &Json) -> bool
     ensures { IsTrue result ↔ IsRevoked (data_of object.now) }
 {

@@ -1,19 +1,19 @@
 ghost use Rattle.std.specs.Prelude.{◌≡◌};
 ghost use Rattle.stix_versions.specs.Names.{version_rule_name};
 
-/// What is wrong with a version of an object (STIX 2.1, section 3.6).
+/// The rules of versions (STIX 2.1, section 3.6), by how they are broken.
 #[derive(Clone, Copy, Debug, PartialEq, Eq)]
 pub enum VersionRule {
-    /// An earlier version has another `created`.
+    /// An earlier version in the bundle has another `created`.
     CreatedChanged,
-    /// A version that was modified before is revoked.
+    /// A version with an earlier `modified` is revoked.
     AfterRevoked,
-    /// An earlier version of the same `modified` is another object.
+    /// An earlier version in the bundle has the same `modified` and differs.
     SameVersionTwice,
 }
 
 impl VersionRule {
-    /// The rule's name, as it is told.
+    /// The rule's name, as it is printed.
     pub fn name(self) -> &'static str
         ensures { result.now ≡ version_rule_name self }
     {
@@ -25,7 +25,7 @@ impl VersionRule {
     }
 }
 
-/// A break of a rule of versions, by the object's position, counted from 0.
+/// A violation of a rule of versions, with the object's position, counted from 0.
 #[derive(Clone, Copy, Debug, PartialEq, Eq)]
 pub struct VersionBreak {
     pub object: u32,

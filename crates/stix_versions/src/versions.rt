@@ -15,9 +15,9 @@ use flow_values::{Items, NoMemory};
 use std::alloc::Global;
 use stix_bundles::Bundle;
 
-/// What is wrong with the versions of objects in a bundle, object by object, and for each object in
-/// the order of the rules (STIX 2.1, section 3.6). Only objects that have both `created` and `modified`
-/// and are no cyber-observables have versions.
+/// The violations of the rules of versions in a bundle (STIX 2.1, section 3.6), object by object,
+/// in the order of the rules. Only objects with both `created` and `modified` that aren't
+/// cyber-observables have versions. `NoMemory` is the only error.
 pub fn version_breaks(alloc: Global, bundle: &Bundle) -> Result<Items<VersionBreak>, NoMemory>
     ensures { IfOk result (AreVersionBreaks (data_in bundle.now)) }
 {
@@ -33,14 +33,14 @@ pub fn version_breaks(alloc: Global, bundle: &Bundle) -> Result<Items<VersionBre
     Ok(found)
 }
 
-/// What is kept of the versions so far.
+/// The state of the pass: what is known of the versions so far.
 #[derive(Drop)]
 pub(crate) struct History {
     created: Created,
     duplicates: Duplicates,
 }
 
-/// Adds the breaks of the object at a position.
+/// Adds the violations of the object at a position.
 fn add_breaks(
     bundle: &Bundle,
     at: usize,
@@ -49,9 +49,11 @@ fn add_breaks(
     found: &mut Items<VersionBreak>,
 ) -> Result<(), NoMemory>
     requires there { at < length bundle.now }
-    requires revoked { AreRevokedBefore (data_in bundle.now) (length (data_in bundle.now)) revoked.now }
+    requires revoked { AreRevokedBefore (data_in bundle.now) (length (data_in bundle.now))
+        revoked.now }
     requires before { AreVersionsBefore (data_in bundle.now) at seen.old }
-    ensures told { OnOk result ((own : List VersionRule) × AreBroken (BreaksVersionRule (data_in bundle.now) at) rules_reported own
+    ensures told { OnOk result ((own : List VersionRule)
+        × AreBroken (BreaksVersionRule (data_in bundle.now) at) rules_reported own
         × (found.new ≡ found.old ++ map (break_of_version at) own)) }
     ensures kept { OnOk result (AreVersionsBefore (data_in bundle.now) (at + 1) seen.new) }
 {
@@ -69,7 +71,7 @@ fn add_breaks(
     Ok(())
 }
 
-/// Adds the break of a rule where it is broken.
+/// Adds the violation of a rule, if `broken`.
 fn add(
     broken: bool,
     object: u32,

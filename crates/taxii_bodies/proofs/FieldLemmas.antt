@@ -15,7 +15,7 @@ before_list : (m : Member) (name : List ℕ) (values : List Data) → members_of
 before_list m name [] = refl
 before_list m name (value ∷ values) = refl
 
--- one member, and a list behind it where that isn't empty
+-- one member, and a list after it where that isn't empty
 pub with_list : (none one two : List Member) (m : Member) (name : List ℕ) (values : List Data) → none ≡ [] → one ≡ none ++ m ∷ [] → two ≡ one ++ list_member name values
     → members_of two ≡ member m.name m.value (list_before name values no_members)
 with_list none one two m name values empty first second =

@@ -47,7 +47,7 @@ hex_digits (byte ∷ bytes) are =
     All-cons IsHexDigit (slice_index lower_digits (byte / 16)) (low ∷ encode_lower bytes) (digit_at (byte / 16) (omega (arith, are.0))).0
     (All-cons IsHexDigit low (encode_lower bytes) (digit_at (byte % 16) (omega arith)).0 (hex_digits bytes are.1))
 
--- the number that bytes make behind another one
+-- the number that bytes make after another one
 abbrev behind : ℕ → List ℕ → ℕ
 behind n [] = n
 behind n (byte ∷ bytes) = behind (n * 256 + byte) bytes

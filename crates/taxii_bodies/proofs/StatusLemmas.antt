@@ -84,7 +84,7 @@ pub status_joined : (report : StatusReport) (moment : List ℕ) (zero one two th
 status_joined report moment zero one two three four five failures successes is0 is1 is2 failed is3 is4 stored is5 =
     rw (is5, is4, is3, is2, is1, is0, failed, stored) (status_made report moment)
 
--- one member more, behind some that were added
+-- one member more, after some that were added
 more : (old some now next : List Member) (m : Member) → now ≡ old ++ some → next ≡ now ++ m ∷ [] → next ≡ old ++ (some ++ m ∷ [])
 more old some now next m before is = is ∙ ap (λ (ms : List Member). ms ++ m ∷ []) before ∙ append_assoc old some (m ∷ [])
 

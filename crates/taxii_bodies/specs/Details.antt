@@ -1,4 +1,5 @@
--- The details of a status (TAXII 2.1, section 4.3.1): which object, in which version, and why it was refused.
+-- The details of a status (TAXII 2.1, section 4.3.1): which object, in which version, and why it
+-- was refused.
 use Rattle.std.specs.Prelude.{◌≡◌, ◌⊎◌, ℕ, ℤ, min, List, [], ◌∷◌, ◌++◌, codes, None, Some}
 use Rattle.serde_json.specs.Data.{Data}
 use Rattle.stix_ids.specs.declared.id.Id.{Id}
@@ -14,12 +15,12 @@ use Rattle.taxii_rows.specs.Version.{IsVersionTime}
 use Rattle.taxii_bodies.specs.declared.details.Detail.{Detail}
 use Rattle.taxii_bodies.specs.Times.{IsDateText, IsStatedText, IsVersionText}
 
--- a name, and the path of what it is stated of, where that isn't the whole
+-- a name, and the path of what it is stated of, where that is not the whole
 abbrev pub at_path : List ℕ → List ℕ → List ℕ
 at_path name [] = name
 at_path name (byte ∷ path) = name ++ (codes " at " ++ byte ∷ path)
 
--- why an entry is no JSON value: the name of the rule alone, since it has no object whose path could be stated
+-- why an entry is no JSON value: the name of the rule alone, since there is no object with a path
 abbrev pub refusal_message : JsonRefusal → List ℕ
 refusal_message NotJson = codes "NotJson"
 refusal_message (TooDeep path) = codes "TooDeep"
@@ -29,7 +30,7 @@ refusal_message (OutOfRange path) = codes "OutOfRange"
 refusal_message NotList = codes "NotList"
 refusal_message NoMemory = codes "out of memory"
 
--- what stands for the identifier of an object that has none
+-- what represents the identifier of an object that has none
 abbrev pub unknown_id : List ℕ
 unknown_id = codes "unknown--00000000-0000-4000-8000-000000000000"
 
@@ -42,7 +43,7 @@ abbrev pub IsIdOrUnknown : Data → List ℕ → Type 0
 IsIdOrUnknown d text =
     ((id : Id) × HasId d id × (text ≡ canonical_text id)) ⊎ (((id : Id) → ¬ HasId d id) × (text ≡ unknown_id))
 
--- the text is that of the version that the object tells, or of that moment
+-- the text is the object's version, or the moment
 abbrev pub IsVersionOrMoment : Data → ℕ → List ℕ → Type 0
 IsVersionOrMoment d moment text =
     ((instant : ℤ) × IsVersionTime d instant × IsStatedText instant text)

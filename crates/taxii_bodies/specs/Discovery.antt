@@ -14,7 +14,8 @@ discovery_data (Some base) = object
     (member (codes "default") (string (root_url base))
     (member (codes "title") (string (codes "STIX pattern and TAXII server")) no_members)))
 
--- the title of the API root, its version of TAXII, and the most bytes that a request's body may have
+-- the title of the API root, its version of TAXII, and the most bytes that a request's body may
+-- have
 abbrev pub root_data : Data
 root_data = object
     (member (codes "max_content_length") (number (unsigned 8_388_608))

@@ -1,4 +1,5 @@
--- The body of a manifest (TAXII 2.1, section 5.3.1): of each row when it was added, its identifier and its version.
+-- The body of a manifest (TAXII 2.1, section 5.3.1): of each row when it was added, its identifier
+-- and its version.
 use Rattle.std.specs.Prelude.{◌≡◌, ℕ, List, codes, Bool}
 use Rattle.std.specs.List.{AllZip}
 use Rattle.serde_json.specs.Data.{Data, string, object, no_members, member}

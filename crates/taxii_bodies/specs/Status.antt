@@ -1,4 +1,5 @@
--- The status of a request to add objects (TAXII 2.1, section 4.3.1): how many there were, what became of them, and when they came.
+-- The status of a request to add objects (TAXII 2.1, section 4.3.1): how many there were, what
+-- became of them, and when they came.
 use Rattle.std.specs.Prelude.{◌≡◌, ℕ, ◌+◌, ◌%◌, ◌^◌, List, map, codes, Option, None, Some}
 use Rattle.serde_json.specs.Data.{Data, unsigned, number, string, object, Members, no_members, member}
 use Rattle.serde_json.specs.Written.{compact_text}
@@ -12,7 +13,7 @@ use Rattle.taxii_bodies.specs.Page.{list_before}
 abbrev pub status_id_of : ℕ → List ℕ
 status_id_of request = uuid_text (0x4000_8000_0000_0000_0000 + request % 2 ^ 48)
 
--- a message before other members, where there is one
+-- a message before other members, if any
 abbrev pub message_before : Option (List ℕ) → Members → Members
 message_before None rest = rest
 message_before (Some message) rest = member (codes "message") (string message) rest

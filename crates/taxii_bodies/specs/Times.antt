@@ -1,5 +1,5 @@
--- The texts of dates and versions (STIX 2.1, sections 2.16 and 3.2): timestamps of six digits of a second, or of three where an
--- object tells its version and no more are needed.
+-- Dates and versions as timestamps (STIX 2.1, sections 2.16 and 3.2): with six fractional digits,
+-- or with three for an object's version if they suffice.
 use Rattle.std.specs.Prelude.{ℕ, ◌*◌, ◌%◌, ◌==◌, ◌≤◌, ℤ, pos, ◌*ℤ◌, unsigned_abs, List, if◌then◌else◌}
 use Rattle.std.specs.Bool.{MatchBool}
 use Rattle.stix_ids.specs.Kind.{IsKind}
@@ -12,11 +12,11 @@ use Rattle.taxii_rows.specs.declared.stored_row.TheConstants.{LAST_DATE}
 abbrev pub IsDateText : ℕ → List ℕ → Type 0
 IsDateText date text = IsTextOfDigits 6 text (pos (1000 * date))
 
--- the digits of a second of a version that an object tells: three where nothing is lost, else six
+-- the number of fractional digits of an object's version: three if nothing is lost, else six
 abbrev pub stated_digits : ℤ → ℕ
 stated_digits instant = if unsigned_abs instant % 1_000_000 == 0 then 3 else 6
 
--- the text of a version that an object tells
+-- the timestamp of an object's version
 abbrev pub IsStatedText : ℤ → List ℕ → Type 0
 IsStatedText instant text = IsTextOfDigits (stated_digits instant) text instant
 

@@ -12,21 +12,22 @@ use stix_json::{Json, write_json};
 /// The media type of the objects in a collection.
 pub(crate) const STIX_MEDIA_TYPE: &str = "application/stix+json;version=2.1";
 
-/// What a collection says of itself.
+/// The description of a collection (section 5.2.1).
 #[derive(Drop)]
 pub struct CollectionInfo {
-    /// The number of its UUID.
+    /// Its UUID as a number.
     pub id: u128,
     /// Its title.
     pub title: Text,
-    /// Whether a client may read its objects.
+    /// Whether clients may read its objects.
     pub can_read: bool,
-    /// Whether a client may add objects.
+    /// Whether clients may add objects.
     pub can_write: bool,
 }
 
 impl CollectionInfo {
-    /// Whether the text is the collection's UUID, in hex digits of either case. Takes no memory.
+    /// Whether the text is the collection's UUID, in hexadecimal digits of either case. Allocates
+    /// nothing.
     pub fn is_named(&self, text: &str) -> bool
         ensures { result ≡ has_name text.now self.now }
     {
@@ -35,7 +36,7 @@ impl CollectionInfo {
     }
 }
 
-/// The body of a collection (section 5.2.1).
+/// The body of a collection resource (section 5.2.1).
 pub fn collection_body(alloc: Global, info: &CollectionInfo) -> Result<Text, NoMemory>
     ensures { IfOk result (λ text. text ≡ compact_text (collection_data info.now)) }
 {
@@ -43,7 +44,7 @@ pub fn collection_body(alloc: Global, info: &CollectionInfo) -> Result<Text, NoM
     write_json(alloc, &collection)
 }
 
-/// The body of the list of collections, in this order (section 5.1.1).
+/// The body of the collections resource, in this order (section 5.1.1).
 pub fn collections_body(alloc: Global, infos: &[CollectionInfo]) -> Result<Text, NoMemory>
     ensures { IfOk result (λ text. text ≡ compact_text (collections_data infos.now)) }
 {

@@ -20,18 +20,18 @@ use taxii_rows::{LAST_DATE, StoredRow};
 
 const UNKNOWN_ID: &str = "unknown--00000000-0000-4000-8000-000000000000";
 
-/// What became of one object of a request.
+/// The status detail of one object of a POST (section 4.3.1).
 #[derive(Drop)]
 pub struct Detail {
-    /// The object's identifier, or the unknown one.
+    /// The object's identifier, or a placeholder if it has none.
     pub id: Text,
-    /// Why it was refused, where it was.
+    /// Why the object was refused, if it was.
     pub message: Option<Text>,
-    /// Its version, or when the request came.
+    /// The object's version, or the time of the request.
     pub version: Text,
 }
 
-/// The detail of a row that was stored.
+/// The detail of a stored row.
 pub fn success_detail(alloc: Global, row: &StoredRow) -> Result<Detail, NoMemory>
     requires { IsWritable row.now }
     ensures { IfOk result (IsSuccessOf row.now) }
@@ -45,8 +45,8 @@ pub fn success_detail(alloc: Global, row: &StoredRow) -> Result<Detail, NoMemory
     })
 }
 
-/// The detail of an object that breaks a rule, in a request that came at that moment, in microseconds
-/// since 1970.
+/// The detail of an object that violates a rule, in a request at `moment` (microseconds since
+/// 1970).
 pub fn failure_detail(
     alloc: Global,
     object: &Json,
@@ -65,7 +65,8 @@ pub fn failure_detail(
     })
 }
 
-/// The detail of an entry that is no JSON value, in a request that came at that moment.
+/// The detail of an entry that is no JSON value, in a request at `moment` (microseconds since
+/// 1970).
 pub fn refused_detail(alloc: Global, refusal: &JsonRefusal, moment: u64) -> Result<Detail, NoMemory>
     ensures { IfOk result (IsRefusalOf refusal.now moment) }
 {
@@ -79,14 +80,14 @@ pub fn refused_detail(alloc: Global, refusal: &JsonRefusal, moment: u64) -> Resu
     })
 }
 
-/// The text of the moment, or of the last date there is, whichever is earlier.
+/// The timestamp of a moment, at most the last valid date.
 pub(crate) fn moment_text(alloc: Global, moment: u64) -> Result<Text, NoMemory>
     ensures { IfOk result (IsMomentText moment) }
 {
     date_text(alloc, moment.min(LAST_DATE))
 }
 
-/// The identifier of the object, or the unknown one.
+/// The object's identifier, or the placeholder.
 fn id_or_unknown(alloc: Global, object: &Json) -> Result<Text, NoMemory>
     ensures { IfOk result (IsIdOrUnknown (data_of object.now)) }
 {
@@ -108,7 +109,7 @@ fn id_text(alloc: Global, parts: IdRef<'_>) -> Result<Text, NoMemory>
     write_id(alloc, &id)
 }
 
-/// The version that the object tells, or the moment.
+/// The object's version, or the moment.
 fn version_or_moment(alloc: Global, object: &Json, moment: u64) -> Result<Text, NoMemory>
     ensures { IfOk result (IsVersionOrMoment (data_of object.now) moment) }
 {
@@ -129,7 +130,7 @@ fn version_time(object: &Json) -> Option<Instant>
     }
 }
 
-/// A name, and the path of what it is stated of.
+/// The name of a rule, and the path of the value that violates it.
 fn message_at(alloc: Global, name: &str, path: &str) -> Result<Text, NoMemory>
     ensures { IfOk result (λ text. text ≡ at_path name.now path.now) }
 {
@@ -141,7 +142,7 @@ fn message_at(alloc: Global, name: &str, path: &str) -> Result<Text, NoMemory>
     Ok(text)
 }
 
-/// Why an entry is no JSON value.
+/// The message for an entry that is no JSON value.
 fn refusal_text(alloc: Global, refusal: &JsonRefusal) -> Result<Text, NoMemory>
     ensures { IfOk result (λ text. text ≡ refusal_message refusal.now) }
 {

@@ -7,16 +7,16 @@ use crate::title_body;
 use flow_values::{NoMemory, Text};
 use std::alloc::Global;
 
-/// The media type of the server's answers, which names its version of TAXII.
+/// The media type of TAXII 2.1.
 const TAXII_MEDIA_TYPE: &str = "application/taxii+json;version=2.1";
 
 const SERVER_TITLE: &str = "STIX pattern and TAXII server";
 
-/// The most bytes that the body of a request may have.
+/// The maximum size of a request body in bytes.
 const MAX_CONTENT_LENGTH: u64 = 8_388_608;
 
-/// The body of the discovery (section 4.1.1): the server's title, and where its base URL is known the
-/// URL of its one API root, also as the default.
+/// The body of the discovery resource (section 4.1.1): the server's title, and the URL of its one
+/// API root if the base URL is known.
 pub fn discovery_body(alloc: Global, base: Option<&str>) -> Result<Text, NoMemory>
     ensures { IfOk result
         (λ text. text ≡ compact_text (discovery_data (option_map (λ url. url.now) base.entry))) }
@@ -27,7 +27,7 @@ pub fn discovery_body(alloc: Global, base: Option<&str>) -> Result<Text, NoMemor
     }
 }
 
-/// The same under a base URL.
+/// The discovery body for a known base URL.
 fn based_body(alloc: Global, base: &str) -> Result<Text, NoMemory>
     ensures { IfOk result (λ text. text ≡ compact_text (discovery_data (Some base.now))) }
 {
@@ -48,7 +48,7 @@ fn root_url(alloc: Global, base: &str) -> Result<Text, NoMemory>
     Ok(url)
 }
 
-/// The body of the API root (section 4.2.1).
+/// The body of the API root resource (section 4.2.1).
 pub fn root_body(alloc: Global) -> Result<Text, NoMemory>
     ensures { IfOk result (λ text. text ≡ compact_text root_data) }
 {

@@ -7,12 +7,12 @@ use flow_values::{NoMemory, Text};
 use std::alloc::Global;
 use taxii_rows::StoredRow;
 
-/// How many bytes stand around the objects at most.
+/// The maximum number of bytes of an envelope outside the objects.
 const ENVELOPE_OVERHEAD: usize = 64;
 
-/// The body of a page of objects (section 3.7): whether there are more, behind which date the next page
-/// begins, and the objects of the rows in their order, whose bodies are copied as they stand. A page
-/// without rows says that there is no more.
+/// The envelope of a page of objects (section 3.7): whether more follow, the cursor `next`, and the
+/// stored text of each object. An empty page has `more` false. O(n) in the size of the objects,
+/// with one allocation.
 pub fn envelope_body(alloc: Global, rows: &[&StoredRow], more: bool) -> Result<Text, NoMemory>
     ensures { IfOk result (λ text. text ≡ envelope_text (map (λ row. row.now) rows.now) more) }
 {
@@ -26,14 +26,14 @@ pub fn envelope_body(alloc: Global, rows: &[&StoredRow], more: bool) -> Result<T
     Ok(text)
 }
 
-/// Behind which date the next page begins, where there is more.
+/// The cursor of the next page: the date of the last row, if more rows follow.
 fn next_of(rows: &[&StoredRow], more: bool) -> Option<u64>
     ensures { result ≡ next_date (map (λ row. row.now) rows.now) more }
 {
     if more { last_date(rows) } else { None }
 }
 
-/// The date of the last row, where there is one. Takes no memory.
+/// The date of the last row, if any. Allocates nothing.
 pub fn last_date(rows: &[&StoredRow]) -> Option<u64>
     ensures { result ≡ last_or None (dates_of (map (λ row. row.now) rows.now)) }
 {
@@ -41,7 +41,7 @@ pub fn last_date(rows: &[&StoredRow]) -> Option<u64>
     Some(last.date)
 }
 
-/// Adds the brace, whether there is more, and where the next page begins.
+/// Appends the opening brace, `more`, and `next` if more rows follow.
 fn push_head(alloc: Global, next: Option<u64>, text: &mut Text) -> Result<(), NoMemory>
     ensures { OnOk result (text.new ≡ text.old ++ head_text next) }
 {
@@ -61,7 +61,7 @@ fn push_next(alloc: Global, date: u64, text: &mut Text) -> Result<(), NoMemory>
     Ok(())
 }
 
-/// The date as it is read from a query again.
+/// The date as 16 hexadecimal digits, as `read_next` of `taxii_routes` parses it.
 fn next_digits(alloc: Global, date: u64) -> Result<Text, NoMemory>
     ensures { IfOk result (λ digits. digits ≡ next_text date) }
 {
@@ -69,9 +69,11 @@ fn next_digits(alloc: Global, date: u64) -> Result<Text, NoMemory>
     Ok(Text::from_string(digits))
 }
 
-/// Adds the list of the objects, where there are some.
+/// Appends the list of objects, if it is not empty.
 fn push_objects(rows: &[&StoredRow], text: &mut Text) -> Result<(), NoMemory>
-    ensures { OnOk result (text.new ≡ text.old ++ objects_text (map (λ row. row.body) (map (λ row. row.now) rows.now))) }
+    ensures { OnOk result
+        (text.new ≡ text.old
+        ++ objects_text (map (λ row. row.body) (map (λ row. row.now) rows.now))) }
 {
     match rows.split_first() {
         Some((first, others)) => push_list(first, others, text),
@@ -79,9 +81,12 @@ fn push_objects(rows: &[&StoredRow], text: &mut Text) -> Result<(), NoMemory>
     }
 }
 
-/// Adds the list of these objects.
+/// Appends the list of these objects.
 fn push_list(first: &StoredRow, others: &[&StoredRow], text: &mut Text) -> Result<(), NoMemory>
-    ensures { OnOk result (text.new ≡ text.old ++ objects_text (first.now.body ∷ map (λ row. row.body) (map (λ row. row.now) others.now))) }
+    ensures { OnOk result
+        (text.new ≡ text.old
+        ++ objects_text (first.now.body ∷ map (λ row. row.body)
+        (map (λ row. row.now) others.now))) }
 {
     text.push(",\"objects\":[")?;
     text.push(first.body.as_str())?;
@@ -90,7 +95,7 @@ fn push_list(first: &StoredRow, others: &[&StoredRow], text: &mut Text) -> Resul
     Ok(())
 }
 
-/// Adds the bodies of the rows behind the first one.
+/// Appends the bodies of the rows after the first one.
 fn push_others(rows: &[&StoredRow], text: &mut Text) -> Result<(), NoMemory>
     ensures { OnOk result (text.new ≡ text.old ++ flat_map (λ row. 44 ∷ row.now.body) rows.now) }
 {

@@ -10,7 +10,7 @@ use flow_values::{Items, Name, NoMemory, Text};
 use std::alloc::Global;
 use stix_json::{Field, Json, JsonText, write_json};
 
-/// The fields of an object, in the order in which they are added.
+/// A builder of a JSON object: its fields, in order of insertion.
 #[derive(Drop)]
 pub(crate) struct Fields {
     alloc: Global,
@@ -18,7 +18,7 @@ pub(crate) struct Fields {
 }
 
 impl Fields {
-    /// No fields. Takes no memory.
+    /// No fields. Allocates nothing.
     pub(crate) fn new(alloc: Global) -> Fields
         ensures { members_in result ≡ [] }
     {
@@ -28,9 +28,11 @@ impl Fields {
         }
     }
 
-    /// Adds a field of any value.
+    /// Adds a field with any value.
     pub(crate) fn add(&mut self, name: &str, value: Json) -> Result<(), NoMemory>
-        ensures { OnOk result (members_in self.new ≡ members_in self.old ++ record { name = name.now; value = data_of value } ∷ []) }
+        ensures { OnOk result
+            (members_in self.new
+            ≡ members_in self.old ++ record { name = name.now; value = data_of value } ∷ []) }
     {
         match Name::from_text(self.alloc, name) {
             Ok(name) => Ok(self.fields.push(Field { name, value })?),
@@ -41,47 +43,62 @@ impl Fields {
         }
     }
 
-    /// Adds a field of `true` or `false`.
+    /// Adds a Boolean field.
     pub(crate) fn add_truth(&mut self, name: &str, truth: bool) -> Result<(), NoMemory>
-        ensures { OnOk result (members_in self.new ≡ members_in self.old ++ record { name = name.now; value = boolean truth } ∷ []) }
+        ensures { OnOk result
+            (members_in self.new
+            ≡ members_in self.old ++ record { name = name.now; value = boolean truth } ∷ []) }
     {
         self.add(name, Json::Bool(truth))
     }
 
-    /// Adds a field of a number.
+    /// Adds a numeric field.
     pub(crate) fn add_number(&mut self, name: &str, number: u64) -> Result<(), NoMemory>
         requires { number < 2 ^ 63 }
-        ensures { OnOk result (members_in self.new ≡ members_in self.old ++ record { name = name.now; value = whole (unsigned number) } ∷ []) }
+        ensures { OnOk result
+            (members_in self.new
+            ≡ members_in self.old
+            ++ record { name = name.now; value = whole (unsigned number) } ∷ []) }
     {
         self.add(name, Json::Integer(number as i64))
     }
 
-    /// Adds a field of a text.
+    /// Adds a string field.
     pub(crate) fn add_text(&mut self, name: &str, text: &str) -> Result<(), NoMemory>
-        ensures { OnOk result (members_in self.new ≡ members_in self.old ++ record { name = name.now; value = string text.now } ∷ []) }
+        ensures { OnOk result
+            (members_in self.new
+            ≡ members_in self.old ++ record { name = name.now; value = string text.now } ∷ []) }
     {
         self.add(name, text_value(self.alloc, text)?)
     }
 
-    /// Adds a field of a list of one text.
+    /// Adds a field whose value is an array of one string.
     pub(crate) fn add_one_text(&mut self, name: &str, text: &str) -> Result<(), NoMemory>
-        ensures { OnOk result (members_in self.new ≡ members_in self.old ++ record { name = name.now; value = array (item (string text.now) no_items) } ∷ []) }
+        ensures { OnOk result
+            (members_in self.new
+            ≡ members_in self.old
+            ++ record { name = name.now; value = array (item (string text.now) no_items) } ∷ []) }
     {
         let mut texts = Items::new(self.alloc);
         texts.push(text_value(self.alloc, text)?)?;
         self.add_list(name, texts)
     }
 
-    /// Adds a field of a list.
+    /// Adds an array field.
     pub(crate) fn add_list(&mut self, name: &str, values: Items<Json>) -> Result<(), NoMemory>
-        ensures { OnOk result (members_in self.new ≡ members_in self.old ++ record { name = name.now; value = array (items_of (map data_of values)) } ∷ []) }
+        ensures { OnOk result
+            (members_in self.new
+            ≡ members_in self.old
+            ++ record { name = name.now; value = array (items_of (map data_of values)) } ∷ []) }
     {
         self.add(name, Json::Array(values))
     }
 
-    /// Adds a field of a list, where the list isn't empty.
+    /// Adds an array field, unless the array is empty.
     pub(crate) fn add_some(&mut self, name: &str, values: Items<Json>) -> Result<(), NoMemory>
-        ensures { OnOk result (members_in self.new ≡ members_in self.old ++ list_member name.now (map data_of values)) }
+        ensures { OnOk result
+            (members_in self.new
+            ≡ members_in self.old ++ list_member name.now (map data_of values)) }
     {
         if values.is_empty() {
             return Ok(());
@@ -89,24 +106,25 @@ impl Fields {
         self.add_list(name, values)
     }
 
-    /// The object of these fields.
+    /// The object with these fields.
     pub(crate) fn into_object(self) -> Json
         ensures { data_of result ≡ object (members_of (members_in self)) }
     {
         Json::Object(Items::from_vec(self.fields))
     }
 
-    /// The text of the object of these fields, whose names ascend.
+    /// The compact text of the object. The names must be in byte order.
     pub(crate) fn into_text(self) -> Result<Text, NoMemory>
         requires { MembersAreOrdered (members_of (members_in self)) }
-        ensures { IfOk result (λ text. text ≡ compact_text (object (members_of (members_in self)))) }
+        ensures { IfOk result
+            (λ text. text ≡ compact_text (object (members_of (members_in self)))) }
     {
         let alloc = self.alloc;
         write_json(alloc, &self.into_object())
     }
 }
 
-/// A text as a value.
+/// A text as a JSON string.
 pub(crate) fn text_value(alloc: Global, text: &str) -> Result<Json, NoMemory>
     ensures { IfOk result (λ value. data_of value ≡ string text.now) }
 {

@@ -1,4 +1,4 @@
-//! What follows from the definitions: the contracts are the laws, and the functions do nothing.
+//! Theorems about the definitions. Each `ensures` states one; the functions have no effect.
 
 ghost use Rattle.std.specs.Prelude.{◌≡◌, ◌^◌, ◌<◌, ◌≤◌, ℕ, All, List, Bool};
 ghost use Rattle.std.specs.List.{AllZip};
@@ -13,21 +13,20 @@ ghost use Rattle.taxii_bodies.specs.Times.{IsWritable};
 
 use taxii_rows::LAST_DATE;
 
-/// The identifier, the date and the version of a sound row have texts: so manifests, versions and
-/// details can be written of each row of a sound store.
+/// Each row of a sound store can be written: its identifier, date and version have texts.
 pub fn sound_rows_are_writable()
     ensures row { (row : StoredRow) → IsSoundRow row → row.date ≤ LAST_DATE → IsWritable row }
     ensures state { (state : StoreState) → IsSoundState state → All IsWritable state.rows }
 {}
 
-/// The text of an envelope, though nothing in it is parsed, is the compact text of a JSON value: of
-/// whether there are more, where the next page begins, and the objects that make the rows.
+/// An envelope is the compact text of a JSON value, though none of its objects is parsed.
 pub fn envelopes_are_json()
-    ensures { (rows : List StoredRow) (more : Bool) (objects : List Data) → AllZip IsRowOf rows objects
+    ensures { (rows : List StoredRow) (more : Bool) (objects : List Data)
+        → AllZip IsRowOf rows objects
         → envelope_text rows more ≡ compact_text (envelope_data (next_of rows more) objects) }
 {}
 
-/// The digits of a date in an envelope are read from a query as that date.
+/// A cursor is parsed from a query as the date it was written for.
 pub fn nexts_read_back()
     ensures { (date : ℕ) → date < 2 ^ 64 → IsNext (next_text date) date }
 {}

@@ -1,5 +1,15 @@
-//! The bodies of a TAXII 2.1 server's answers (sections 3.6, 3.7, 4 and 5), as compact JSON with its
-//! names in byte order. Each body is a function of what it tells: its contract names the JSON value.
+//! The response bodies of a TAXII 2.1 server (sections 3.6, 3.7, 4 and 5) as compact JSON with
+//! names in byte order. Each body is a function of its arguments: the contract states its JSON
+//! value.
+//!
+//! An envelope's objects are copied as stored text, without parsing. `laws` proves that the result
+//! is JSON all the same.
+//!
+//! ```text
+//! let page = page_of(alloc, &library, collection, None, &query)?;
+//! let body = envelope_body(alloc, &page.rows, page.more)?;
+//! // {"more":true,"next":"0005c6a1f3b2d400","objects":[{..},..]}
+//! ```
 #![tactic(auto)]
 
 mod collections;

@@ -14,8 +14,8 @@ use stix_ids::write_id;
 use stix_json::Json;
 use taxii_rows::StoredRow;
 
-/// The body of a page of a manifest (section 5.3.1): whether there are more, and of each row its date,
-/// its identifier and its version.
+/// The body of a page of the manifest resource (section 5.3.1): whether more follow, and each row's
+/// date, identifier and version.
 pub fn manifest_body(alloc: Global, rows: &[&StoredRow], more: bool) -> Result<Text, NoMemory>
     requires { All IsWritable (map (λ row. row.now) rows.now) }
     ensures { IfOk result (IsManifest (map (λ row. row.now) rows.now) more) }
@@ -26,7 +26,8 @@ pub fn manifest_body(alloc: Global, rows: &[&StoredRow], more: bool) -> Result<T
 
 fn records_of(alloc: Global, rows: &[&StoredRow]) -> Result<Items<Json>, NoMemory>
     requires { All IsWritable (map (λ row. row.now) rows.now) }
-    ensures { IfOk result (λ records. AllZip IsRecordOf (map (λ row. row.now) rows.now) (map data_of records)) }
+    ensures { IfOk result
+        (λ records. AllZip IsRecordOf (map (λ row. row.now) rows.now) (map data_of records)) }
 {
     let mut records = Items::with_capacity(alloc, rows.len())?;
     for row in rows {

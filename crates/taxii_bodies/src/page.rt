@@ -9,7 +9,7 @@ use flow_values::{Items, NoMemory, Text};
 use std::alloc::Global;
 use stix_json::Json;
 
-/// The body of a page: whether there are more, and a list under a name.
+/// The body of a page: `more`, and a list under a name.
 pub(crate) fn page_text(
     alloc: Global,
     more: bool,
@@ -17,7 +17,8 @@ pub(crate) fn page_text(
     values: Items<Json>,
 ) -> Result<Text, NoMemory>
     requires { IsOrdered (page_data more name.now (map data_of values)) }
-    ensures { IfOk result (λ text. text ≡ compact_text (page_data more name.now (map data_of values))) }
+    ensures { IfOk result
+        (λ text. text ≡ compact_text (page_data more name.now (map data_of values))) }
 {
     let mut page = Fields::new(alloc);
     page.add_truth("more", more)?;

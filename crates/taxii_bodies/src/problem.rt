@@ -9,33 +9,33 @@ use flow_values::{NoMemory, Text};
 use std::alloc::Global;
 use taxii_routes::Param;
 
-/// Why a request isn't answered as it asks.
+/// Why a request gets an error message (section 3.6.1).
 #[derive(Clone, Copy, Debug, PartialEq, Eq)]
 pub enum Problem {
-    /// A parameter has a value that isn't of its form.
+    /// A query parameter is malformed.
     BadValue(Param),
-    /// A parameter stands twice.
+    /// A query parameter occurs twice.
     Repeated(Param),
-    /// The collection doesn't allow it.
+    /// The collection does not allow it.
     Forbidden,
-    /// The path or what it names doesn't exist.
+    /// The resource does not exist.
     NotFound,
-    /// The client takes none of the server's media types.
+    /// The client accepts none of the server's media types.
     NotAcceptable,
-    /// The body is of another media type.
+    /// The request body has another media type.
     UnsupportedMediaType,
-    /// The body is no JSON.
+    /// The request body is no JSON.
     NotJson,
-    /// The body has no list of objects.
+    /// The request body has no list of objects.
     NotList,
-    /// The store can't be read or written.
+    /// The store cannot be read or written.
     StoreFault,
-    /// The last date there is was given.
+    /// No date is left for new rows.
     DatesUsedUp,
 }
 
 impl Problem {
-    /// What is stated of it.
+    /// The title of the error message.
     pub fn title(self, alloc: Global) -> Result<Text, NoMemory>
         ensures { IfOk result (λ title. title ≡ title_of self) }
     {
@@ -54,7 +54,7 @@ impl Problem {
     }
 }
 
-/// A title that ends in the parameter's name.
+/// A title that ends with the parameter's name.
 fn title_with(alloc: Global, prefix: &str, param: Param) -> Result<Text, NoMemory>
     ensures { IfOk result (λ title. title ≡ prefix.now ++ name_of param) }
 {
@@ -63,7 +63,7 @@ fn title_with(alloc: Global, prefix: &str, param: Param) -> Result<Text, NoMemor
     Ok(title)
 }
 
-/// The body of the error that a problem makes.
+/// The error message of a problem.
 pub fn problem_body(alloc: Global, problem: Problem) -> Result<Text, NoMemory>
     ensures { IfOk result (λ text. text ≡ compact_text (title_data (title_of problem))) }
 {

@@ -12,30 +12,30 @@ use std::alloc::Global;
 use stix_ids::write_uuid;
 use stix_json::Json;
 
-/// The UUID `00000000-0000-4000-8000-000000000000`, of version 4, which the numbers are added to.
+/// The UUID `00000000-0000-4000-8000-000000000000` (version 4), to which status numbers are added.
 const FIRST_ID: u128 = 0x4000_8000_0000_0000_0000;
 
-/// How many numbers there are before they begin again.
+/// The number of distinct status numbers, after which they wrap around.
 const NUMBERS: u64 = 1 << 48;
 
-/// What became of a request to add objects.
+/// The outcome of a request to add objects (section 4.3.1).
 #[derive(Drop)]
 pub struct StatusReport {
-    /// The number of the request.
+    /// The number of the status.
     pub number: u64,
-    /// When it came, in microseconds since 1970.
+    /// When the request arrived, in microseconds since 1970.
     pub moment: u64,
-    /// The details of the objects that were stored, or of the first of them.
+    /// The details of the stored objects, or of the first ones.
     pub successes: Items<Detail>,
-    /// The details of those that were refused, or of the first of them.
+    /// The details of the refused objects, or of the first ones.
     pub failures: Items<Detail>,
-    /// How many were stored.
+    /// The number of stored objects.
     pub success_count: u64,
-    /// How many were refused.
+    /// The number of refused objects.
     pub failure_count: u64,
 }
 
-/// The identifier of the status of that number, of which the last 48 bits count.
+/// The identifier of the status with this number, of which the low 48 bits count.
 pub fn status_id(alloc: Global, number: u64) -> Result<Text, NoMemory>
     ensures { IfOk result (λ id. id ≡ status_id_of number) }
 {
@@ -44,7 +44,7 @@ pub fn status_id(alloc: Global, number: u64) -> Result<Text, NoMemory>
     Text::from_text(alloc, id)
 }
 
-/// The body of a status (section 4.3.1), which is always complete.
+/// The body of a status resource (section 4.3.1). Its state is always `complete`.
 pub fn status_body(alloc: Global, report: &StatusReport) -> Result<Text, NoMemory>
     requires { report.now.success_count + report.now.failure_count < 2 ^ 63 }
     ensures { IfOk result (IsStatus report.now) }
@@ -54,10 +54,11 @@ pub fn status_body(alloc: Global, report: &StatusReport) -> Result<Text, NoMemor
     fields.into_text()
 }
 
-/// The fields of a status, of the text of its moment.
+/// The fields of a status, from the text of its moment.
 fn status_fields(alloc: Global, report: &StatusReport, moment: &str) -> Result<Fields, NoMemory>
     requires { report.now.success_count + report.now.failure_count < 2 ^ 63 }
-    ensures { IfOk result (λ fields. object (members_of (members_in fields)) ≡ status_data report.now moment.now) }
+    ensures { IfOk result
+        (λ fields. object (members_of (members_in fields)) ≡ status_data report.now moment.now) }
 {
     let mut fields = Fields::new(alloc);
     fields.add_number("failure_count", report.failure_count)?;
@@ -76,7 +77,8 @@ fn add_middle(
     fields: &mut Fields,
 ) -> Result<(), NoMemory>
     requires { report.now.success_count < 2 ^ 63 }
-    ensures { OnOk result (members_in fields.new ≡ members_in fields.old ++ middle_members report.now moment.now) }
+    ensures { OnOk result
+        (members_in fields.new ≡ members_in fields.old ++ middle_members report.now moment.now) }
 {
     let id = status_id(alloc, report.number)?;
     fields.add_text("id", id.as_str())?;
@@ -87,14 +89,16 @@ fn add_middle(
     Ok(())
 }
 
-/// Adds the field of a list of details, where it isn't empty.
+/// Adds a list of details, unless it is empty.
 fn add_details(
     alloc: Global,
     name: &str,
     details: &[Detail],
     fields: &mut Fields,
 ) -> Result<(), NoMemory>
-    ensures { OnOk result (members_in fields.new ≡ members_in fields.old ++ list_member name.now (map detail_data details.now)) }
+    ensures { OnOk result
+        (members_in fields.new
+        ≡ members_in fields.old ++ list_member name.now (map detail_data details.now)) }
 {
     let values = detail_values(alloc, details)?;
     fields.add_some(name, values)

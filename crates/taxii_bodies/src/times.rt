@@ -12,7 +12,7 @@ const NANOS_PER_MICRO: i128 = 1000;
 
 const NANOS_PER_MILLI: i128 = 1_000_000;
 
-/// The text of a date, with six digits of a second.
+/// A date as a timestamp with six fractional digits.
 pub(crate) fn date_text(alloc: Global, date: u64) -> Result<Text, NoMemory>
     requires { date ≤ LAST_DATE }
     ensures { IfOk result (IsDateText date) }
@@ -20,7 +20,7 @@ pub(crate) fn date_text(alloc: Global, date: u64) -> Result<Text, NoMemory>
     micros_text(alloc, from_micros(date).unwrap())
 }
 
-/// The text of a row's version.
+/// A row's version as a timestamp.
 pub(crate) fn version_text(alloc: Global, row: &StoredRow) -> Result<Text, NoMemory>
     requires { IsWritable row.now }
     ensures { IfOk result (IsVersionText row.now) }
@@ -33,7 +33,7 @@ pub(crate) fn version_text(alloc: Global, row: &StoredRow) -> Result<Text, NoMem
     }
 }
 
-/// The instant of a row's version.
+/// A row's version as an instant.
 fn version_instant(row: &StoredRow) -> Instant
     requires { IsInstant (version_instant row.now) }
     ensures instant { result ≡ version_instant row.now }
@@ -42,7 +42,7 @@ fn version_instant(row: &StoredRow) -> Instant
     from_nanos(i128::from(row.version) * NANOS_PER_MICRO).unwrap()
 }
 
-/// The text of a version that an object tells, with three digits of a second where nothing is lost.
+/// An object's version as a timestamp, with three fractional digits if they suffice, else six.
 pub(crate) fn stated_text(alloc: Global, instant: Instant) -> Result<Text, NoMemory>
     requires { IsWhole 1000 instant }
     ensures { IfOk result (IsStatedText instant) }

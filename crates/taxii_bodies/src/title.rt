@@ -6,7 +6,7 @@ use crate::fields::Fields;
 use flow_values::{NoMemory, Text};
 use std::alloc::Global;
 
-/// The body of an error: its title (section 3.6.1).
+/// An error message with a title (section 3.6.1).
 pub fn title_body(alloc: Global, title: &str) -> Result<Text, NoMemory>
     ensures { IfOk result (λ text. text ≡ compact_text (title_data title.now)) }
 {

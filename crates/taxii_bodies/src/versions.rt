@@ -11,8 +11,8 @@ use std::alloc::Global;
 use stix_json::{Json, JsonText};
 use taxii_rows::StoredRow;
 
-/// The body of a page of the versions of an object (section 5.8.1): whether there are more, and the
-/// rows' versions in the order of the rows.
+/// The body of a page of the versions resource (section 5.8.1): whether more follow, and the rows'
+/// versions, in order.
 pub fn versions_body(alloc: Global, rows: &[&StoredRow], more: bool) -> Result<Text, NoMemory>
     requires { All IsWritable (map (λ row. row.now) rows.now) }
     ensures { IfOk result (AreVersions (map (λ row. row.now) rows.now) more) }
@@ -23,7 +23,8 @@ pub fn versions_body(alloc: Global, rows: &[&StoredRow], more: bool) -> Result<T
 
 fn versions_of(alloc: Global, rows: &[&StoredRow]) -> Result<Items<Json>, NoMemory>
     requires { All IsWritable (map (λ row. row.now) rows.now) }
-    ensures { IfOk result (λ versions. AllZip IsVersionOf (map (λ row. row.now) rows.now) (map data_of versions)) }
+    ensures { IfOk result
+        (λ versions. AllZip IsVersionOf (map (λ row. row.now) rows.now) (map data_of versions)) }
 {
     let mut versions = Items::with_capacity(alloc, rows.len())?;
     for row in rows {

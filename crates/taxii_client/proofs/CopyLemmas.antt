@@ -55,7 +55,7 @@ moments_more before now after (first ∷ moments) moment (middle, is, goes, rest
 
 -- ---- the copy so far
 
--- attempts were made that another may follow, the pages that came were absorbed, and the walk and the mirror stand behind them
+-- attempts were made that another may follow, the pages that came were absorbed, and the walk and the mirror stand after them
 pub record CopiesSoFar {L : Type 0} (view : L → LinkView) (asked : Copying) (before now : Environment L) (pull : PullState) (mirror : MirrorState) (lost : ℕ) (totals : Totals) : Type 0 where
   pub stops : Stops view asked before now [] []
   pub target_is : pull.target ≡ asked.target
@@ -97,7 +97,7 @@ made_by view pull dial now answer asks = go asks.dials
 module _ {L : Type 0} (view : L → LinkView) (asked : Copying)
     (joins : (t : Target) (links more : List (Lent L)) (first middle last : Option (DialState L))
     → PassThrough t links first middle → PassThrough t more middle last → PassThrough t (links ++ more) first last) where
-  -- the links behind one more attempt
+  -- the links after one more attempt
   through_more : (attempts : List (Attempt L)) (cursor : Cursor) (first : Option (DialState L)) (dial now : DialView L) (end : Result Envelope FetchEnd) (made : Made view asked.target cursor dial now end)
       → PassThrough asked.target (links_of attempts) first dial.observable → PassThrough asked.target (links_of (attempts ++ made.attempt ∷ [])) first now.observable
   through_more attempts cursor first dial now end made through = elim made.link_or_none [

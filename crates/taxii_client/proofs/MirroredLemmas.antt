@@ -98,7 +98,7 @@ entry_of (one ∷ entries) objects skipped object (inl (its, others, is, kept, r
 entry_of (one ∷ entries) objects skipped object (inr (others, is, fails, rest)) here =
     let found = entry_of entries objects others object rest here in (found.0, later one found.0 entries found.1, found.2)
 
--- ---- what stands behind pages
+-- ---- what stands after pages
 
 rows_after : (collection : ℕ) (page : Absorbed) (before after : StoreState) (absorbs : Absorbs collection page before after) → after.rows ≡ before.rows ++ absorbs.new
 rows_after collection page before after absorbs = ap (λ (s : StoreState). s.rows) absorbs.after_is

@@ -25,7 +25,7 @@ pub pull_continues : {L : Type 0} (view : L → LinkView) (target : Target) (pag
     → IsPull view target pages cursor → IsPageAt view target cursor page → IsPull view target (pages ++ page ∷ []) (cursor_after page.envelope)
 pull_continues view target pages cursor page = one_more_page view target _ cursor pages page
 
--- where something is asked for behind a page, it said that there is more
+-- where something is asked for after a page, it said that there is more
 has_more : (more : Bool) (next asked : Option (List ℕ)) → Asks (cursor_of more next) asked → more ≡ true
 has_more true next asked asks = refl
 has_more false next asked asks = absurd asks

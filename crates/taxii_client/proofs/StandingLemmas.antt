@@ -73,7 +73,7 @@ Next collection date rows object objects outcomes new found = MatchOption found
 abbrev AllStand : ℕ → List Described → List StoredRow → Type 0
 AllStand collection objects rows = All (λ object. IsStored collection object rows) objects
 
--- each object of an addition stands behind it
+-- each object of an addition stands after it
 pub added_stand : (collection date : ℕ) (rows : List StoredRow) (objects : List Described) (outcomes : List AddOutcome) (new : List StoredRow)
     → Adds collection date rows objects outcomes new → AllStand collection objects (rows ++ new)
 added_stand collection date rows [] outcomes new adds = All-nil (λ object. IsStored collection object (rows ++ new))

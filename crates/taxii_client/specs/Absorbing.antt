@@ -1,4 +1,5 @@
--- What absorbing a page of a peer's collection makes of a store: its good objects are added, and the other entries are skipped.
+-- The effect of absorbing a page of a peer's collection: its valid objects are added to the store,
+-- and the other entries are skipped.
 use Rattle.std.specs.Prelude.{◌≡◌, ◌⊎◌, ⊤, ℕ, Bool, true, false, not, List, [], ◌∷◌, length, None, count_by}
 use Rattle.stix_json.specs.declared.entry.Entry.{Entry}
 use Rattle.stix_json.specs.declared.entry.Entry.TheVariants.{Good, Bad}
@@ -16,7 +17,7 @@ use Rattle.taxii_store.specs.declared.add_outcome.AddOutcome.TheVariants.{Added,
 use Rattle.taxii_store.specs.Addition.{IsAddition, UsesUpDates, watermark_after}
 use Rattle.taxii_client.specs.declared.tally.Tally.{Tally}
 
--- what contracts see of a mirror: the collection that it fills, and the store
+-- the model of a mirror: the collection that it fills, and the store
 pub record MirrorState : Type 0 where
   pub collection : ℕ
   pub store : StoreState
@@ -26,7 +27,7 @@ abbrev pub IsReadable : Entry → Type 0
 IsReadable (Good value) = (refusal_of (data_of value) ≡ None) × IsOrdered (data_of value)
 IsReadable (Bad refusal) = ⊤
 
--- the entry is an object without breaks, and this is kept of it
+-- the entry is an valid object, and this is kept of it
 abbrev pub IsKept : Entry → Described → Type 0
 IsKept (Good value) object = AreBreaksOf (data_of value) [] × IsDescribed (data_of value) object
 IsKept (Bad refusal) object = ⊥
@@ -36,7 +37,7 @@ abbrev pub IsSkipped : Entry → Type 0
 IsSkipped (Good value) = ¬ AreBreaksOf (data_of value) []
 IsSkipped (Bad refusal) = ⊤
 
--- entries in turn: an object is kept of each, or it is skipped
+-- entries in order: an object is kept of each, or it is skipped
 abbrev pub Splits : List Entry → List Described → List Entry → Type 0
 Splits [] objects skipped = (objects ≡ []) × (skipped ≡ [])
 Splits (entry ∷ entries) objects skipped =
@@ -48,7 +49,8 @@ abbrev pub is_added : AddOutcome → Bool
 is_added (Added date) = true
 is_added (Present date) = false
 
--- the tally counts the objects that became rows, those that were there already, and the entries that were skipped
+-- the tally counts the objects that became rows, those that were there already, and the entries
+-- that were skipped
 pub record Tallies (outcomes : List AddOutcome) (skipped : List Entry) (tally : Tally) : Type 0 where
   pub added_is : tally.added ≡ count_by is_added outcomes
   pub present_is : tally.present ≡ count_by (λ outcome. not (is_added outcome)) outcomes
@@ -60,8 +62,8 @@ pub record Absorbed : Type 0 where
   pub moment : ℕ
   pub tally : Tally
 
--- a page is absorbed by a store: each entry that is an object without breaks is added, in order, the others are skipped,
--- and the tally says so
+-- a page is absorbed by a store: each entry that is an valid object is added, in order, the others
+-- are skipped, and the tally says so
 pub record Absorbs (collection : ℕ) (page : Absorbed) (before after : StoreState) : Type 0 where
   pub objects : List Described
   pub skipped : List Entry

@@ -1,4 +1,4 @@
--- Where a copy ends, and what stands then.
+-- How a copy ends, and what then holds.
 use Rattle.std.specs.Prelude.{◌≡◌, ◌≢◌, ◌<◌, ℕ, List, [], ◌∷◌, ◌++◌, length, All, Bool, true, false, Result, Ok, Err, IfSome}
 use Rattle.stix_json.specs.declared.entry.Entry.{Entry}
 use Rattle.taxii_rows.specs.StoreState.{StoreState}
@@ -27,8 +27,9 @@ use Rattle.taxii_client.specs.declared.totals.Totals.{Totals}
 
 -- ---- where a run stops
 
--- attempts were made, each over a link of its own that was dialled at the host and port and handed back, as far as the dial tells; behind
--- each but the last one another could follow. The pages that came were absorbed, but for those that are left
+-- attempts were made, each over a new link that was dialled at the host and port and returned, as
+-- far as the dial is observable. After each but the last one another may follow. The pages that
+-- arrived were absorbed, except those in `left`
 pub record Stops {L : Type 0} (view : L → LinkView) (asked : Copying) (before now : Environment L) (last : List (Attempt L)) (left : List (List Entry)) : Type 0 where
   pub attempts : List (Attempt L)
   pub proceed : All Continues attempts
@@ -39,19 +40,19 @@ pub record Stops {L : Type 0} (view : L → LinkView) (asked : Copying) (before 
   pub absorbed : List Absorbed
   pub fills : Fills asked before now (entries_of (pages_of attempts)) left absorbed
 
--- all pages came and were absorbed, and fewer attempts were lost than may be
+-- all pages arrived and were absorbed, and fewer attempts were lost than may be
 pub record StopsBehind {L : Type 0} (view : L → LinkView) (asked : Copying) (before now : Environment L) : Type 0 where
   pub stops : Stops view asked before now [] []
   pub over : stops.cursor ≡ Over
   pub few : losses stops.attempts < asked.tries
 
--- so many attempts were lost, and the page was to be asked for again
+-- the allowed number of attempts were lost, and the page was to be requested again
 pub record StopsLost {L : Type 0} (view : L → LinkView) (asked : Copying) (before now : Environment L) : Type 0 where
   pub stops : Stops view asked before now [] []
   pub wants : stops.cursor ≢ Over
   pub all : losses stops.attempts ≡ asked.tries
 
--- as many pages came as a walk may have, and the last had more behind it
+-- as many pages arrived as a walk may have, and the last had more after it
 pub record StopsFull {L : Type 0} (view : L → LinkView) (asked : Copying) (before now : Environment L) : Type 0 where
   pub stops : Stops view asked before now [] []
   pub full : length (pages_of stops.attempts) ≡ MAX_PAGES
@@ -65,14 +66,14 @@ pub record StopsAt {L : Type 0} (view : L → LinkView) (asked : Copying) (befor
   pub stops : Stops view asked before now (last ∷ []) []
   pub few : losses stops.attempts < asked.tries
 
--- a page came that wasn't absorbed
+-- a page arrived that was not absorbed
 pub record StopsShort {L : Type 0} (view : L → LinkView) (asked : Copying) (before now : Environment L) (Why : List Entry → StoreState → Type 0) : Type 0 where
   pub entries : List Entry
   pub stops : Stops view asked before now [] (entries ∷ [])
   pub why : Why entries stops.fills.last
   pub few : losses stops.attempts < asked.tries
 
--- no page was asked for
+-- no page was requested
 pub record StopsBefore {L : Type 0} (before now : Environment L) : Type 0 where
   pub dial : now.dial ≡ before.dial
   pub rows : now.kept.observable ≡ before.kept.observable
@@ -91,17 +92,17 @@ EndsLoading before now Load.KeeperFault = StopsBefore before now
 EndsLoading before now (Load.BadRow after) = StopsBefore before now × IfSome before.kept.observable (λ state. IsBadAfter state after)
 EndsLoading before now Load.NoMemory = StopsBefore before now
 
--- why a page wasn't absorbed: too few dates are left; the others say nothing of the page
+-- why a page was not absorbed: too few dates are left; the others say nothing of the page
 abbrev pub ExplainsStop : Copying → StoreRefusal → List Entry → StoreState → Type 0
 ExplainsStop asked refusal entries store = refusal ≡ Store.DatesUsedUp → LacksDates asked.target.collection entries store
 
--- what is said of a copy that stopped before all pages were absorbed
+-- what holds for a copy that stopped before all pages were absorbed
 abbrev pub EndsCopy : {L : Type 0} → (L → LinkView) → Copying → Environment L → Environment L → CopyStop → Type 0
 EndsCopy view asked before now (NotLoaded refusal) = EndsLoading before now refusal
 EndsCopy view asked before now (NotFetched stop) = EndsFetching view asked before now stop
 EndsCopy view asked before now (NotAbsorbed refusal) = StopsShort view asked before now (ExplainsStop asked refusal)
 
--- all pages were absorbed, of which the totals tell, or why not
+-- all pages were absorbed, as the totals say, or why not
 abbrev pub Copies : {L : Type 0} → (L → LinkView) → Copying → Environment L → Environment L → Result Totals CopyStop → Type 0
 Copies view asked before now (Ok totals) = (copied : StopsBehind view asked before now) × (totals ≡ totals_of copied.stops.absorbed)
 Copies view asked before now (Err stop) = EndsCopy view asked before now stop

@@ -1,4 +1,5 @@
--- One request over a link, and the reply to it: a page of a collection (TAXII 2.1, section 3.7), or why there is none.
+-- One request over a link, and the reply to it: a page of a collection (TAXII 2.1, section 3.7), or
+-- why there is none.
 use Rattle.std.specs.Prelude.{◌≡◌, ◌≢◌, ◌⊎◌, ℕ, List, ◌++◌, Option, Result, Ok, Err}
 use Rattle.flow_edges.specs.Flow.{written_with, WritesPrefix, IsAtEnd}
 use Rattle.stix_json.specs.declared.envelope.Envelope.{Envelope}
@@ -40,7 +41,7 @@ IsTakenFor taken now (Err Cut) = IsCut taken × IsAtEnd now
 IsTakenFor taken now (Err (Refused refusal)) = IsRefusedAs taken refusal
 IsTakenFor taken now (Err NoMemory) = IsNeeded taken
 
--- the answer to a read of what was left, of which this is left now
+-- the result of a read from what was left on the link; this is left now
 pub record ReadsPage (left now : Option (List ℕ)) (answer : Result Envelope FetchEnd) : Type 0 where
   pub taken : List ℕ
   pub takes : Takes taken left now
@@ -54,7 +55,8 @@ WritesRequest text before now (Err Cut) = now ≡ written_with text before
 WritesRequest text before now (Err (Refused refusal)) = now ≡ written_with text before
 WritesRequest text before now (Err NoMemory) = WritesPrefix text before now
 
--- a fetch over a link: what was written, what was read, and that it failed only where the link says so
+-- a fetch over a link: what was written, what was read, and that it failed only where the link says
+-- so
 pub record Fetched (target : Target) (next : Option (List ℕ)) (before now : LinkView) (answer : Result Envelope FetchEnd) : Type 0 where
   pub writes : WritesRequest (request_of target next) before.written now.written answer
   pub reads : ReadsPage before.left now.left answer

@@ -1,4 +1,5 @@
--- How pages that came fill a store: what the keeper has, and at which moments they were absorbed.
+-- How pages that arrived fill a store: what the keeper has, and at which moments they were
+-- absorbed.
 use Rattle.std.specs.Prelude.{◌≡◌, ℕ, List, [], ◌∷◌, ◌++◌, length, map, Option, Some, IfSome}
 use Rattle.flow_links.specs.Dials.{DialState}
 use Rattle.flow_links.specs.Moments.{IsNext, Continues}
@@ -11,13 +12,14 @@ use Rattle.taxii_client.specs.Absorbing.{Absorbed}
 use Rattle.taxii_client.specs.Mirrored.{Mirrored}
 use Rattle.taxii_client.specs.Copying.{Copying}
 
--- the environment of a run at one moment: its dial, what contracts see of the keeper, and the moments that the clock will give
+-- the environment of a run at one moment: its dial, the observable state of the keeper, and the
+-- moments that the clock will give
 pub record Environment (L : Type 0) : Type 0 where
   pub dial : DialView L
   pub kept : Kept
   pub moments : ℕ → Option ℕ
 
--- the same, from what each tells
+-- the environment, from its observable parts
 abbrev pub environment : {L : Type 0} → Option (DialState L) → ℕ → Kept → (ℕ → Option ℕ) → Environment L
 environment observable faults kept moments = record { dial = record { observable = observable; faults = faults }; kept = kept; moments = moments }
 
@@ -26,8 +28,9 @@ abbrev pub GivesMoments : (ℕ → Option ℕ) → List ℕ → (ℕ → Option 
 GivesMoments before [] now = (n : ℕ) → now n ≡ before n
 GivesMoments before (moment ∷ moments) now = (next : ℕ → Option ℕ) × IsNext before moment × Continues before next × GivesMoments next moments now
 
--- the pages that came were absorbed in order, each at the next moment of the clock, by the store that the keeper had in the file; those
--- that are left weren't. The keeper has what they make of it
+-- the pages that arrived were absorbed in order, each at the next moment of the clock, by the store
+-- that the keeper had in the file; those that are left were not. The keeper has what they make of
+-- it
 pub record Fills {L : Type 0} (asked : Copying) (before now : Environment L) (pages left : List (List Entry)) (absorbed : List Absorbed) : Type 0 where
   pub first : StoreState
   pub loaded : IfSome before.kept.observable (λ state. first ≡ state)

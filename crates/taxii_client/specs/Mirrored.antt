@@ -1,4 +1,4 @@
--- What becomes of a store where pages of a peer's collection are absorbed in turn.
+-- The outcome of a store where pages of a peer's collection are absorbed in order.
 use Rattle.std.specs.Prelude.{◌≡◌, ℕ, List, [], ◌∷◌}
 use Rattle.taxii_rows.specs.StoreState.{StoreState}
 use Rattle.taxii_client.specs.Absorbing.{Absorbed, Absorbs}

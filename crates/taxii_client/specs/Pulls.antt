@@ -1,4 +1,5 @@
--- A walk over the pages of a peer's collection, each fetched on a link of its own: each page asks for the one behind it.
+-- A walk over the pages of a peer's collection, with a new link per page; each page gives the
+-- cursor of the next one.
 use Rattle.std.specs.Prelude.{◌≡◌, ◌≢◌, ◌⊎◌, ℕ, ◌+◌, ◌<◌, ◌≤◌, Bool, true, false, List, [], ◌∷◌, ◌++◌, map, Option, Some, None, Result, Ok, Err}
 use Rattle.flow_edges.specs.Faults.{HasIncreased}
 use Rattle.flow_links.specs.Doors.{Changes}
@@ -18,13 +19,14 @@ use Rattle.taxii_client.specs.Fetches.{Fetched}
 
 -- ---- turns
 
--- what is asked for at a turn: the first page, or the one behind a page; at the last turn nothing
+-- the `next` requested at a cursor: none for the first page, that of the page before for the
+-- others; at the end there is no request
 abbrev pub Asks : Cursor → Option (List ℕ) → Type 0
 Asks First next = next ≡ None
 Asks (Resume text) next = next ≡ Some text
 Asks Over next = ⊥
 
--- the turn behind a page, by whether there is more and what asks for it
+-- the cursor after a page, from `more` and `next`
 abbrev pub cursor_of : Bool → Option (List ℕ) → Cursor
 cursor_of true (Some next) = Resume next
 cursor_of true None = Over
@@ -35,12 +37,13 @@ cursor_after envelope = cursor_of envelope.more envelope.next
 
 -- ---- links
 
--- a link that the dial gave and that was handed back to it
+-- a link that the dial gave and that was returned to it
 pub record Lent (L : Type 0) : Type 0 where
   pub given : L
   pub finished : L
 
--- these links were dialled at the target's host and port, given and handed back, in order, as far as the dial tells
+-- these links were dialled at the target's host and port, given and returned, in order, as far as
+-- the dial is observable
 abbrev pub PassThrough : {L : Type 0} → Target → List (Lent L) → Option (DialState L) → Option (DialState L) → Type 0
 PassThrough target links before now = Changes (λ state after.
     (state.coming ≡ map (λ link. link.given) links ++ after.coming)
@@ -50,35 +53,35 @@ PassThrough target links before now = Changes (λ state after.
 
 -- ---- one page
 
--- a page that came: the link that it came over, and its envelope
+-- a page that arrived: the link that it came over, and its envelope
 pub record Page (L : Type 0) : Type 0 where
   pub link : Lent L
   pub envelope : Envelope
 
--- the page was asked for as the turn says, and came whole over its link
+-- the page at the cursor was requested, and arrived completely over its link
 pub record IsPageAt {L : Type 0} (view : L → LinkView) (target : Target) (cursor : Cursor) (page : Page L) : Type 0 where
   pub next : Option (List ℕ)
   pub asks : Asks cursor next
   pub fetched : Fetched target next (view page.link.given) (view page.link.finished) (Ok page.envelope)
 
--- pages in turn, from one turn to another
+-- pages in order, from one cursor to another
 abbrev pub InTurn : {L : Type 0} → (L → LinkView) → Target → Cursor → List (Page L) → Cursor → Type 0
 InTurn view target cursor [] after = after ≡ cursor
 InTurn view target cursor (page ∷ pages) after = IsPageAt view target cursor page × InTurn view target (cursor_after page.envelope) pages after
 
--- a pull: pages in turn from the first one on. It is whole where the turn behind it is the last
+-- a pull: pages in order from the first one on. It is complete if its cursor is at the end
 abbrev pub IsPull : {L : Type 0} → (L → LinkView) → Target → List (Page L) → Cursor → Type 0
 IsPull view target pages cursor = InTurn view target First pages cursor
 
 -- ---- what one call does
 
--- what contracts see of a walk: whose pages, whose turn it is, and how many came
+-- the model of a pull: its target, its cursor, and the number of pages received
 pub record PullState : Type 0 where
   pub target : Target
   pub cursor : Cursor
   pub pages : ℕ
 
--- a link was dialled, fetched over and handed back
+-- a link was dialled, fetched over and returned
 pub record FetchesOver {L : Type 0} (view : L → LinkView) (target : Target) (next : Option (List ℕ)) (dial now : DialView L) (answer : Result Envelope FetchEnd) : Type 0 where
   pub link : Lent L
   pub fetched : Fetched target next (view link.given) (view link.finished) answer
@@ -96,25 +99,25 @@ pub record FailsToDial {L : Type 0} (dial now : DialView L) (answer : Result Env
 abbrev pub Dials : {L : Type 0} → (L → LinkView) → Target → Option (List ℕ) → DialView L → DialView L → Result Envelope FetchEnd → Type 0
 Dials view target next dial now answer = FetchesOver view target next dial now answer ⊎ FailsToDial dial now answer
 
--- a page was asked for at its turn
+-- a page was requested at the cursor
 pub record AsksFor {L : Type 0} (view : L → LinkView) (before : PullState) (dial now : DialView L) (answer : Result Envelope FetchEnd) : Type 0 where
   pub few : before.pages < MAX_PAGES
   pub next : Option (List ℕ)
   pub asks : Asks before.cursor next
   pub dials : Dials view before.target next dial now answer
 
--- a page came, and the walk goes on behind it
+-- a page arrived, and the walk continues after it
 pub record GivesPage {L : Type 0} (view : L → LinkView) (before after : PullState) (dial now : DialView L) (entries : List Entry) : Type 0 where
   pub envelope : Envelope
   pub asks : AsksFor view before dial now (Ok envelope)
   pub entries_are : entries ≡ envelope.entries
   pub after_is : after ≡ record { target = before.target; cursor = cursor_after envelope; pages = before.pages + 1 }
 
--- a page didn't come, and the walk stands where it stood
+-- a page did not arrive, and the cursor is unchanged
 abbrev pub LosesPage : {L : Type 0} → (L → LinkView) → PullState → PullState → DialView L → DialView L → FetchEnd → Type 0
 LosesPage view before after dial now end = AsksFor view before dial now (Err end) × (after ≡ before)
 
--- nothing was asked for, and nothing changed
+-- nothing was requested, and nothing changed
 abbrev pub Rests : {L : Type 0} → PullState → PullState → DialView L → DialView L → Type 0
 Rests before after dial now = (after ≡ before) × (now ≡ dial)
 

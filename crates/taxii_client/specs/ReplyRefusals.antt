@@ -1,4 +1,4 @@
--- Why a page doesn't come, layer by layer, and how a refusal is told.
+-- Why a page does not arrive, layer by layer, and how a refusal is reported.
 use Rattle.std.specs.Prelude.{ℕ, List, ◌++◌, codes, decimal}
 use Rattle.stix_json.specs.declared.refusal.JsonRefusal.{JsonRefusal}
 use Rattle.stix_json.specs.declared.refusal.JsonRefusal.TheVariants as Json
@@ -38,14 +38,14 @@ for_body (Json.OutOfRange path) = Fetch.Refused NotEnvelope
 for_body Json.NotList = Fetch.Refused NotEnvelope
 for_body Json.NoMemory = Fetch.NoMemory
 
--- why no page came where none was fetched
+-- why no page arrived where none was fetched
 abbrev pub for_fetch : FetchEnd → PageEnd
 for_fetch Fetch.Fault = Page.Fault
 for_fetch Fetch.Cut = Page.Cut
 for_fetch (Fetch.Refused refusal) = Page.Refused refusal
 for_fetch Fetch.NoMemory = Page.NoMemory
 
--- the name of a refusal, and behind that of a status its code
+-- the name of a refusal, and after that of a status its code
 abbrev pub refusal_text : ReplyRefusal → List ℕ
 refusal_text BadHead = codes "BadHead"
 refusal_text (Status code) = codes "Status " ++ decimal code

@@ -1,6 +1,6 @@
--- The request of a client for a page of a collection (TAXII 2.1, sections 3.4 and 5.4): the objects in all their versions, at most so
--- many of them; where a time is given, those that were added after it; behind a page, those that follow it. All pages are asked for by
--- the same query but for that.
+-- The request for a page of a collection (TAXII 2.1, sections 3.4 and 5.4): all versions of the
+-- objects, at most `limit` of them. `added_after` restricts them to those added after a time,
+-- `next` to those after a page. All pages have the same query but for `next`.
 use Rattle.std.specs.Prelude.{ℕ, List, [], ◌++◌, codes, decimal, Option, Some, None}
 use Rattle.form_urlencoded.specs.Form.{byte_serialize}
 use Rattle.stix_ids.specs.Uuid.{uuid_text}
@@ -25,7 +25,7 @@ behind since next = since_pair since ++ next_pair next
 abbrev pub path_of : Target → List ℕ
 path_of target = target.root ++ codes "collections/" ++ uuid_text target.collection ++ codes "/objects/"
 
--- the query for at most so many objects, in all their versions
+-- the query for at most `limit` objects, in all their versions
 abbrev pub query_of : ℕ → Option (List ℕ) → Option (List ℕ) → List ℕ
 query_of limit since next = codes "?limit=" ++ decimal limit ++ codes "&match%5Bversion%5D=all" ++ behind since next
 

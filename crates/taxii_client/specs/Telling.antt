@@ -1,4 +1,4 @@
--- What is told of the entries of pages: the good ones are written, and the bad ones counted.
+-- The output for the entries of pages: valid ones are written, and invalid ones counted.
 use Rattle.std.specs.Prelude.{⊤, ℕ, Bool, true, false, List, [], ◌++◌, codes, flat_map, count_by, sum_by}
 use Rattle.serde_json.specs.Written.{compact_text}
 use Rattle.stix_json.specs.DataOf.{data_of}
@@ -7,7 +7,7 @@ use Rattle.stix_json.specs.declared.entry.Entry.{Entry}
 use Rattle.stix_json.specs.declared.entry.Entry.TheVariants.{Good, Bad}
 use Rattle.taxii_client.specs.Pulls.{Page}
 
--- the compact text of a good entry, as a line; of a bad one nothing
+-- the compact text of a valid entry, as a line; of a bad one nothing
 abbrev pub line_of : Entry → List ℕ
 line_of (Good json) = compact_text (data_of json) ++ codes "\n"
 line_of (Bad refusal) = []
@@ -32,7 +32,7 @@ bad_in entries = count_by is_bad entries
 abbrev pub bad_in_pages : {L : Type 0} → List (Page L) → ℕ
 bad_in_pages pages = sum_by (λ page. bad_in page.envelope.entries) pages
 
--- what stands in a good entry is ordered
+-- the names in a valid entry are in order
 abbrev pub IsWritable : Entry → Type 0
 IsWritable (Good json) = IsOrdered (data_of json)
 IsWritable (Bad refusal) = ⊤

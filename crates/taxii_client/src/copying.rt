@@ -16,9 +16,10 @@ use std::alloc::Global;
 use taxii_rows::Keeper;
 use taxii_store::{Library, LoadRefusal};
 
-/// Fetches the pages of a collection in turn, and absorbs each at the next moment of the clock, before the next one
-/// is asked for, into the store of that name. A page that is lost is asked for again; the copy ends when `tries`
-/// fetches were lost in all.
+/// Copies a collection into the store named `file`: fetches its pages in order, and absorbs each at
+/// the clock's next moment before it requests the next one. A lost fetch is retried; `LinkLost`
+/// ends the copy after `tries` lost fetches in all. Pages absorbed before an error stay in the
+/// store.
 pub fn copy<D: Dial, K: Keeper, C: Clock>(
     alloc: Global,
     target: &Target,
@@ -30,11 +31,18 @@ pub fn copy<D: Dial, K: Keeper, C: Clock>(
 ) -> Result<Totals, CopyStop>
     requires short { length target.now.host ≤ MAX_HOST }
     requires tries { 1 ≤ tries }
-    ensures copies { Copies (link_view D.Link.left D.Link.written D.Link.Source.faults D.Link.Sink.faults)
+    // each link is dialled and returned, each page absorbed once, and an error says which step
+    // failed
+    ensures copies { Copies
+        (link_view D.Link.left D.Link.written D.Link.Source.faults D.Link.Sink.faults)
         (record { target = target.now; file = file.now; tries = tries })
-        (environment (D.observable dial.old) (D.faults dial.old) (K.kept keeper.old) (C.moments clock.old))
-        (environment (D.observable dial.new) (D.faults dial.new) (K.kept keeper.new) (C.moments clock.new)) result }
-    ensures causes { Counted (IsErrAnd result (λ stop. is_store_fault stop ≡ true)) (K.faults keeper.old) (K.faults keeper.new) }
+        (environment (D.observable dial.old) (D.faults dial.old) (K.kept keeper.old)
+        (C.moments clock.old))
+        (environment (D.observable dial.new) (D.faults dial.new) (K.kept keeper.new)
+        (C.moments clock.new)) result }
+    // the keeper counts a fault exactly if the copy ends because the keeper failed
+    ensures causes { Counted (IsErrAnd result (λ stop. is_store_fault stop ≡ true))
+        (K.faults keeper.old) (K.faults keeper.new) }
 {
     pulls_continue::<D>();
     pages_continue();
@@ -68,7 +76,7 @@ pub fn copy<D: Dial, K: Keeper, C: Clock>(
     }
 }
 
-/// A mirror of a collection over the rows that the keeper has under a name.
+/// Loads the store with this name.
 fn open<K: Keeper>(
     alloc: Global,
     keeper: &mut K,
@@ -77,15 +85,17 @@ fn open<K: Keeper>(
 ) -> Result<Mirror, LoadRefusal>
     ensures ok { IfOk result (Opens file.now (K.kept keeper.old) (K.kept keeper.new)) }
     ensures collection { IfOk result (λ mirror. mirror.collection ≡ collection) }
-    ensures bad { IfErr result (λ refusal. (after : ℕ) → refusal ≡ Unloaded.BadRow after → IfSome (K.kept keeper.old).observable (λ state. IsBadAfter state after)) }
+    ensures bad { IfErr result (λ refusal. (after : ℕ) → refusal ≡ Unloaded.BadRow after
+        → IfSome (K.kept keeper.old).observable (λ state. IsBadAfter state after)) }
     ensures observable { (K.kept keeper.new).observable ≡ (K.kept keeper.old).observable }
-    ensures causes { Counted (result ≡ Err Unloaded.KeeperFault) (K.faults keeper.old) (K.faults keeper.new) }
+    ensures causes { Counted (result ≡ Err Unloaded.KeeperFault) (K.faults keeper.old)
+        (K.faults keeper.new) }
 {
     let library = Library::load(alloc, keeper, file)?;
     Ok(Mirror::new(alloc, library, collection))
 }
 
-/// Why no page is asked for behind one that didn't come so; nothing where it was lost.
+/// Why the copy ends after a failed fetch; `None` if the fetch was lost and may be retried.
 fn stop_for(end: PageEnd) -> Option<FetchStop>
     ensures { result ≡ stop_of end }
 {

@@ -4,18 +4,18 @@ ghost use Rattle.taxii_client.specs.declared.cursor.Cursor.TheVariants.{Over};
 
 use flow_values::Text;
 
-/// Which page of a walk is the next one.
+/// The cursor of a pull: which page is the next one.
 #[derive(Debug, Drop)]
 pub enum Cursor {
     First,
-    /// The page behind another, and what asks for it.
+    /// The page with this `next`.
     Resume(Text),
-    /// None: the last page had no more behind it.
+    /// No page: the last one said that no more follow.
     Over,
 }
 
 impl Cursor {
-    /// The turn behind a page.
+    /// The cursor after a page.
     pub(crate) fn after(more: bool, next: Option<Text>) -> Cursor
         ensures { result ≡ cursor_of more next }
     {
@@ -25,9 +25,10 @@ impl Cursor {
         }
     }
 
-    /// What is asked for at the turn, and nothing at the last.
+    /// The `next` to request, or `None` after the last page. The first page has no `next`.
     pub(crate) fn next(&self) -> Option<Option<&str>>
-        ensures { MatchOption result (self.now ≡ Over) (λ next. Asks self.now (option_map (λ text. text.now) next)) }
+        ensures { MatchOption result (self.now ≡ Over)
+            (λ next. Asks self.now (option_map (λ text. text.now) next)) }
     {
         match self {
             Cursor::First => Some(None),

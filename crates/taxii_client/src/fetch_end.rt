@@ -3,13 +3,13 @@ use flow_values::{Fault, NoMemory};
 use http_messages::ReplyEnd;
 use thiserror::Error;
 
-/// Why a page wasn't fetched over a link.
+/// Why a page could not be fetched over a link.
 #[derive(Clone, Copy, Debug, PartialEq, Eq, Hash, Error)]
 pub enum FetchEnd {
-    /// A read or a write failed, and was counted by the link.
+    /// A read or a write failed; the link has counted it.
     #[error("the link failed")]
     Fault,
-    /// The link's bytes end inside the reply.
+    /// The link's bytes end inside the response.
     #[error("the reply is cut")]
     Cut,
     #[error("the reply is refused: {0}")]

@@ -14,8 +14,8 @@ use http_messages::reply_laws::all_are_needed;
 use std::alloc::Global;
 use stix_json::{Envelope, JsonRefusal, read_envelope};
 
-/// Asks over a link for the first page of the target, or for the one that `next` asks for, and reads the
-/// reply, and no byte past it.
+/// Requests a page over a link: the first page of the target, or the one after the cursor `next`.
+/// Reads the response, and no byte after it.
 pub fn fetch<L: Link>(
     alloc: Global,
     target: &Target,
@@ -33,10 +33,11 @@ pub fn fetch<L: Link>(
     page_of(alloc, body.as_slice())
 }
 
-/// The page that the body of a reply is.
+/// Parses the body of a response as a page.
 fn page_of(alloc: Global, body: &[u8]) -> Result<Envelope, FetchEnd>
     ensures ok { IfOk result (λ envelope. IsEnvelopeOf body.now envelope) }
-    ensures err { IfErr result (λ end. (end ≡ FetchEnd.NoMemory) ⊎ ((end ≡ FetchEnd.Refused NotEnvelope) × IsNoEnvelope body.now)) }
+    ensures err { IfErr result (λ end. (end ≡ FetchEnd.NoMemory)
+        ⊎ ((end ≡ FetchEnd.Refused NotEnvelope) × IsNoEnvelope body.now)) }
 {
     match read_envelope(alloc, body) {
         Ok(envelope) => Ok(envelope),
@@ -44,7 +45,7 @@ fn page_of(alloc: Global, body: &[u8]) -> Result<Envelope, FetchEnd>
     }
 }
 
-/// How a fetch ends whose body is refused.
+/// The result for a body that is no page.
 fn end_for(refusal: &JsonRefusal) -> FetchEnd
     ensures { result ≡ for_body refusal.now }
 {

@@ -1,21 +1,17 @@
-//! A client of a TAXII 2.1 server: the objects of a remote collection, page by page.
+//! A client of a TAXII 2.1 server: it pulls the objects of a collection page by page (sections 3.4,
+//! 3.7 and 5.4), and can copy them into a local store.
 //!
-//! A page is asked for and read over a link of its own. `fetch` does so over a link that is there; `Pull`
-//! walks over all pages, dials for each, and stands where it stood after a page that didn't come, so
-//! that this page can be asked for again.
+//! [`fetch`] requests one page over an open link. [`Pull`] iterates over all pages by cursor
+//! pagination, with a new connection per page; after a failure it can retry the same page.
+//! `Mirror::absorb` adds a page to a store, whole or not at all, so a page that arrives twice
+//! changes nothing. `copy` combines both, and retries lost fetches.
 //!
-//! A copy of a TAXII 2.1 collection of a peer: what its pages (section 3.7) add to a library.
-//!
-//! A page is absorbed whole or not at all. An object that is there already is added again in no page, so a
-//! page that comes twice changes nothing, and every good object of the pages stands in the store, each version
-//! once.
-//!
-//! A collection of a TAXII 2.1 peer copied whole into a store: its pages (section 3.7) in turn, each asked for
-//! until it comes, and absorbed before the next one is asked for.
-//!
-//! A fetch may be lost: the dial gives no link, the link fails, or its bytes end inside the reply. The same page
-//! is then asked for over a new link. Whenever a copy ends, the keeper has what the pages that were absorbed make
-//! of the rows that it had.
+//! ```text
+//! let mut pull = Pull::new(alloc, &target);
+//! while let Some(entries) = pull.next_page(&mut dial)? {
+//!     // each entry is Entry::Good(json) or Entry::Bad(refusal)
+//! }
+//! ```
 #![tactic(auto)]
 
 mod copying;

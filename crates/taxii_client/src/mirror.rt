@@ -13,7 +13,7 @@ use stix_json::Entry;
 use taxii_rows::Keeper;
 use taxii_store::Library;
 
-/// A collection of a library that is filled with the pages of a peer's.
+/// A collection of a local store that is filled with the pages of a peer's collection.
 #[derive(Drop)]
 pub struct Mirror {
     alloc: Global,
@@ -30,7 +30,7 @@ impl Model for Mirror {
 }
 
 impl Mirror {
-    /// A mirror of a collection in that library. Takes no memory.
+    /// A mirror into a collection of the library. Allocates nothing.
     pub fn new(alloc: Global, library: Library, collection: u128) -> Mirror
         ensures { result ≡ record { collection = collection; store = library } }
     {
@@ -41,8 +41,10 @@ impl Mirror {
         }
     }
 
-    /// Adds the entries of a page at a moment, in microseconds since 1970: those that are objects without a
-    /// break of STIX's rules, in order. The others are skipped.
+    /// Absorbs a page at a moment (microseconds since 1970): adds the entries that are valid STIX
+    /// objects, in order, and skips the others. After an error nothing has changed. `DatesUsedUp`
+    /// if fewer dates are left than there are new rows, `Fault` if the keeper failed (and counted
+    /// it).
     pub fn absorb<K: Keeper>(
         &mut self,
         keeper: &mut K,
@@ -50,14 +52,22 @@ impl Mirror {
         entries: Items<Entry>,
     ) -> Result<Tally, StoreRefusal>
         requires agrees { Agrees (K.kept keeper.old) self.old.store }
+        // the JSON reader's output has this form
         requires readable { All IsReadable entries }
         ensures agrees { Agrees (K.kept keeper.new) self.new.store }
         ensures name { (K.kept keeper.new).name ≡ (K.kept keeper.old).name }
         ensures collection { self.new.collection ≡ self.old.collection }
-        ensures ok { IfOk result (λ tally. Absorbs self.old.collection (record { entries = entries; moment = moment; tally = tally }) self.old.store self.new.store) }
-        ensures dates { IfErr result (λ refusal. refusal ≡ Refused.DatesUsedUp → LacksDates self.old.collection entries self.old.store) }
+        ensures ok { IfOk result
+            (λ tally. Absorbs self.old.collection
+            (record { entries = entries; moment = moment; tally = tally }) self.old.store
+            self.new.store) }
+        // `DatesUsedUp` only if that is so
+        ensures dates { IfErr result (λ refusal. refusal ≡ Refused.DatesUsedUp
+            → LacksDates self.old.collection entries self.old.store) }
         ensures err { OnErr result (self.new ≡ self.old) }
-        ensures causes { Counted (result ≡ Err Refused.Fault) (K.faults keeper.old) (K.faults keeper.new) }
+        // the keeper counts a fault exactly if the result is `Fault`
+        ensures causes { Counted (result ≡ Err Refused.Fault) (K.faults keeper.old)
+            (K.faults keeper.new) }
     {
         let partitioned = Partitioned::of(self.alloc, entries.into_vec())?;
         let planned = self

@@ -1,19 +1,19 @@
 use crate::{FetchEnd, ReplyRefusal};
 use thiserror::Error;
 
-/// Why the next page of a walk didn't come.
+/// Why the next page of a pull did not arrive.
 #[derive(Clone, Copy, Debug, PartialEq, Eq, Hash, Error)]
 pub enum PageEnd {
-    /// The dial failed, and counted it, or a read or a write of the link that it gave, which the link
+    /// The dial failed and counted it, or a read or write of its link failed, which the link
     /// counted.
     #[error("the link failed")]
     Fault,
-    /// The link's bytes end inside the reply.
+    /// The link's bytes end inside the response.
     #[error("the reply is cut")]
     Cut,
     #[error("the reply is refused: {0}")]
     Refused(ReplyRefusal),
-    /// As many pages came as a walk may have, and there are more.
+    /// The pull reached its maximum number of pages, and there are more.
     #[error("too many pages")]
     TooManyPages,
     #[error("out of memory")]

@@ -13,17 +13,17 @@ use stix_objects::breaks;
 use stix_objects::laws::{no_breaks, one_list};
 use taxii_rows::{Described, describe};
 
-/// The entries of a page: the objects to be added, and how many others there are.
+/// The entries of a page, split into objects to add and entries to skip.
 #[derive(Drop)]
 pub(crate) struct Partitioned {
-    /// What a store keeps of each object without a break, in their order.
+    /// The valid objects, as a store keeps them, in order.
     pub(crate) objects: Vec<Described>,
-    /// How many entries are no JSON value, or break a rule.
+    /// The number of entries that are no JSON value or violate a rule.
     pub(crate) skipped: u64,
 }
 
 impl Partitioned {
-    /// The entries of a page. Each is dropped as soon as it is judged.
+    /// Splits the entries of a page. Each is dropped after its check.
     pub(crate) fn of(alloc: Global, entries: Vec<Entry>) -> Result<Partitioned, NoMemory>
         requires { All IsReadable entries.items }
         ensures partitions { IfOk result (Partitions entries.items) }
@@ -39,7 +39,7 @@ impl Partitioned {
         Ok(partitioned)
     }
 
-    /// One more entry.
+    /// Adds an entry.
     fn add(&mut self, alloc: Global, entry: Entry) -> Result<(), NoMemory>
         requires readable { IsReadable entry }
         requires room { self.old.skipped < 2 ^ 63 }
@@ -54,7 +54,7 @@ impl Partitioned {
         }
     }
 
-    /// One more value: an object, or skipped where it breaks a rule.
+    /// Adds a value: an object, or skipped if it violates a rule.
     fn add_value(&mut self, alloc: Global, value: &Json) -> Result<(), NoMemory>
         requires readable { IsReadable (Good value.now) }
         requires room { self.old.skipped < 2 ^ 63 }
@@ -70,7 +70,7 @@ impl Partitioned {
         }
     }
 
-    /// One more object.
+    /// Adds an object.
     fn add_object(&mut self, alloc: Global, object: &Json) -> Result<(), NoMemory>
         requires readable { IsReadable (Good object.now) }
         requires unbroken { AreBreaksOf (data_of object.now) [] }

@@ -11,11 +11,11 @@ use std::alloc::Global;
 use std::marker::Model;
 use stix_json::{Entry, Envelope};
 
-/// The most pages that a walk may have.
+/// The maximum number of pages of a pull.
 pub const MAX_PAGES: u64 = 1_000_000;
 
-/// A walk over the pages of a peer's collection, each fetched over a link of its own. Contracts see the
-/// target, which page is the next one, and how many came.
+/// An iterator over the pages of a peer's collection, with a new connection per page. Its model is
+/// the target, the cursor and the number of pages received.
 #[derive(Drop)]
 pub struct Pull<'t> {
     alloc: Global,
@@ -32,13 +32,18 @@ impl<'t> Model for Pull<'t> {
 
     ghost Value = { PullState };
 
-    ghost view = { λ pull. record { target = pull.target.now; cursor = pull.cursor; pages = pull.pages } };
+    ghost view = { λ pull. record {
+      target = pull.target.now;
+      cursor = pull.cursor;
+      pages = pull.pages;
+    } };
 
-    ghost invariant = { λ pull. (length pull.target.now.host ≤ MAX_HOST) × (pull.pages ≤ MAX_PAGES) };
+    ghost invariant = { λ pull. (length pull.target.now.host ≤ MAX_HOST)
+        × (pull.pages ≤ MAX_PAGES) };
 }
 
 impl<'t> Pull<'t> {
-    /// A walk that begins at the first page.
+    /// A pull from the first page.
     pub fn new(alloc: Global, target: &'t Target) -> Pull<'t>
         requires short { length target.now.host ≤ MAX_HOST }
         ensures { result ≡ record { target = target.now; cursor = First; pages = 0 } }
@@ -51,11 +56,14 @@ impl<'t> Pull<'t> {
         }
     }
 
-    /// The objects of the next page, or none where the last page had no more behind it. A page that
-    /// doesn't come is the next one again. Each link that the dial gives is handed back to it.
+    /// The objects of the next page, or `None` after the last one. After an error the same page is
+    /// the next one again. Each link is returned to the dial.
     pub fn next_page<D: Dial>(&mut self, dial: &mut D) -> Result<Option<Items<Entry>>, PageEnd>
-        ensures { Answers (link_view D.Link.left D.Link.written D.Link.Source.faults D.Link.Sink.faults) self.old self.new
-            (record { observable = D.observable dial.old; faults = D.faults dial.old }) (record { observable = D.observable dial.new; faults = D.faults dial.new }) result }
+        // the page at the cursor was fetched over a new link, or the cursor is unchanged
+        ensures { Answers (link_view D.Link.left D.Link.written D.Link.Source.faults
+            D.Link.Sink.faults) self.old self.new
+            (record { observable = D.observable dial.old; faults = D.faults dial.old })
+            (record { observable = D.observable dial.new; faults = D.faults dial.new }) result }
     {
         let Some(next) = self.cursor.next() else {
             return Ok(None);
@@ -70,7 +78,7 @@ impl<'t> Pull<'t> {
     }
 }
 
-/// Dials for a link, fetches a page over it, and hands it back.
+/// Connects, fetches a page, and returns the link to the dial.
 fn dial_and_fetch<D: Dial>(
     alloc: Global,
     target: &Target,
@@ -78,8 +86,10 @@ fn dial_and_fetch<D: Dial>(
     dial: &mut D,
 ) -> Result<Envelope, FetchEnd>
     requires short { length target.now.host ≤ MAX_HOST }
-    ensures { Dials (link_view D.Link.left D.Link.written D.Link.Source.faults D.Link.Sink.faults) target.now (option_map (λ next. next.now) next.entry)
-        (record { observable = D.observable dial.old; faults = D.faults dial.old }) (record { observable = D.observable dial.new; faults = D.faults dial.new }) result }
+    ensures { Dials (link_view D.Link.left D.Link.written D.Link.Source.faults D.Link.Sink.faults)
+        target.now (option_map (λ next. next.now) next.entry)
+        (record { observable = D.observable dial.old; faults = D.faults dial.old })
+        (record { observable = D.observable dial.new; faults = D.faults dial.new }) result }
 {
     let mut link = dial.dial(target.host.as_str(), target.port)?;
     let answer = fetch(alloc, target, next, &mut link);

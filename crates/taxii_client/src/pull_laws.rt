@@ -1,4 +1,4 @@
-//! What follows from the definitions: the contracts are the laws, and the functions do nothing.
+//! Theorems about the definitions. Each `ensures` states one; the functions have no effect.
 
 ghost use Rattle.std.specs.Prelude.{◌≡◌, [], ◌∷◌, ◌++◌, ℕ, List, Option, All, true};
 ghost use Rattle.flow_links.specs.Dials.{DialState};
@@ -10,24 +10,34 @@ ghost use Rattle.taxii_client.specs.declared.cursor.Cursor.{Cursor};
 
 use flow_links::Dial;
 
-/// Bytes begin with a page or are refused in one way, or they are cut.
+/// The outcome of a byte string is unique.
 pub fn one_outcome()
-    ensures { (bytes : List ℕ) (first second : Outcome) → IsOutcome bytes first → IsOutcome bytes second → first ≡ second }
+    ensures { (bytes : List ℕ) (first second : Outcome) → IsOutcome bytes first
+        → IsOutcome bytes second → first ≡ second }
 {
     http_messages::reply_laws::one_outcome();
 }
 
-/// A page that came at the turn of a pull goes on with it, and its link with those of the pull.
+/// A page received at the cursor of a pull extends it, and its link extends the pull's links.
 pub fn pulls_continue<D: Dial>()
-    ensures pages { (view : D.Link → LinkView) (target : Target) (pages : List (Page D.Link)) (cursor : Cursor) (page : Page D.Link)
-        → IsPull view target pages cursor → IsPageAt view target cursor page → IsPull view target (pages ++ page ∷ []) (cursor_after page.envelope) }
-    ensures no_link { (target : Target) (observable : Option (DialState D.Link)) → PassThrough target [] observable observable }
-    ensures links { (target : Target) (links more : List (Lent D.Link)) (before middle after : Option (DialState D.Link))
-        → PassThrough target links before middle → PassThrough target more middle after → PassThrough target (links ++ more) before after }
+    ensures pages { (view : D.Link
+        → LinkView) (target : Target) (pages : List (Page D.Link)) (cursor : Cursor)
+        (page : Page D.Link)
+        → IsPull view target pages cursor → IsPageAt view target cursor page
+        → IsPull view target (pages ++ page ∷ []) (cursor_after page.envelope) }
+    ensures no_link { (target : Target) (observable : Option (DialState D.Link))
+        → PassThrough target [] observable observable }
+    ensures links { (target : Target) (links more : List (Lent D.Link))
+        (before middle after : Option (DialState D.Link))
+        → PassThrough target links before middle → PassThrough target more middle after
+        → PassThrough target (links ++ more) before after }
 {}
 
-/// Of the pages of a pull each but the last said that there is more.
+/// Each page of a pull but the last said that more follow.
 pub fn pulls_continue_for_more<D: Dial>()
-    ensures { (view : D.Link → LinkView) (target : Target) (pages : List (Page D.Link)) (last : Page D.Link) (cursor : Cursor)
-        → IsPull view target (pages ++ last ∷ []) cursor → All (λ page. page.envelope.more ≡ true) pages }
+    ensures { (view : D.Link
+        → LinkView) (target : Target) (pages : List (Page D.Link)) (last : Page D.Link)
+        (cursor : Cursor)
+        → IsPull view target (pages ++ last ∷ []) cursor
+        → All (λ page. page.envelope.more ≡ true) pages }
 {}

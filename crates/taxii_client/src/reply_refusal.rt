@@ -4,16 +4,16 @@ use http_messages::HeadRefusal;
 use std::error::Error;
 use std::fmt;
 
-/// Why a reply is refused.
+/// Why a response is refused.
 #[derive(Clone, Copy, Debug, PartialEq, Eq, Hash)]
 pub enum ReplyRefusal {
-    /// The head is none by the grammar, or too long.
+    /// The head does not match the grammar, or is too long.
     BadHead,
-    /// The status isn't 200.
+    /// The status is not 200.
     Status { code: u16 },
     /// The body has a transfer coding.
     Coding,
-    /// The head doesn't state one length.
+    /// The head has no Content-Length, or several that differ.
     NoLength,
     /// The body is too large.
     TooLarge,

@@ -10,9 +10,11 @@ use itoa::Buffer;
 use std::alloc::Global;
 use stix_ids::write_uuid;
 
-/// The request for the first page of the target, or for the one that `next` asks for.
+/// The text of the request for the first page of the target, or for the page after the cursor
+/// `next`.
 pub fn request_text(alloc: Global, target: &Target, next: Option<&str>) -> Result<Text, NoMemory>
-    ensures { IfOk result (λ text. text ≡ request_of target.now (option_map (λ next. next.now) next.entry)) }
+    ensures { IfOk result
+        (λ text. text ≡ request_of target.now (option_map (λ next. next.now) next.entry)) }
 {
     let mut text = Text::new(alloc);
     push_request_line(&mut text, target, next)?;
@@ -23,9 +25,11 @@ pub fn request_text(alloc: Global, target: &Target, next: Option<&str>) -> Resul
     Ok(text)
 }
 
-/// Adds the first line.
+/// Appends the request line.
 fn push_request_line(text: &mut Text, target: &Target, next: Option<&str>) -> Result<(), NoMemory>
-    ensures { OnOk result (text.new ≡ text.old ++ request_line target.now (option_map (λ next. next.now) next.entry)) }
+    ensures { OnOk result
+        (text.new ≡ text.old
+        ++ request_line target.now (option_map (λ next. next.now) next.entry)) }
 {
     text.push("GET ")?;
     push_path(text, target)?;
@@ -35,7 +39,7 @@ fn push_request_line(text: &mut Text, target: &Target, next: Option<&str>) -> Re
     Ok(())
 }
 
-/// Adds the path of the collection's objects.
+/// Appends the path of the collection's objects.
 fn push_path(text: &mut Text, target: &Target) -> Result<(), NoMemory>
     ensures { OnOk result (text.new ≡ text.old ++ path_of target.now) }
 {
@@ -47,9 +51,11 @@ fn push_path(text: &mut Text, target: &Target) -> Result<(), NoMemory>
     Ok(())
 }
 
-/// Adds the query.
+/// Appends the query.
 fn push_query(text: &mut Text, target: &Target, next: Option<&str>) -> Result<(), NoMemory>
-    ensures { OnOk result (text.new ≡ text.old ++ query_of target.now.limit target.now.since (option_map (λ next. next.now) next.entry)) }
+    ensures { OnOk result
+        (text.new ≡ text.old
+        ++ query_of target.now.limit target.now.since (option_map (λ next. next.now) next.entry)) }
 {
     text.push("?limit=")?;
     text.push(Buffer::new().format(target.limit))?;
@@ -58,17 +64,19 @@ fn push_query(text: &mut Text, target: &Target, next: Option<&str>) -> Result<()
     Ok(())
 }
 
-/// Adds the pairs that ask for what was added since a time, and for what follows a page: a server may
-/// insist on the same query behind `next`.
+/// Appends `added_after` and `next`. Both are sent, since a server may require the original filters
+/// together with `next`.
 fn push_behind(text: &mut Text, target: &Target, next: Option<&str>) -> Result<(), NoMemory>
-    ensures { OnOk result (text.new ≡ text.old ++ behind target.now.since (option_map (λ next. next.now) next.entry)) }
+    ensures { OnOk result
+        (text.new ≡ text.old
+        ++ behind target.now.since (option_map (λ next. next.now) next.entry)) }
 {
     push_since(text, target)?;
     push_next(text, next)?;
     Ok(())
 }
 
-/// Adds the pair of the time, where there is one.
+/// Appends `added_after`, if the target has a time.
 fn push_since(text: &mut Text, target: &Target) -> Result<(), NoMemory>
     ensures { OnOk result (text.new ≡ text.old ++ since_pair target.now.since) }
 {
@@ -78,9 +86,10 @@ fn push_since(text: &mut Text, target: &Target) -> Result<(), NoMemory>
     }
 }
 
-/// Adds the pair of what follows a page, where one came before.
+/// Appends `next`, if there is a cursor.
 fn push_next(text: &mut Text, next: Option<&str>) -> Result<(), NoMemory>
-    ensures { OnOk result (text.new ≡ text.old ++ next_pair (option_map (λ next. next.now) next.entry)) }
+    ensures { OnOk result
+        (text.new ≡ text.old ++ next_pair (option_map (λ next. next.now) next.entry)) }
 {
     match next {
         Some(next) => push_pair(text, "&next=", next),
@@ -88,7 +97,7 @@ fn push_next(text: &mut Text, next: Option<&str>) -> Result<(), NoMemory>
     }
 }
 
-/// Adds a pair, of a name with what stands around it, and a value.
+/// Appends a parameter: its literal name, and its value percent-encoded.
 fn push_pair(text: &mut Text, name: &str, value: &str) -> Result<(), NoMemory>
     ensures { OnOk result (text.new ≡ text.old ++ (name.now ++ byte_serialize value.now)) }
 {
@@ -99,7 +108,7 @@ fn push_pair(text: &mut Text, name: &str, value: &str) -> Result<(), NoMemory>
     Ok(())
 }
 
-/// Adds the field with the peer's name and port.
+/// Appends the Host field.
 fn push_host(text: &mut Text, target: &Target) -> Result<(), NoMemory>
     ensures { OnOk result (text.new ≡ text.old ++ field_line (codes "Host") (host_of target.now)) }
 {
@@ -110,7 +119,7 @@ fn push_host(text: &mut Text, target: &Target) -> Result<(), NoMemory>
     text.push("\r\n")
 }
 
-/// Adds a field.
+/// Appends a header field.
 fn push_field(text: &mut Text, name: &str, value: &str) -> Result<(), NoMemory>
     ensures { OnOk result (text.new ≡ text.old ++ field_line name.now value.now) }
 {

@@ -2,32 +2,32 @@ use crate::{ReplyRefusal, StoreRefusal};
 use taxii_store::LoadRefusal;
 use thiserror::Error;
 
-/// Why no page is asked for any more, though there is one.
+/// Why a copy requests no further page.
 #[derive(Clone, Copy, Debug, PartialEq, Eq, Error)]
 pub enum FetchStop {
-    /// As many fetches were lost as may be.
+    /// The maximum number of lost fetches is reached.
     #[error("too many fetches were lost")]
     LinkLost,
-    /// The reply isn't a page.
+    /// The response is no page.
     #[error("the reply is refused: {0}")]
     Refused(ReplyRefusal),
-    /// As many pages came as a walk may have.
+    /// The maximum number of pages is reached.
     #[error("too many pages")]
     TooManyPages,
     #[error("out of memory")]
     NoMemory,
 }
 
-/// Why a copy ends before all pages were absorbed.
+/// Why a copy ends before all pages are absorbed.
 #[derive(Clone, Copy, Debug, PartialEq, Eq, Error)]
 pub enum CopyStop {
-    /// The store wasn't read.
+    /// The store could not be loaded.
     #[error(transparent)]
     NotLoaded(LoadRefusal),
-    /// The next page didn't come.
+    /// The next page did not arrive.
     #[error(transparent)]
     NotFetched(FetchStop),
-    /// The last page that came wasn't absorbed.
+    /// The last page could not be absorbed.
     #[error(transparent)]
     NotAbsorbed(StoreRefusal),
 }

@@ -3,10 +3,10 @@ use taxii_rows::KeeperRefusal;
 use taxii_store::PlanRefusal;
 use thiserror::Error;
 
-/// Why a page isn't absorbed. Nothing has changed.
+/// Why a page is not absorbed. Nothing has changed.
 #[derive(Clone, Copy, Debug, PartialEq, Eq, Error)]
 pub enum StoreRefusal {
-    /// There are fewer dates left than new rows.
+    /// Fewer dates are left than there are new rows.
     #[error("the dates of rows are used up")]
     DatesUsedUp,
     /// The keeper failed, and has counted it.

@@ -3,22 +3,23 @@ ghost use Rattle.taxii_client.specs.Absorbing.{is_added};
 
 use taxii_store::AddOutcome;
 
-/// What became of the entries of a page.
+/// The outcome of a page's entries.
 #[derive(Clone, Copy, Debug, PartialEq, Eq)]
 pub struct Tally {
-    /// How many objects became rows.
+    /// The number of objects that became rows.
     pub added: u64,
-    /// How many objects were there already.
+    /// The number of objects that were already present.
     pub present: u64,
-    /// How many entries are no JSON value, or break a rule.
+    /// The number of entries that are no JSON value or violate a rule.
     pub skipped: u64,
 }
 
 impl Tally {
-    /// The tally of an addition, beside which so many entries were skipped.
+    /// The tally of an addition with these outcomes, and of the entries skipped besides.
     pub(crate) fn of(outcomes: &[AddOutcome], skipped: u64) -> Tally
         ensures added { result.added ≡ count_by is_added outcomes.now }
-        ensures present { result.present ≡ count_by (λ outcome. not (is_added outcome)) outcomes.now }
+        ensures present { result.present
+            ≡ count_by (λ outcome. not (is_added outcome)) outcomes.now }
         ensures skipped { result.skipped ≡ skipped }
     {
         Tally {

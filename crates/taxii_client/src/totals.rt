@@ -3,20 +3,20 @@ ghost use Rattle.taxii_client.specs.Totals.{with_tally};
 
 use crate::Tally;
 
-/// What became of the entries of all pages that were absorbed.
+/// The outcome of the entries of all absorbed pages.
 #[derive(Clone, Copy, Debug, PartialEq, Eq)]
 pub struct Totals {
     pub pages: u64,
-    /// How many objects became rows.
+    /// The number of objects that became rows.
     pub added: u128,
-    /// How many objects were there already.
+    /// The number of objects that were already present.
     pub present: u128,
-    /// How many entries are no JSON value, or break a rule.
+    /// The number of entries that are no JSON value or violate a rule.
     pub skipped: u128,
 }
 
 impl Totals {
-    /// No page.
+    /// No pages.
     pub(crate) fn new() -> Totals
         ensures { result ≡ record { pages = 0; added = 0; present = 0; skipped = 0 } }
     {
@@ -28,7 +28,7 @@ impl Totals {
         }
     }
 
-    /// One more page.
+    /// Adds a page.
     pub(crate) fn add(&mut self, tally: &Tally)
         requires pages { self.old.pages < 2 ^ 63 }
         requires added { self.old.added < 2 ^ 127 }

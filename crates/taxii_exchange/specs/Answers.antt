@@ -1,4 +1,5 @@
--- The bytes of an answer (RFC 9112, section 6; RFC 9110, sections 8.6 and 10.2.1; TAXII 2.1, section 3.2).
+-- The bytes of an answer (RFC 9112, section 6; RFC 9110, sections 8.6 and 10.2.1; TAXII 2.1,
+-- section 3.2).
 use Rattle.std.specs.Prelude.{◌≡◌, ℕ, ◌*◌, ◌≤◌, Bool, if◌then◌else◌, ⊤, List, [], ◌++◌, length, codes, decimal, pos, Option, Some, None, option_map, IfSome, Result, OnErr}
 use Rattle.flow_edges.specs.Flow.{WritesWhole, WritesPart}
 use Rattle.stix_times.specs.Writing.{IsTextOfDigits}
@@ -80,6 +81,6 @@ titled status title = record {
 abbrev pub answer_to : Refusal → Answer
 answer_to refusal = titled (status_of refusal) (title_of refusal)
 
--- the answer where memory ran out
+-- the answer when out of memory
 abbrev pub no_memory_answer : Answer
 no_memory_answer = titled status.ServiceUnavailable (codes "out of memory")

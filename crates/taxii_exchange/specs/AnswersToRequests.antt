@@ -1,5 +1,5 @@
--- The answers of the server: an error's title, a resource's body, and a page with the dates of its first and its last row (TAXII 2.1,
--- sections 3.1, 3.4 and 3.6.1).
+-- The answers of the server: an error's title, a resource's body, and a page with the dates of its
+-- first and its last row (TAXII 2.1, sections 3.1, 3.4 and 3.6.1).
 use Rattle.std.specs.Prelude.{ℕ, List, [], ◌∷◌, Option, Some, None}
 use Rattle.std.specs.List.{last_or}
 use Rattle.serde_json.specs.Written.{compact_text}

@@ -1,5 +1,6 @@
--- What is asked of every request, in this order: the methods that the resource allows (RFC 9110, section 9.1), what the client accepts
--- (TAXII 2.1, section 1.6.8), what it may do with the collection (section 5.1), the media type of what it sends, and its query (section 3.4).
+-- What is asked of every request, in this order: the methods that the resource allows (RFC 9110,
+-- section 9.1), what the client accepts (TAXII 2.1, section 1.6.8), what it may do with the
+-- collection (section 5.1), the media type of what it sends, and its query (section 3.4).
 use Rattle.std.specs.Prelude.{◌≡◌, ⊤, ℕ, List, Bool, true, false, ◌&&◌, IfSome, IsSomeAnd}
 use Rattle.http_messages.specs.declared.method.Method.{Method}
 use Rattle.http_messages.specs.declared.method.Method.TheVariants.{Get, Head, Post, Delete, Other}
@@ -49,14 +50,14 @@ IsTypedFor Other request = ⊤
 abbrev pub IsTyped : Request → Type 0
 IsTyped request = IsTypedFor request.method request
 
--- nothing but its query can stand against the request
+-- the request passes all checks but that of its query
 pub record IsFit (its : Allow) (rights : Rights) (request : Request) : Type 0 where
   pub allowed : allows its request.method ≡ true
   pub accepted : IsAccepted request
   pub permitted : permits rights request.method ≡ true
   pub typed : IsTyped request
 
--- the first of these that stands against the request
+-- the first reason against the request
 abbrev pub IsRefusedFor : Allow → Rights → Request → List ℕ → Refusal → Type 0
 IsRefusedFor its rights request text (NotAllowed others) = (others ≡ its) × (allows its request.method ≡ false)
 IsRefusedFor its rights request text (Problem NotAcceptable) = (allows its request.method ≡ true) × (¬ IsAccepted request)

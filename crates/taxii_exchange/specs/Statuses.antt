@@ -1,4 +1,4 @@
--- The statuses that a server still knows (TAXII 2.1, section 4.3): those of the latest requests to add objects.
+-- The statuses that clients may request (TAXII 2.1, section 4.3): those of the latest POSTs.
 use Rattle.std.specs.Prelude.{ℕ, ◌+◌, ◌%◌, ◌^◌, List, [], ◌∷◌, ◌++◌, bytes_eq, Option, option_map, find}
 use Rattle.circular_buffer.specs.Buffer.{keep_last}
 use Rattle.taxii_exchange.specs.declared.kept_status.KeptStatus.{KeptStatus}

@@ -5,7 +5,7 @@ use flow_values::{NoMemory, Text};
 use http_messages::{Refusal, Status};
 use std::alloc::Global;
 
-/// The last microsecond that a date may have: the end of the year 9999.
+/// The last microsecond of the year 9999: the latest date in a response.
 pub const MAX_DATE: u64 = 253_402_300_799_999_999;
 
 /// The methods that a resource allows.
@@ -17,7 +17,7 @@ pub enum Allow {
 }
 
 impl Allow {
-    /// The methods, as the field says them.
+    /// The value of the Allow field.
     pub(crate) fn methods(self) -> &'static str
         ensures { result.now ≡ methods_of self }
     {
@@ -29,19 +29,21 @@ impl Allow {
     }
 }
 
-/// An answer to a request.
+/// A response, before it is written.
 #[derive(Debug, Drop)]
 pub struct Answer {
     pub status: Status,
     pub body: Option<Text>,
-    /// When the first object of a page was added, in microseconds since 1970.
+    /// When the first object of a page was added, in microseconds since 1970
+    /// (`X-TAXII-Date-Added-First`).
     pub first: Option<u64>,
-    /// When the last object of a page was added, in microseconds since 1970.
+    /// When the last object of a page was added, in microseconds since 1970
+    /// (`X-TAXII-Date-Added-Last`).
     pub last: Option<u64>,
     pub allow: Option<Allow>,
 }
 
-/// The answer to a refusal.
+/// The error response to refused bytes.
 pub fn refusal_answer(alloc: Global, refusal: Refusal) -> Result<Answer, NoMemory>
     ensures { IfOk result (λ answer. answer ≡ answer_to refusal) }
 {

@@ -11,7 +11,7 @@ use std::alloc::Global;
 use taxii_bodies::{Problem, last_date, problem_body};
 use taxii_rows::StoredRow;
 
-/// An answer with a body and no more.
+/// A response with a status and a body.
 pub fn body_answer(status: Status, body: Text) -> Answer
     ensures { result ≡ spec.body_answer status body }
 {
@@ -24,7 +24,7 @@ pub fn body_answer(status: Status, body: Text) -> Answer
     }
 }
 
-/// An answer with a status alone, and perhaps the methods that are allowed.
+/// A response without a body, perhaps with an Allow field.
 pub fn bare_answer(status: Status, allow: Option<Allow>) -> Answer
     ensures { result ≡ spec.bare_answer status allow }
 {
@@ -37,7 +37,7 @@ pub fn bare_answer(status: Status, allow: Option<Allow>) -> Answer
     }
 }
 
-/// The answer to a problem.
+/// The error response for a problem.
 pub fn problem_answer(alloc: Global, problem: Problem) -> Result<Answer, NoMemory>
     ensures { IfOk result (λ answer. answer ≡ spec.problem_answer problem) }
 {
@@ -45,7 +45,8 @@ pub fn problem_answer(alloc: Global, problem: Problem) -> Result<Answer, NoMemor
     Ok(body_answer(status_of_problem(problem), body))
 }
 
-/// The answer to a problem of a request of that method: to a HEAD it has no body (RFC 9110, section 9.3.2).
+/// The error response for a problem of a request with this method; a HEAD gets no body (RFC 9110,
+/// section 9.3.2).
 pub fn answer_to_problem(
     alloc: Global,
     method: Method,
@@ -61,7 +62,7 @@ pub fn answer_to_problem(
     }
 }
 
-/// The answer with a page of rows, of that body.
+/// The response with a page of rows and its body.
 pub fn page_answer(rows: &[&StoredRow], body: Text) -> Answer
     ensures { result ≡ spec.page_answer (map (λ row. row.now) rows.now) body }
 {

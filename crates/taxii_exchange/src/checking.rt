@@ -9,8 +9,8 @@ use std::alloc::Global;
 use taxii_bodies::Problem;
 use taxii_routes::{Query, QueryRefusal, accepts, is_taxii, read_query};
 
-/// What the query of a request asks for, or the first reason against the request: the methods that the
-/// resource allows, what the client accepts, what it may do, the type of what it sends, and its query.
+/// Parses the query of a request, or returns the first reason against the request. The order is:
+/// method, Accept, rights, Content-Type, query.
 pub fn check(
     alloc: Global,
     request: &Request,
@@ -20,7 +20,8 @@ pub fn check(
 ) -> Result<Query, Refusal>
     ensures fit { IfOk result (λ asked. IsFit allow rights request.now) }
     ensures query { IfOk result (IsQueryOf (pairs_of query.now)) }
-    ensures err { IfErr result (λ refusal. (refusal ≡ Refused.NoMemory) ⊎ IsRefusedFor allow rights request.now query.now refusal) }
+    ensures err { IfErr result (λ refusal. (refusal ≡ Refused.NoMemory)
+        ⊎ IsRefusedFor allow rights request.now query.now refusal) }
 {
     if !allows(allow, request.method) {
         return Err(Refusal::NotAllowed(allow));
@@ -42,7 +43,7 @@ pub fn check(
     }
 }
 
-/// Whether the method is one of these.
+/// Whether the resource allows the method.
 fn allows(allow: Allow, method: Method) -> bool
     ensures { result ≡ allow_it allow method }
 {
@@ -54,7 +55,7 @@ fn allows(allow: Allow, method: Method) -> bool
     }
 }
 
-/// Whether the client accepts TAXII's media type, or says nothing of it.
+/// Whether the client accepts TAXII's media type, or has no Accept field.
 fn is_accepted(request: &Request) -> bool
     ensures { IsTrue result ↔ IsAccepted request.now }
 {
@@ -64,7 +65,7 @@ fn is_accepted(request: &Request) -> bool
     }
 }
 
-/// Whether what a POST sends is of TAXII's media type.
+/// Whether the body of a POST has TAXII's media type.
 fn is_typed(request: &Request) -> bool
     ensures { IsTrue result ↔ IsTyped request.now }
 {

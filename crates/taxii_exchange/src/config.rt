@@ -6,21 +6,22 @@ use std::alloc::Global;
 use taxii_bodies::CollectionInfo;
 use taxii_routes::Routes;
 
-/// What a server serves.
+/// The configuration of a server.
 #[derive(Drop)]
 pub struct Config {
     pub alloc: Global,
-    /// The URL that the server has, where it is known.
+    /// The base URL of the server, if known.
     pub base: Option<Text>,
-    /// The collections. No two have one identifier.
+    /// The collections, with distinct identifiers.
     pub collections: Items<CollectionInfo>,
     pub routes: Routes,
 }
 
 impl Config {
-    /// The collection that a text in a path names.
+    /// The collection that a path segment names, if any.
     pub fn collection(&self, text: &str) -> Option<&CollectionInfo>
-        ensures { option_map (λ info. info.now) result ≡ collection_named text.now self.now.collections }
+        ensures { option_map (λ info. info.now) result
+            ≡ collection_named text.now self.now.collections }
     {
         self.collections
             .as_slice()

@@ -10,13 +10,13 @@ use itoa::Buffer;
 use std::marker::Model;
 use stix_times::{from_micros, write_micros};
 
-/// How many bytes there is room for: a head has at most 304, and a small body may follow it.
+/// The capacity: a head has at most 304 bytes, and a small body may follow it.
 const CAPACITY: usize = 4096;
 
-/// How many bytes a value in it has at most.
+/// The maximum length of a field value.
 const MAX_VALUE: usize = 40;
 
-/// The head of an answer as it is written, and a body behind it where there is room.
+/// The head of a response in a fixed buffer, with the body after it if that fits.
 #[derive(Drop)]
 pub(crate) struct HeadText {
     bytes: [u8; CAPACITY],
@@ -34,7 +34,7 @@ impl Model for HeadText {
 }
 
 impl HeadText {
-    /// The head of an answer, after which the connection ends or not.
+    /// The head of a response; `close` says that the connection ends after it.
     pub(crate) fn of(answer: &Answer, close: bool) -> HeadText
         requires { HasDates answer.now }
         ensures { IsHeadText answer.now close result }
@@ -51,14 +51,14 @@ impl HeadText {
         head
     }
 
-    /// The bytes, lent.
+    /// The bytes, borrowed.
     pub(crate) fn as_slice(&self) -> &[u8]
         ensures { result.now ≡ self.now }
     {
         &self.bytes[..self.end]
     }
 
-    /// How many bytes more there is room for.
+    /// The free capacity in bytes.
     pub(crate) fn room(&self) -> usize
         ensures { length self.now + result ≡ CAPACITY }
     {
@@ -75,7 +75,7 @@ impl HeadText {
         }
     }
 
-    /// Adds the status line.
+    /// Appends the status line.
     fn push_status(&mut self, status: Status)
         requires empty { self.old ≡ [] }
         ensures line { self.new ≡ status_line status }
@@ -88,7 +88,7 @@ impl HeadText {
         self.push(b"\r\n");
     }
 
-    /// Adds the field with the length of the body.
+    /// Appends Content-Length.
     fn push_length(&mut self, size: usize)
         requires room { length self.old + 58 ≤ CAPACITY }
         ensures line { self.new ≡ self.old ++ field_line (codes "Content-Length") (decimal size) }
@@ -97,10 +97,11 @@ impl HeadText {
         self.push_line(b"Content-Length", Buffer::new().format(size).as_bytes());
     }
 
-    /// Adds the field that ends the connection, where it ends.
+    /// Appends `Connection: close`, if requested.
     fn push_close(&mut self, close: bool)
         requires room { length self.old + 54 ≤ CAPACITY }
-        ensures line { self.new ≡ self.old ++ (if close then field_line (codes "Connection") (codes "close") else []) }
+        ensures line { self.new
+            ≡ self.old ++ (if close then field_line (codes "Connection") (codes "close") else []) }
         ensures room { length self.new ≤ length self.old + 54 }
     {
         if close {
@@ -108,7 +109,7 @@ impl HeadText {
         }
     }
 
-    /// Adds a field with a date, where there is one.
+    /// Appends a field with a date, if there is one.
     fn push_date(&mut self, name: &[u8], date: Option<u64>)
         requires date { IfSome date (λ micros. micros ≤ MAX_DATE) }
         requires room { length self.old + length name.now + 44 ≤ CAPACITY }
@@ -120,7 +121,7 @@ impl HeadText {
         }
     }
 
-    /// Adds a field with the date so many microseconds after 1970-01-01T00:00:00Z.
+    /// Appends a field with a timestamp, from microseconds since 1970.
     fn push_micros(&mut self, name: &[u8], micros: u64)
         requires date { micros ≤ MAX_DATE }
         requires room { length self.old + length name.now + 44 ≤ CAPACITY }
@@ -133,11 +134,12 @@ impl HeadText {
         self.push_line(name, &text[..end]);
     }
 
-    /// Adds a field, where it has a value.
+    /// Appends a field, if it has a value.
     fn push_if_some(&mut self, name: &[u8], value: Option<&[u8]>)
         requires value { IfSome value (λ text. length text.now ≤ MAX_VALUE) }
         requires room { length self.old + length name.now + 44 ≤ CAPACITY }
-        ensures line { self.new ≡ self.old ++ line_if_some name.now (option_map (λ text. text.now) value.entry) }
+        ensures line { self.new
+            ≡ self.old ++ line_if_some name.now (option_map (λ text. text.now) value.entry) }
         ensures room { length self.new ≤ length self.old + length name.now + 44 }
     {
         if let Some(value) = value {
@@ -145,7 +147,7 @@ impl HeadText {
         }
     }
 
-    /// Adds a field.
+    /// Appends a field.
     fn push_line(&mut self, name: &[u8], value: &[u8])
         requires value { length value.now ≤ MAX_VALUE }
         requires room { length self.old + length name.now + 44 ≤ CAPACITY }
@@ -158,7 +160,7 @@ impl HeadText {
         self.push(b"\r\n");
     }
 
-    /// Adds a piece.
+    /// Appends bytes.
     pub(crate) fn push(&mut self, piece: &[u8])
         requires { length self.old + length piece.now ≤ CAPACITY }
         ensures { self.new ≡ self.old ++ piece.now }
@@ -169,9 +171,10 @@ impl HeadText {
     }
 }
 
-/// The media type of the body, where there is one.
+/// The media type of the body, if there is one.
 fn media_type(answer: &Answer) -> Option<&'static [u8]>
-    ensures value { option_map (λ text. text.now) result ≡ option_map (λ body. media_type) answer.now.body }
+    ensures value { option_map (λ text. text.now) result
+        ≡ option_map (λ body. media_type) answer.now.body }
     ensures short { IfSome result (λ text. length text.now ≤ MAX_VALUE) }
 {
     match answer.body {
@@ -180,7 +183,7 @@ fn media_type(answer: &Answer) -> Option<&'static [u8]>
     }
 }
 
-/// The methods that the answer names, where it names some.
+/// The value of the Allow field, if there is one.
 fn methods(answer: &Answer) -> Option<&'static [u8]>
     ensures value { option_map (λ text. text.now) result ≡ option_map methods_of answer.now.allow }
     ensures short { IfSome result (λ text. length text.now ≤ MAX_VALUE) }
@@ -191,7 +194,7 @@ fn methods(answer: &Answer) -> Option<&'static [u8]>
     }
 }
 
-/// How many bytes the body has.
+/// The length of the body in bytes.
 fn body_length(answer: &Answer) -> usize
     ensures { result ≡ length (body_of answer.now.body) }
 {

@@ -1,6 +1,6 @@
 use flow_values::Text;
 
-/// A status as it is told.
+/// A status that clients may request.
 #[derive(Drop)]
 pub struct KeptStatus {
     /// Its identifier.

@@ -1,18 +1,17 @@
-//! An answer with the header fields that TAXII gives it (TAXII 2.1, section 3.2, "HTTP Headers"), and
-//! its bytes.
+//! The parts of a TAXII 2.1 exchange that do not depend on the endpoint (sections 1.6.8, 3.2, 3.4,
+//! 4.3 and 5.1). These are the checks of a request, the configuration, the responses with their
+//! header fields, and the statuses that are kept.
 //!
-//! An answer has one text, a function of its status, its body, its dates and the methods that it names.
-//! It is written without memory.
+//! A request is checked in one order, and the first reason against it counts: method, Accept,
+//! rights, Content-Type, query. The bytes of a response are a function of its parts, and are
+//! written without allocating. The latest statuses are kept in a ring buffer that is allocated at
+//! the start, so keeping one cannot fail.
 //!
-//! The statuses that a TAXII 2.1 server still knows (section 4.3): it gives one to each request to add
-//! objects, under the next number, and keeps the latest of them. Room for those that are kept is made
-//! at the start, so keeping one more can't fail.
-//!
-//! What a TAXII 2.1 server asks of every request, whatever it is for (sections 1.6.8, 3.4 and 5.1), what
-//! it serves, and the forms of its answers.
-//!
-//! A request is judged in one order: the methods that the resource allows, what the client accepts,
-//! what it may do with the collection, the media type of what it sends, and its query.
+//! ```text
+//! let query = check(alloc, &request, query, Allow::GetPost, Rights::of(info))?;
+//! let answer = page_answer(&page.rows, body);
+//! write_answer(&answer, request.close, &mut link)?;
+//! ```
 #![tactic(auto)]
 
 mod answer;

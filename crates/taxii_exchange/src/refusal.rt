@@ -6,12 +6,12 @@ use flow_values::NoMemory;
 use http_messages::Status;
 use taxii_bodies::Problem;
 
-/// Why a request isn't answered as it asks.
+/// Why a request is refused.
 #[derive(Clone, Copy, Debug, PartialEq, Eq)]
 pub enum Refusal {
-    /// The resource doesn't allow the method; these it allows.
+    /// The resource does not allow the method, only these.
     NotAllowed(Allow),
-    /// The answer is an error.
+    /// The response is an error message.
     Problem(Problem),
     /// Memory ran out.
     NoMemory,
@@ -28,7 +28,7 @@ impl From<NoMemory> for Refusal {
     }
 }
 
-/// The status of the answer to a problem.
+/// The status of the error response for a problem.
 pub(crate) fn status_of_problem(problem: Problem) -> Status
     ensures { result ≡ status_of problem }
 {

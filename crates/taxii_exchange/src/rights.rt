@@ -5,7 +5,7 @@ ghost use Rattle.taxii_exchange.specs.Config.{rights_of as rights_in};
 use http_messages::Method;
 use taxii_bodies::CollectionInfo;
 
-/// What a client may do with a resource.
+/// The rights of clients on a resource.
 #[derive(Clone, Copy, Debug, PartialEq, Eq)]
 pub struct Rights {
     pub read: bool,
@@ -13,13 +13,13 @@ pub struct Rights {
 }
 
 impl Rights {
-    /// Everything.
+    /// All rights.
     pub const ALL: Rights = Rights {
         read: true,
         write: true,
     };
 
-    /// What the collection allows.
+    /// The rights on a collection.
     pub fn of(info: &CollectionInfo) -> Rights
         ensures { result ≡ rights_in info.now }
     {
@@ -29,7 +29,7 @@ impl Rights {
         }
     }
 
-    /// Whether they permit the method: to read, to add, or to delete what can be read.
+    /// Whether the rights permit the method: GET needs read, POST write, and DELETE both.
     pub fn permit(self, method: Method) -> bool
         ensures { result ≡ may self method }
     {

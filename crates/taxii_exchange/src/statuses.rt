@@ -9,13 +9,13 @@ use std::alloc::Global;
 use std::marker::Model;
 use taxii_bodies::status_id;
 
-/// How many statuses are kept.
+/// The number of statuses that are kept.
 pub const MAX_KEPT: usize = 1024;
 
-/// How many numbers there are before they begin again.
+/// The number of distinct status numbers, after which they wrap around.
 const NUMBERS: u64 = 1 << 48;
 
-/// The latest statuses, and the number of the last one.
+/// The latest statuses in a ring buffer, and the number of the last one.
 #[derive(Drop)]
 pub struct Statuses {
     alloc: Global,
@@ -35,7 +35,7 @@ impl Model for Statuses {
 }
 
 impl Statuses {
-    /// No statuses, and room for as many as are kept.
+    /// No statuses, with all memory allocated.
     pub fn new(alloc: Global) -> Result<Statuses, NoMemory>
         ensures { IfOk result (λ statuses. statuses ≡ no_statuses) }
     {
@@ -47,7 +47,8 @@ impl Statuses {
         })
     }
 
-    /// The body of the status with that identifier, where it is kept. Takes no memory.
+    /// The body of the status with this identifier, if it is still kept. A linear search of at most
+    /// 1024 statuses; allocates nothing.
     pub fn find(&self, id: &str) -> Option<&Text>
         ensures { option_map (λ body. body.now) result ≡ body_of id.now self.now }
     {
@@ -64,16 +65,16 @@ impl Statuses {
         (self.count + 1) % NUMBERS
     }
 
-    /// A status that is ready to be kept as the next: its body under the identifier of its number.
+    /// Prepares the next status: its body under the identifier of the next number.
     pub fn prepare(&self, body: Text) -> Result<KeptStatus, NoMemory>
-        ensures { IfOk result (λ status. status ≡ record { id = status_id_of (next_number self.now); body = body }) }
+        ensures { IfOk result
+            (λ status. status ≡ record { id = status_id_of (next_number self.now); body = body }) }
     {
         let id = status_id(self.alloc, self.next_number())?;
         Ok(KeptStatus { id, body })
     }
 
-    /// Keeps a status as the latest, and lets the oldest go where there would be too many. Takes no
-    /// memory.
+    /// Adds the latest status, dropping the oldest if the buffer is full. Allocates nothing.
     pub fn add(&mut self, status: KeptStatus)
         ensures { self.new ≡ with_status status self.old }
     {

@@ -8,18 +8,19 @@ use crate::head_text::HeadText;
 use flow_edges::{Sink, write_all_vectored, write_whole};
 use flow_values::Fault;
 
-/// The answer 503 where memory ran out, whose bytes are always there.
+/// The bytes of the 503 response for out of memory.
 const NO_MEMORY: &[u8] =
     b"HTTP/1.1 503 Service Unavailable\r\nContent-Type: application/taxii+json;version=2.1\r\nContent-Length: 25\r\nConnection: close\r\n\r\n{\"title\":\"out of memory\"}";
 
-/// Writes an answer, which says with `close` that the connection ends after it. After a `Fault` a
-/// prefix of it was written. Takes no memory.
+/// Writes a response; `close` adds `Connection: close`. After a `Fault` a prefix of it was written.
+/// Allocates nothing.
 ///
-/// A date that the answer has lies before the year 10000.
+/// The dates of the response must be before the year 10000.
 pub fn write_answer<S: Sink>(answer: &Answer, close: bool, sink: &mut S) -> Result<(), Fault>
     requires dates { HasDates answer.now }
     ensures text { WritesAnswer answer.now close (S.written sink.old) (S.written sink.new) result }
     ensures causes { Counted (IsErr result) (S.faults sink.old) (S.faults sink.new) }
+    // nothing is read from the link
     ensures unread { S.other sink.new ≡ S.other sink.old }
 {
     let head = HeadText::of(answer, close);
@@ -29,10 +30,11 @@ pub fn write_answer<S: Sink>(answer: &Answer, close: bool, sink: &mut S) -> Resu
     }
 }
 
-/// Writes a head and its body: by one write, as far as the sink takes it, where both fit the buffer.
+/// Writes a head and its body, in one write if both fit the buffer.
 fn write_with_body<S: Sink>(head: HeadText, body: &[u8], sink: &mut S) -> Result<(), Fault>
     ensures text { WritesWhole (head ++ body.now) (S.written sink.old) (S.written sink.new) result }
-    ensures part { OnErr result (WritesPart (head ++ body.now) (S.written sink.old) (S.written sink.new)) }
+    ensures part { OnErr result
+        (WritesPart (head ++ body.now) (S.written sink.old) (S.written sink.new)) }
     ensures causes { Counted (IsErr result) (S.faults sink.old) (S.faults sink.new) }
     ensures unread { S.other sink.new ≡ S.other sink.old }
 {
@@ -44,10 +46,11 @@ fn write_with_body<S: Sink>(head: HeadText, body: &[u8], sink: &mut S) -> Result
     write_whole(sink, text.as_slice())
 }
 
-/// Writes the answer 503 that says that memory ran out, after which the connection ends. After a
-/// `Fault` a prefix of it was written. Takes no memory.
+/// Writes the 503 response for out of memory, after which the connection ends. After a `Fault` a
+/// prefix of it was written. Allocates nothing.
 pub fn write_no_memory<S: Sink>(sink: &mut S) -> Result<(), Fault>
-    ensures text { WritesAnswer no_memory_answer true (S.written sink.old) (S.written sink.new) result }
+    ensures text { WritesAnswer no_memory_answer true (S.written sink.old)
+        (S.written sink.new) result }
     ensures causes { Counted (IsErr result) (S.faults sink.old) (S.faults sink.new) }
     ensures unread { S.other sink.new ≡ S.other sink.old }
 {

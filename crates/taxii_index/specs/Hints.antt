@@ -1,4 +1,5 @@
--- What hints tell of rows: which of them is a later or an earlier version of an object. What no hint tells may be so too.
+-- Hints state which row is a later or an earlier version of an object. What no hint states may be
+-- true, too.
 use Rattle.std.specs.Prelude.{◌≡◌, ◌≢◌, ℕ, List, Bool, true, not, cond, All, map, filter}
 use Rattle.std.specs.List.{Contains}
 use Rattle.taxii_rows.specs.declared.stored_row.StoredRow.{StoredRow}
@@ -17,19 +18,19 @@ pub record ComesBefore (rows : List StoredRow) (first second : ℕ) : Type 0 whe
   pub its : is_row_of row.collection row.id other ≡ true
   pub before : IsBefore row other
 
--- what the hint tells is so: of a later version, and of an earlier one, where it names their dates
+-- what the hint states is true: of a later version, and of an earlier one, if it names their dates
 pub record IsTrueOf (rows : List StoredRow) (hint : Hint) : Type 0 where
   pub later : hint.later ≢ 0 → ComesBefore rows hint.date hint.later
   pub earlier : hint.earlier ≢ 0 → ComesBefore rows hint.earlier hint.date
 
--- what all the hints tell is so
+-- what all hints state is true
 abbrev pub AreTrueOf : List StoredRow → List Hint → Type 0
 AreTrueOf rows hints = All (IsTrueOf rows) hints
 
--- a hint that tells nothing of the rows of those dates
+-- a hint without references to the rows of these dates
 abbrev pub forgotten : (ℕ → Bool) → Hint → Hint
 forgotten gone hint = record { date = hint.date; later = cond (gone hint.later) 0 hint.later; earlier = cond (gone hint.earlier) 0 hint.earlier }
 
--- the hints of the other rows, which tell nothing of the rows of those dates
+-- the hints of the other rows, without references to the rows of these dates
 abbrev pub hints_without : (ℕ → Bool) → List Hint → List Hint
 hints_without gone hints = map (forgotten gone) (filter (λ hint. not (gone hint.date)) hints)

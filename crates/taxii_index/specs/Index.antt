@@ -1,4 +1,4 @@
--- The index of some rows: under which keys it has them, and what its look-ups lead to.
+-- The index of some rows: their keys, and the results of lookups.
 use Rattle.std.specs.Prelude.{◌≡◌, ◌⊎◌, ◌↔◌, ℕ, ◌<◌, pos, negsuc, ◌<ℤ◌, Bool, true, false, List, [], map, All, Any, Option, Some, None, cond, option_map, unwrap_or}
 use Rattle.std.specs.List.{Contains}
 use Rattle.stix_ids.specs.declared.id.Id.{Id}
@@ -58,7 +58,7 @@ pub record LeadsToThose (secret : ℕ) (Rule : StoredRow → Type 0) (row : Stor
   pub own : (key : Key) → Contains keys key → Contains (map (version_key secret) rows) key
   pub those : (other : StoredRow) → Contains rows other → is_row_of row.collection row.id other ≡ true → Contains keys (version_key secret other) ↔ Rule other
 
--- what stands before all rows of an object: no row is of the date 0
+-- the lower bound of an object's keys: no row has the date 0
 abbrev pub front_of : ℕ → Id → StoredRow
 front_of collection id = record {
   date = 0;

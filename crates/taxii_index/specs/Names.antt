@@ -1,5 +1,6 @@
--- The names under which an index has rows: 64 bits of SipHash-1-3, fed first with a secret that nobody who sends objects knows. What is
--- found under a name is held against the row itself, so nothing rests on two names being different.
+-- Names of objects and of their texts: 64 bits of SipHash-1-3, which first reads a secret that
+-- clients who send objects do not know. Each row found under a name is compared with the object
+-- itself, so nothing depends on distinct names.
 use Rattle.std.specs.Prelude.{ℕ, List, [], ◌∷◌}
 use Rattle.std.specs.Int.{w128, to_le_bytes}
 use Rattle.std.specs.Hash.DefaultHasher as sip
@@ -10,7 +11,7 @@ use Rattle.stix_ids.specs.declared.id.Id.{Id}
 abbrev pub id_of : ℕ → List ℕ → Id
 id_of number kind = record { kind = kind; number = number }
 
--- a hasher that was fed the secret, and what tells an object of a collection: the two numbers, and the kind
+-- a hasher that has read the secret and an object's identity: the collection, the UUID and the type
 unfoldable pub fed_with : ℕ → ℕ → Id → DefaultHasher
 fed_with secret collection id = sip.write (sip.write (sip.write (sip.write sip.initial (to_le_bytes w128 secret)) (to_le_bytes w128 collection)) (to_le_bytes w128 id.number)) id.kind
 

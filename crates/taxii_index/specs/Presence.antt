@@ -1,12 +1,12 @@
--- When an object is in a store already (TAXII 2.1, section 5.5): one that tells its version is where a row tells that version
--- of it, and one that tells none is where a row has its text.
+-- When an object is already present (TAXII 2.1, section 5.5): an object with a version if a row has
+-- this version of it, an undated one if a row has its text.
 use Rattle.std.specs.Prelude.{ℕ, ℤ, Bool, ◌&&◌, List, Option, Some, None, find, bytes_eq}
 use Rattle.std.specs.Ordering.{int_eq}
 use Rattle.taxii_rows.specs.declared.stored_row.StoredRow.{StoredRow}
 use Rattle.taxii_rows.specs.declared.described.Described.{Described}
 use Rattle.taxii_rows.specs.Identity.{is_row_of}
 
--- whether the row tells the version; without one, whether it has the text
+-- whether the row has the version; without one, whether it has the text
 abbrev pub agrees : Option ℤ → List ℕ → StoredRow → Bool
 agrees (Some version) body row = row.dated && int_eq row.version version
 agrees None body row = bytes_eq row.body body

@@ -1,3 +1,7 @@
+//! Rows with a hint each: the date of a later and of an earlier version of the same object, as far
+//! as known. A hint that is set is true, so it can rule out `last` and `first` without a lookup. A
+//! missing hint rules out nothing, so hints never change a result.
+
 ghost use Rattle.std.specs.Prelude.{◌≡◌, ◌↔◌, IsTrue, [], ◌++◌, not, length, take, filter, option_map, map, true, IfOk, OnOk, OnErr};
 ghost use Rattle.std.specs.List.{Contains};
 ghost use Rattle.stix_ids.specs.declared.pick.Pick.TheVariants.{Last as LastOne, First as FirstOne};
@@ -17,8 +21,8 @@ use std::marker::Model;
 use stix_ids::{Id, Pick};
 use taxii_rows::{Described, StoredRow};
 
-/// Indexed rows with a hint for each, which tells without a look-up of most old versions that they are
-/// old, and of most later ones that they aren't the first.
+/// Indexed rows with hints. Most old versions are recognized as such without a lookup, and so are
+/// most later versions that are not the first.
 #[derive(Drop)]
 pub struct HintedRows {
     rows: IndexedRows,
@@ -38,7 +42,7 @@ impl Model for HintedRows {
 }
 
 impl HintedRows {
-    /// No rows; they are named with the secret, as those of `IndexedRows`. Takes no memory.
+    /// No rows. `secret` is the key of the hashes, as for `IndexedRows`. Allocates nothing.
     pub fn new(alloc: Global, secret: u128) -> HintedRows
         ensures { result ≡ [] }
     {
@@ -56,7 +60,7 @@ impl HintedRows {
         self.rows.as_slice()
     }
 
-    /// Adds rows of later dates. Without memory the rows are as they were.
+    /// Appends rows of later dates. When out of memory, the rows are unchanged.
     pub fn append(&mut self, rows: Vec<StoredRow>) -> Result<(), NoMemory>
         requires later { AscendFrom 1 (dates_of (self.old ++ rows.items)) }
         ensures ok { OnOk result (self.new ≡ self.old ++ rows.items) }
@@ -71,7 +75,7 @@ impl HintedRows {
         hinted
     }
 
-    /// Gives the rows following that many their hints.
+    /// Sets the hints of the rows after the first `length`.
     fn hint_after(&mut self, length: usize) -> Result<(), NoMemory>
         ensures { self.new ≡ self.old }
     {
@@ -82,7 +86,7 @@ impl HintedRows {
         }
     }
 
-    /// Gives all rows their hints, where none has one yet: a pass over the index, and no look-up for a
+    /// Sets the hints of all rows, if none is set yet. One scan of the index, and no lookup for a
     /// row that is the only version of its object.
     fn hint_all(&mut self) -> Result<(), NoMemory>
         ensures { self.new ≡ self.old }
@@ -92,7 +96,7 @@ impl HintedRows {
         Ok(())
     }
 
-    /// Gives each row from a position on its hint.
+    /// Sets the hints of the rows from a position on.
     fn hint_from(&mut self, first: usize) -> Result<(), NoMemory>
         ensures { self.new ≡ self.old }
     {
@@ -102,7 +106,8 @@ impl HintedRows {
         Ok(())
     }
 
-    /// Gives the row at the position its hint, and tells its neighbours among the versions of its object.
+    /// Sets the hint of the row at a position, and updates those of its neighbours among the
+    /// versions of its object.
     fn hint(&mut self, position: usize) -> Result<(), NoMemory>
         ensures { self.new ≡ self.old }
     {
@@ -119,14 +124,14 @@ impl HintedRows {
         Ok(())
     }
 
-    /// Notes that the row at the second position is a later version than that at the first, where it is.
+    /// Records that the second row is a later version than the first, if it is.
     fn note(&mut self, first: usize, second: usize)
         ensures { self.new ≡ self.old }
     {
         note_versions(&self.rows, &mut self.hints, first, second);
     }
 
-    /// Takes the rows following that many out. Takes no memory, as all below.
+    /// Drops the rows after the first `length`. Allocates nothing; nor do the calls below.
     pub fn truncate(&mut self, length: usize)
         ensures { self.new ≡ take length self.old }
     {
@@ -138,7 +143,7 @@ impl HintedRows {
         self.rows.truncate(length);
     }
 
-    /// Takes the rows of these dates out.
+    /// Removes the rows of these dates.
     pub fn remove(&mut self, dates: &[u64])
         requires ascend { AscendFrom 0 dates.now }
         ensures { self.new ≡ filter (λ row. not (is_date_in dates.now row.date)) self.old }
@@ -150,7 +155,7 @@ impl HintedRows {
         self.rows.remove(dates);
     }
 
-    /// Tells the neighbours of the row of that date of one another.
+    /// Links the two neighbours of the row of this date with each other.
     fn unlink(&mut self, date: u64)
         ensures { self.new ≡ self.old }
     {
@@ -162,41 +167,43 @@ impl HintedRows {
     }
 
     /// The first row, by date, that makes the object present in the collection (TAXII 2.1, section
-    /// 5.5): one that tells its version where the object does, and else one that has its text.
+    /// 5.5): one with the object's version, or with its text if it is undated.
     pub fn duplicate_of(&self, collection: u128, object: &Described) -> Option<&StoredRow>
-        ensures { option_map (λ row. row.now) result ≡ first_duplicate collection object.now self.now }
+        ensures { option_map (λ row. row.now) result
+            ≡ first_duplicate collection object.now self.now }
     {
         self.rows.duplicate_of(collection, object)
     }
 
-    /// Whether one of the rows is of the object that has that number and kind, in the collection.
+    /// Whether the collection has a row of the object with this UUID and type.
     pub fn has_object(&self, collection: u128, number: u128, kind: &str) -> bool
         ensures { IsTrue result ↔ HasRowOf self.now collection (id_of number kind.now) }
     {
         self.rows.has_object(collection, number, kind)
     }
 
-    /// The rows of the object in the collection, by date: as many look-ups as it has, and no pass over all rows.
+    /// The rows of the object in the collection, by date. O(k log n) for k rows, without a scan.
     pub fn rows_of(&self, collection: u128, id: &Id) -> Result<Vec<&StoredRow>, NoMemory>
-        ensures { IfOk result (λ found. AreRowsOf collection id.now self.now (map (λ row. row.now) found.items)) }
+        ensures { IfOk result
+            (λ found. AreRowsOf collection id.now self.now (map (λ row. row.now) found.items)) }
     {
         self.rows.rows_of(collection, id)
     }
 
-    /// Where the row of a date stands, if there is one. It only hints.
+    /// The position of the row of a date, if there is one. It is a hint: no clause states it.
     pub fn position_of(&self, date: u64) -> usize {
         self.rows.position_of(date)
     }
 
-    /// Whether one of the picks selects the row among the rows of its object.
+    /// Whether one of the version filters selects the row among the rows of its object.
     pub fn is_picked(&self, row: &StoredRow, picks: &[Pick]) -> bool
         ensures { IsTrue result ↔ IsPicked picks.now self.now row.now }
     {
         self.rows.is_picked(row, picks)
     }
 
-    /// Whether the row at a position may be the last version of its object, which costs no look-up: each
-    /// that is the last may be.
+    /// Whether the row at a position may be the last version of its object. O(1), without a lookup.
+    /// No last version is missed.
     pub fn may_be_last(&self, position: usize, row: &StoredRow) -> bool
         requires { Contains self.now row.now }
         ensures { IsPickedBy LastOne self.now row.now → result ≡ true }
@@ -205,7 +212,7 @@ impl HintedRows {
         !self.hints.knows_later(position, row.date)
     }
 
-    /// Whether the row at a position may be the first version of its object, as above.
+    /// Whether the row at a position may be the first version of its object, likewise.
     pub fn may_be_first(&self, position: usize, row: &StoredRow) -> bool
         requires { Contains self.now row.now }
         ensures { IsPickedBy FirstOne self.now row.now → result ≡ true }
@@ -215,7 +222,7 @@ impl HintedRows {
     }
 }
 
-/// Notes of each version which is the one before it, and of that one which is following it.
+/// Links each version with the version before it.
 fn note_all_versions(rows: &IndexedRows, hints: &mut Hints)
     ensures { AreTrueOf rows.now hints.old.hints.items → AreTrueOf rows.now hints.new.hints.items }
 {
@@ -239,7 +246,7 @@ fn note_all_versions(rows: &IndexedRows, hints: &mut Hints)
     }
 }
 
-/// Notes that the row at the second position is a later version than that at the first, where it is.
+/// Records that the second row is a later version than the first, if it is.
 fn note_versions(rows: &IndexedRows, hints: &mut Hints, first: usize, second: usize)
     ensures { AreTrueOf rows.now hints.old.hints.items → AreTrueOf rows.now hints.new.hints.items }
 {

@@ -9,8 +9,8 @@ use flow_values::NoMemory;
 use std::alloc::Global;
 use taxii_rows::StoredRow;
 
-/// What is known of the row of a date: the date of a later version of its object and that of an earlier
-/// one, or 0 where none is known.
+/// The hint of a row: the dates of a later and of an earlier version of its object, or 0 if
+/// unknown.
 #[derive(Clone, Copy, Debug, PartialEq, Eq)]
 pub(crate) struct Hint {
     pub(crate) date: u64,
@@ -18,14 +18,14 @@ pub(crate) struct Hint {
     pub(crate) earlier: u64,
 }
 
-/// A hint for each row, by date. What they tell is so; what they don't tell may be so too.
+/// The hints of rows, by date. What they state is true; what they leave out may be true, too.
 #[derive(Drop)]
 pub(crate) struct Hints {
     hints: Vec<Hint>,
 }
 
 impl Hints {
-    /// No hints. Takes no memory.
+    /// No hints. Allocates nothing.
     pub(crate) fn new(alloc: Global) -> Hints
         ensures { result.hints.items ≡ [] }
     {
@@ -34,9 +34,10 @@ impl Hints {
         }
     }
 
-    /// A hint of a date that is later than all others, which tells nothing yet.
+    /// Appends an empty hint for a date later than all others.
     pub(crate) fn push(&mut self, date: u64) -> Result<(), NoMemory>
-        ensures { (rows : List Row) → AreTrueOf rows self.old.hints.items → AreTrueOf rows self.new.hints.items }
+        ensures { (rows : List Row) → AreTrueOf rows self.old.hints.items
+            → AreTrueOf rows self.new.hints.items }
     {
         self.hints.push(Hint {
             date,
@@ -46,9 +47,10 @@ impl Hints {
         Ok(())
     }
 
-    /// Hints of the dates of some rows, which are later than all others; they tell nothing yet.
+    /// Appends empty hints for the dates of some rows, which are later than all others.
     pub(crate) fn push_all(&mut self, rows: &[StoredRow]) -> Result<(), NoMemory>
-        ensures { (all : List Row) → AreTrueOf all self.old.hints.items → AreTrueOf all self.new.hints.items }
+        ensures { (all : List Row) → AreTrueOf all self.old.hints.items
+            → AreTrueOf all self.new.hints.items }
     {
         self.hints.reserve(rows.len())?;
         for row in rows {
@@ -57,24 +59,26 @@ impl Hints {
         Ok(())
     }
 
-    /// The hint of a date. Takes no memory, as all below.
+    /// The hint of a date. Binary search. Allocates nothing; nor do the calls below.
     pub(crate) fn of(&self, date: u64) -> Option<Hint> {
         let at = self.hints.partition_point(|hint| hint.date < date);
         let hint = self.hints.get(at)?;
         if hint.date == date { Some(*hint) } else { None }
     }
 
-    /// Notes that the row of the second date is a later version than that of the first, where their hints are
-    /// at these places.
+    /// Records that the row of the second date is a later version than that of the first, if their
+    /// hints are at these positions.
     pub(crate) fn note(&mut self, position: usize, first: u64, following: usize, second: u64)
-        ensures { (rows : List Row) → ComesBefore rows first second → AreTrueOf rows self.old.hints.items → AreTrueOf rows self.new.hints.items }
+        ensures { (rows : List Row) → ComesBefore rows first second
+            → AreTrueOf rows self.old.hints.items → AreTrueOf rows self.new.hints.items }
     {
         self.note_later(position, first, second);
         self.note_earlier(following, second, first);
     }
 
     fn note_later(&mut self, at: usize, date: u64, later: u64)
-        ensures { (rows : List Row) → ComesBefore rows date later → AreTrueOf rows self.old.hints.items → AreTrueOf rows self.new.hints.items }
+        ensures { (rows : List Row) → ComesBefore rows date later
+            → AreTrueOf rows self.old.hints.items → AreTrueOf rows self.new.hints.items }
     {
         if at < self.hints.len() {
             let hint = self.hints[at];
@@ -89,7 +93,8 @@ impl Hints {
     }
 
     fn note_earlier(&mut self, at: usize, date: u64, earlier: u64)
-        ensures { (rows : List Row) → ComesBefore rows earlier date → AreTrueOf rows self.old.hints.items → AreTrueOf rows self.new.hints.items }
+        ensures { (rows : List Row) → ComesBefore rows earlier date
+            → AreTrueOf rows self.old.hints.items → AreTrueOf rows self.new.hints.items }
     {
         if at < self.hints.len() {
             let hint = self.hints[at];
@@ -103,9 +108,10 @@ impl Hints {
         }
     }
 
-    /// Whether a later version of the row of that date is known, where its hint is at that position.
+    /// Whether a later version of the row of this date is known, if its hint is at this position.
     pub(crate) fn knows_later(&self, position: usize, date: u64) -> bool
-        ensures { (rows : List Row) → AreTrueOf rows self.now.hints.items → result ≡ true → (later : ℕ) × ComesBefore rows date later }
+        ensures { (rows : List Row) → AreTrueOf rows self.now.hints.items → result ≡ true
+            → (later : ℕ) × ComesBefore rows date later }
     {
         match self.hints.get(position) {
             Some(hint) => hint.later != 0 && hint.date == date,
@@ -113,9 +119,11 @@ impl Hints {
         }
     }
 
-    /// Whether an earlier version of the row of that date is known, where its hint is at that position.
+    /// Whether an earlier version of the row of this date is known, if its hint is at this
+    /// position.
     pub(crate) fn knows_earlier(&self, position: usize, date: u64) -> bool
-        ensures { (rows : List Row) → AreTrueOf rows self.now.hints.items → result ≡ true → (earlier : ℕ) × ComesBefore rows earlier date }
+        ensures { (rows : List Row) → AreTrueOf rows self.now.hints.items → result ≡ true
+            → (earlier : ℕ) × ComesBefore rows earlier date }
     {
         match self.hints.get(position) {
             Some(hint) => hint.earlier != 0 && hint.date == date,
@@ -123,7 +131,7 @@ impl Hints {
         }
     }
 
-    /// Takes the hints of these dates out, and what the others tell of them.
+    /// Removes the hints of these dates, and all references to them.
     pub(crate) fn forget(&mut self, dates: &[u64])
         requires { AscendFrom 0 dates.now }
         ensures { self.new.hints.items ≡ hints_without (is_date_in dates.now) self.old.hints.items }
@@ -132,9 +140,10 @@ impl Hints {
         forget_rows(&mut self.hints, dates);
     }
 
-    /// Takes the hints from a date on out, and what the others tell of them.
+    /// Removes the hints from a date on, and all references to them.
     pub(crate) fn forget_from(&mut self, date: u64)
-        ensures { self.new.hints.items ≡ hints_without (λ other. nat_le date other) self.old.hints.items }
+        ensures { self.new.hints.items
+            ≡ hints_without (λ other. nat_le date other) self.old.hints.items }
     {
         self.hints.retain(|hint| hint.date < date);
         forget_rows_from(&mut self.hints, date);

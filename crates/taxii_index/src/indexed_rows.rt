@@ -1,3 +1,6 @@
+//! A vector of rows sorted by date, with two ordered sets of keys: (object hash, version, date) and
+//! (text hash, 0, date). A key range gives candidates, and each candidate's row decides.
+
 ghost use Rattle.std.specs.Prelude.{◌≡◌, ◌↔◌, ◌-◌, IsTrue, true, [], ◌∷◌, ◌++◌, not, length, take, map, filter, find, option_map, filter_map, IfOk, OnOk, OnErr, IfSome};
 ghost use Rattle.std.specs.List.{Contains, list_any};
 ghost use Rattle.taxii_rows.specs.declared.stored_row.StoredRow.{StoredRow as Stored};
@@ -23,7 +26,7 @@ use std::marker::Model;
 use stix_ids::{Id, Pick};
 use taxii_rows::{Described, StoredRow, row_at};
 
-/// The rows of a store in the order of their dates, which ascend, with an index of them by object.
+/// The rows of a store, with dates ascending, and an index by object.
 #[derive(Drop)]
 pub struct IndexedRows {
     alloc: Global,
@@ -42,12 +45,13 @@ impl Model for IndexedRows {
 
     ghost view = { λ store. store.rows.items };
 
-    ghost invariant = { λ store. AscendFrom 1 (dates_of store.rows.items) × IsIndexOf store.rows.items store.index };
+    ghost invariant = { λ store. AscendFrom 1 (dates_of store.rows.items)
+        × IsIndexOf store.rows.items store.index };
 }
 
 impl IndexedRows {
-    /// No rows. Their names are made with a secret, which who sends objects must not know: with it, objects could be chosen
-    /// whose look-ups take long. Takes no memory.
+    /// No rows. `secret` is the key of the hashes. Clients that send objects must not know it:
+    /// otherwise they could choose objects whose lookups are slow. Allocates nothing.
     pub fn new(alloc: Global, secret: u128) -> IndexedRows
         ensures { result ≡ [] }
     {
@@ -67,7 +71,7 @@ impl IndexedRows {
         self.rows.as_slice()
     }
 
-    /// The rows alone, which keep their memory.
+    /// The rows without the index, in their own memory.
     pub fn into_rows(self) -> Vec<StoredRow>
         ensures rows { result.items ≡ self }
         ensures ascend { AscendFrom 1 (dates_of self) }
@@ -76,7 +80,7 @@ impl IndexedRows {
         rows
     }
 
-    /// Adds a row of a later date. Without memory the rows are as they were.
+    /// Appends a row of a later date. When out of memory, the rows are unchanged.
     pub fn push(&mut self, row: StoredRow) -> Result<(), NoMemory>
         requires later { AscendFrom 1 (dates_of (self.old ++ row ∷ [])) }
         ensures ok { OnOk result (self.new ≡ self.old ++ row ∷ []) }
@@ -92,7 +96,7 @@ impl IndexedRows {
         }
     }
 
-    /// Adds rows of later dates. Without memory the rows are as they were.
+    /// Appends rows of later dates. When out of memory, the rows are unchanged.
     pub fn append(&mut self, rows: Vec<StoredRow>) -> Result<(), NoMemory>
         requires later { AscendFrom 1 (dates_of (self.old ++ rows.items)) }
         ensures ok { OnOk result (self.new ≡ self.old ++ rows.items) }
@@ -109,8 +113,8 @@ impl IndexedRows {
         added
     }
 
-    /// Takes over rows where there were none: they aren't moved, and their index is made at once. Without
-    /// memory all is as it was.
+    /// Takes over a vector of rows if there were none, and builds the index in one pass. When out
+    /// of memory, nothing changes.
     fn fill(&mut self, rows: Vec<StoredRow>) -> Result<(), NoMemory>
         requires ascend { AscendFrom 1 (dates_of rows.items) }
         ensures ok { OnOk result (self.new ≡ rows.items) }
@@ -122,7 +126,7 @@ impl IndexedRows {
         Ok(())
     }
 
-    /// Adds rows of later dates. Without memory some of them may be there.
+    /// Appends rows of later dates. When out of memory, a prefix of them may have been added.
     fn push_all(&mut self, rows: Vec<StoredRow>) -> Result<(), NoMemory>
         requires later { AscendFrom 1 (dates_of (self.old ++ rows.items)) }
         ensures ok { OnOk result (self.new ≡ self.old ++ rows.items) }
@@ -134,7 +138,7 @@ impl IndexedRows {
         Ok(())
     }
 
-    /// Takes the rows following that many out. Takes no memory, as all below.
+    /// Drops the rows after the first `length`. Allocates nothing; nor do the calls below.
     pub fn truncate(&mut self, length: usize)
         ensures { self.new ≡ take length self.old }
     {
@@ -143,7 +147,7 @@ impl IndexedRows {
         }
     }
 
-    /// Takes the last row out.
+    /// Removes the last row.
     fn pop(&mut self)
         ensures { self.new ≡ take (length self.old - 1) self.old }
     {
@@ -152,7 +156,7 @@ impl IndexedRows {
         }
     }
 
-    /// Takes the rows of these dates out.
+    /// Removes the rows of these dates.
     pub fn remove(&mut self, dates: &[u64])
         requires ascend { AscendFrom 0 dates.now }
         ensures { self.new ≡ filter (λ row. not (is_date_in dates.now row.date)) self.old }
@@ -162,9 +166,10 @@ impl IndexedRows {
     }
 
     /// The first row, by date, that makes the object present in the collection (TAXII 2.1, section
-    /// 5.5): one that tells its version where the object does, and else one that has its text.
+    /// 5.5): one with the object's version, or with its text if it is undated.
     pub fn duplicate_of(&self, collection: u128, object: &Described) -> Option<&StoredRow>
-        ensures { option_map (λ row. row.now) result ≡ first_duplicate collection object.now self.now }
+        ensures { option_map (λ row. row.now) result
+            ≡ first_duplicate collection object.now self.now }
     {
         let date = self.date_of_duplicate(self.index.same(collection, object), collection, object)?;
         row_at(&self.rows, date)
@@ -177,13 +182,14 @@ impl IndexedRows {
         collection: u128,
         object: &Described,
     ) -> Option<u64>
-        ensures { result ≡ find (has_row (is_present collection object.now) self.now) (key_dates keys.entry) }
+        ensures { result ≡ find (has_row (is_present collection object.now) self.now)
+            (key_dates keys.entry) }
     {
         keys.map(|key| key.2)
             .find(|date| self.is_duplicate_at(*date, collection, object))
     }
 
-    /// Whether the row of that date makes the object present in the collection.
+    /// Whether the row of this date makes the object present in the collection.
     fn is_duplicate_at(&self, date: u64, collection: u128, object: &Described) -> bool
         ensures { result ≡ has_row (is_present collection object.now) self.now date }
     {
@@ -193,7 +199,7 @@ impl IndexedRows {
         }
     }
 
-    /// Whether one of the rows is of the object that has that number and kind, in the collection.
+    /// Whether the collection has a row of the object with this UUID and type.
     pub fn has_object(&self, collection: u128, number: u128, kind: &str) -> bool
         ensures { IsTrue result ↔ HasRowOf self.now collection (id_of number kind.now) }
     {
@@ -201,7 +207,7 @@ impl IndexedRows {
         self.has_object_among(keys, collection, number, kind)
     }
 
-    /// Whether one of these keys is that of a row of the object in the collection.
+    /// Whether one of these keys leads to a row of the object in the collection.
     fn has_object_among(
         &self,
         keys: Range<'_, Key>,
@@ -209,13 +215,14 @@ impl IndexedRows {
         number: u128,
         kind: &str,
     ) -> bool
-        ensures { result ≡ list_any (has_row (is_of collection (id_of number kind.now)) self.now) (key_dates keys.entry) }
+        ensures { result ≡ list_any (has_row (is_of collection (id_of number kind.now)) self.now)
+            (key_dates keys.entry) }
     {
         keys.map(|key| key.2)
             .any(|date| self.is_object_at(date, collection, number, kind))
     }
 
-    /// Whether the row of that date is of the object in the collection.
+    /// Whether the row of this date is one of the object in the collection.
     fn is_object_at(&self, date: u64, collection: u128, number: u128, kind: &str) -> bool
         ensures { result ≡ has_row (is_of collection (id_of number kind.now)) self.now date }
     {
@@ -225,19 +232,22 @@ impl IndexedRows {
         }
     }
 
-    /// The rows of the object in the collection, by date, found by their keys.
+    /// The rows of the object in the collection, by date. O(k log n) for k keys of its hash.
     pub fn rows_of(&self, collection: u128, id: &Id) -> Result<Vec<&StoredRow>, NoMemory>
-        ensures { IfOk result (λ found. AreRowsOf collection id.now self.now (map (λ row. row.now) found.items)) }
+        ensures { IfOk result
+            (λ found. AreRowsOf collection id.now self.now (map (λ row. row.now) found.items)) }
     {
         self.as_slice();
         let dates = self.dates_of(collection, id)?;
         self.rows_at(&dates, collection, id)
     }
 
-    /// The dates of the object's rows in the collection, ascending, and perhaps of others of its name.
+    /// The dates of the object's rows in the collection, ascending, and perhaps of rows with an
+    /// equal hash.
     fn dates_of(&self, collection: u128, id: &Id) -> Result<Vec<u64>, NoMemory>
         ensures ascend { IfOk result (λ dates. AscendFrom 0 dates.items) }
-        ensures every { IfOk result (λ dates. (row : Stored) → Contains self.now row → is_of collection id.now row ≡ true → Contains dates.items row.date) }
+        ensures every { IfOk result (λ dates. (row : Stored) → Contains self.now row
+            → is_of collection id.now row ≡ true → Contains dates.items row.date) }
     {
         let keys = self
             .index
@@ -248,9 +258,11 @@ impl IndexedRows {
         Ok(dates)
     }
 
-    /// Of the rows of these dates those of the object in the collection.
+    /// The rows of these dates, filtered by the object and the collection.
     fn rows_at(&self, dates: &[u64], collection: u128, id: &Id) -> Result<Vec<&StoredRow>, NoMemory>
-        ensures { IfOk result (λ found. map (λ row. row.now) found.items ≡ filter_map (row_where (is_of collection id.now) self.now) dates.now) }
+        ensures { IfOk result
+            (λ found. map (λ row. row.now) found.items
+            ≡ filter_map (row_where (is_of collection id.now) self.now) dates.now) }
     {
         let mut found = Vec::new(self.alloc);
         for date in dates {
@@ -261,9 +273,10 @@ impl IndexedRows {
         Ok(found)
     }
 
-    /// The row of that date, where it is of the object in the collection.
+    /// The row of this date, if it is one of the object in the collection.
     fn row_of(&self, date: u64, collection: u128, id: &Id) -> Option<&StoredRow>
-        ensures { option_map (λ row. row.now) result ≡ row_where (is_of collection id.now) self.now date }
+        ensures { option_map (λ row. row.now) result
+            ≡ row_where (is_of collection id.now) self.now date }
     {
         let row = row_at(&self.rows, date)?;
         if row.is_of(collection, id) {
@@ -273,7 +286,7 @@ impl IndexedRows {
         }
     }
 
-    /// Whether one of the picks selects the row among the rows of its object.
+    /// Whether one of the version filters selects the row among the rows of its object.
     pub fn is_picked(&self, row: &StoredRow, picks: &[Pick]) -> bool
         ensures { IsTrue result ↔ IsPicked picks.now self.now row.now }
     {
@@ -291,24 +304,25 @@ impl IndexedRows {
         }
     }
 
-    /// The keys of all versions: those of an object stand together, in the order of its versions. They
-    /// only hint: a caller asks `versions_at`.
+    /// All version keys: those of one object are adjacent, ordered by version. They are hints:
+    /// `versions_at` decides.
     pub(crate) fn versions(&self) -> Iter<'_, Key> {
         self.index.versions()
     }
 
-    /// The dates of the rows that may stand beside the row among the versions of its object, and 0 where
-    /// there is none. They only hint: a caller asks `versions_at`.
+    /// The dates of the rows that may be the previous and the next version of the row, or 0 if
+    /// there is none. They are hints: `versions_at` decides.
     pub(crate) fn neighbours(&self, row: &StoredRow) -> (u64, u64) {
         self.index.neighbours(row)
     }
 
-    /// Where the row of a date stands, if there is one.
+    /// The position of the row of a date, if there is one. Binary search.
     pub(crate) fn position_of(&self, date: u64) -> usize {
         self.rows.partition_point(|row| row.date < date)
     }
 
-    /// The dates of the rows at two places, where the second is a later version of an object than the first.
+    /// The dates of the rows at two positions, if the second is a later version of the first one's
+    /// object.
     pub(crate) fn versions_at(&self, first: usize, second: usize) -> Option<(u64, u64)>
         ensures { IfSome result (λ dates. ComesBefore self.now dates.0 dates.1) }
     {
@@ -321,29 +335,30 @@ impl IndexedRows {
         }
     }
 
-    /// Whether no version of the row's object is later.
+    /// Whether the row is the last version of its object.
     fn is_last(&self, row: &StoredRow) -> bool
         ensures { IsTrue result ↔ IsPickedBy LastOne self.now row.now }
     {
         !self.has_row_among(self.index.later(row), row.collection, &row.id)
     }
 
-    /// Whether no version of the row's object is earlier.
+    /// Whether the row is the first version of its object.
     fn is_first(&self, row: &StoredRow) -> bool
         ensures { IsTrue result ↔ IsPickedBy FirstOne self.now row.now }
     {
         !self.has_row_among(self.index.earlier(row), row.collection, &row.id)
     }
 
-    /// Whether one of these keys is that of a row of the object in the collection.
+    /// Whether one of these keys leads to a row of the object in the collection.
     fn has_row_among(&self, keys: Range<'_, Key>, collection: u128, id: &Id) -> bool
-        ensures { result ≡ list_any (has_row (is_of collection id.now) self.now) (key_dates keys.entry) }
+        ensures { result ≡ list_any (has_row (is_of collection id.now) self.now)
+            (key_dates keys.entry) }
     {
         keys.map(|key| key.2)
             .any(|date| self.is_row_at(date, collection, id))
     }
 
-    /// Whether the row of that date is of the object in the collection.
+    /// Whether the row of this date is one of the object in the collection.
     fn is_row_at(&self, date: u64, collection: u128, id: &Id) -> bool
         ensures { result ≡ has_row (is_of collection id.now) self.now date }
     {
@@ -361,7 +376,7 @@ fn gather_dates(alloc: Global, keys: Range<'_, Key>) -> Result<Vec<u64>, NoMemor
     Ok(keys.map(|key| key.2).collect(alloc)?)
 }
 
-/// Whether the row is of the object that has that number and kind, in the collection.
+/// Whether the row is one of the object with this UUID and type in the collection.
 fn is_of_parts(row: &StoredRow, collection: u128, number: u128, kind: &str) -> bool
     ensures { result ≡ is_of collection (id_of number kind.now) row.now }
 {

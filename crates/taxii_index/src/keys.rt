@@ -12,17 +12,17 @@ use std::collections::BTreeSet;
 use std::collections::btree_set::{Iter, Range};
 use std::ops::Bound;
 
-/// A name, a number, and the date of a row.
+/// A hash, a version (or 0), and the date of a row. Ordered lexicographically.
 pub(crate) type Key = (u64, i64, u64);
 
-/// A set of keys, by name, of one name by number, and of one number by date.
+/// An ordered set of keys (B-tree): by hash, then by version, then by date.
 #[derive(Drop)]
 pub(crate) struct Keys {
     keys: BTreeSet<Key, Global>,
 }
 
 impl Keys {
-    /// No keys. Takes no memory.
+    /// The empty set. Allocates nothing.
     pub(crate) fn new(alloc: Global) -> Keys
         ensures { HasKeys [] result.keys }
     {
@@ -31,72 +31,81 @@ impl Keys {
         }
     }
 
-    /// The set of these keys.
+    /// The set with these keys.
     pub(crate) fn of(keys: BTreeSet<Key, Global>) -> Keys
         ensures { result.keys ≡ keys }
     {
         Keys { keys }
     }
 
-    /// All keys, in their order.
+    /// All keys in order.
     pub(crate) fn iter(&self) -> Iter<'_, Key> {
         self.keys.iter()
     }
 
-    /// Adds a key. Without memory the set stays as it was.
+    /// Adds a key. When out of memory, the set is unchanged.
     pub(crate) fn insert(&mut self, key: Key) -> Result<(), NoMemory>
-        ensures ok { (keys : List KeyValue) → HasKeys keys self.old.keys → OnOk result (HasKeys (keys ++ key ∷ []) self.new.keys) }
-        ensures err { (keys : List KeyValue) → HasKeys keys self.old.keys → OnErr result (HasKeys keys self.new.keys) }
+        ensures ok { (keys : List KeyValue) → HasKeys keys self.old.keys
+            → OnOk result (HasKeys (keys ++ key ∷ []) self.new.keys) }
+        ensures err { (keys : List KeyValue) → HasKeys keys self.old.keys
+            → OnErr result (HasKeys keys self.new.keys) }
         ensures bits { IsIn64Bits key }
     {
         self.keys.insert(key)?;
         Ok(())
     }
 
-    /// Takes a key out. Takes no memory, as all below.
+    /// Removes a key. Allocates nothing; nor do the calls below.
     pub(crate) fn remove(&mut self, key: Key)
-        ensures { (keys : List KeyValue) → ¬ Contains keys key → HasKeys (keys ++ key ∷ []) self.old.keys → HasKeys keys self.new.keys }
+        ensures { (keys : List KeyValue) → ¬ Contains keys key
+            → HasKeys (keys ++ key ∷ []) self.old.keys → HasKeys keys self.new.keys }
     {
         self.keys.remove(&key);
     }
 
-    /// Takes a key out that is alone of its date.
+    /// Removes a key that is the only one with its date.
     pub(crate) fn remove_one(&mut self, key: Key)
-        ensures { (dates : List ℕ) (keys : List KeyValue) → IsUniqueIn keys key → HasKeysBut dates keys self.old.keys
+        ensures { (dates : List ℕ) (keys : List KeyValue) → IsUniqueIn keys key
+            → HasKeysBut dates keys self.old.keys
             → HasKeysBut (dates ++ key.2 ∷ []) keys self.new.keys }
     {
         self.keys.remove(&key);
     }
 
-    /// Takes the keys of these dates out, by a pass over all.
+    /// Removes the keys of these dates, by a scan of all.
     pub(crate) fn remove_dates(&mut self, dates: &[u64])
         requires { AscendFrom 0 dates.now }
-        ensures { (keys : List KeyValue) → HasKeys keys self.old.keys → HasKeysBut dates.now keys self.new.keys }
+        ensures { (keys : List KeyValue) → HasKeys keys self.old.keys
+            → HasKeysBut dates.now keys self.new.keys }
     {
         self.keys.retain(|key| !is_among(dates, key.2));
     }
 
-    /// The keys of that name and number, by date.
+    /// The keys with this hash and version, by date.
     pub(crate) fn of_number(&self, name: u64, number: i64) -> Range<'_, Key>
-        ensures keys { result ≡ keys_between key_cmp (Included (name, number, 0)) (Included (name, number, u64.MAX)) self.now.keys }
+        ensures keys { result
+            ≡ keys_between key_cmp (Included (name, number, 0))
+            (Included (name, number, u64.MAX)) self.now.keys }
         ensures ordered { IsOrdered key_cmp self.now.keys }
     {
         self.keys
             .range((name, number, 0)..=(name, number, u64::MAX))
     }
 
-    /// The keys of the same name following that key.
+    /// The keys with the same hash after this key.
     pub(crate) fn after(&self, key: Key) -> Range<'_, Key>
-        ensures { result ≡ keys_between key_cmp (Excluded key) (Included (key.0, i64.MAX, u64.MAX)) self.now.keys }
+        ensures { result ≡ keys_between key_cmp (Excluded key)
+            (Included (key.0, i64.MAX, u64.MAX)) self.now.keys }
     {
         let last = (key.0, i64::MAX, u64::MAX);
         self.keys
             .range((Bound::Excluded(key), Bound::Included(last)))
     }
 
-    /// The keys of the same name before that key.
+    /// The keys with the same hash before this key.
     pub(crate) fn before(&self, key: Key) -> Range<'_, Key>
-        ensures { result ≡ keys_between key_cmp (Included (key.0, i64.MIN, 0)) (Excluded key) self.now.keys }
+        ensures { result ≡ keys_between key_cmp (Included (key.0, i64.MIN, 0))
+            (Excluded key) self.now.keys }
     {
         let first = (key.0, i64::MIN, 0);
         self.keys

@@ -1,24 +1,27 @@
+//! Names: keyed hashes (std's `DefaultHasher`) of objects and of object texts. The secret is hashed
+//! first, so clients cannot construct collisions.
+
 ghost use Rattle.std.specs.Prelude.{◌≡◌};
 ghost use Rattle.taxii_index.specs.Names.{id_of, fed_with, name_of, text_name_of};
 
 use std::hash::{DefaultHasher, Hasher};
 use stix_ids::Id;
 
-/// The name of an object of a collection.
+/// The hash of an object in a collection.
 pub(crate) fn object_name(secret: u128, collection: u128, id: &Id) -> u64
     ensures { result ≡ name_of secret collection id.now }
 {
     object_hasher(secret, collection, id).finish()
 }
 
-/// The name of the object of a collection that has that number and kind.
+/// The hash of the object with this UUID and type in the collection.
 pub(crate) fn parts_name(secret: u128, collection: u128, number: u128, kind: &str) -> u64
     ensures { result ≡ name_of secret collection (id_of number kind.now) }
 {
     parts_hasher(secret, collection, number, kind).finish()
 }
 
-/// The name of a text of the object.
+/// The hash of one text of an object. No type contains a zero byte, so type and text are separated.
 pub(crate) fn text_name(secret: u128, collection: u128, id: &Id, body: &str) -> u64
     ensures { result ≡ text_name_of secret collection id.now body.now }
 {
@@ -28,7 +31,7 @@ pub(crate) fn text_name(secret: u128, collection: u128, id: &Id, body: &str) -> 
     hasher.finish()
 }
 
-/// A hasher that was fed the secret and what tells the object of the collection.
+/// A hasher that has read the secret, the collection and the object's identifier.
 fn object_hasher(secret: u128, collection: u128, id: &Id) -> DefaultHasher
     ensures { result ≡ fed_with secret collection id.now }
 {

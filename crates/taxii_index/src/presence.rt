@@ -10,7 +10,7 @@ pub(crate) fn is_duplicate(collection: u128, object: &Described, row: &StoredRow
     row.is_of(collection, &object.id) && agrees(object, row)
 }
 
-/// Whether the row tells the object's version; without one, whether it has its text.
+/// Whether the row has the object's version, or its text if the object is undated.
 fn agrees(object: &Described, row: &StoredRow) -> bool
     ensures { result ≡ agree object.now.version object.now.body row.now }
 {

@@ -1,3 +1,6 @@
+//! An inverted index of rows. `by_version` finds the versions of an object, `by_text` the rows with
+//! one text of an object, both by keyed hash in ordered sets.
+
 ghost use Rattle.std.specs.Prelude.{◌≡◌, ℕ, [], ◌∷◌, ◌++◌, List, All, map, not, filter, IfOk, OnOk, OnErr};
 ghost use Rattle.std.specs.List.{Contains};
 ghost use Rattle.taxii_rows.specs.declared.stored_row.StoredRow.{StoredRow as Row};
@@ -15,10 +18,11 @@ use std::collections::BTreeSet;
 use std::collections::btree_set::{Iter, Range};
 use taxii_rows::{Described, StoredRow, row_at};
 
-/// To make the keys of a row, and to find them, takes about as long as to pass over those of so many rows.
+/// Computing and finding the keys of one row costs about as much as scanning the keys of this many
+/// rows.
 const ROWS_PER_LOOKUP: usize = 16;
 
-/// Under which keys some rows are found: the versions of an object, and the rows of a text of it.
+/// The keys of some rows: by object and version, and by object and text.
 #[derive(Drop)]
 pub(crate) struct RowIndex {
     secret: u128,
@@ -27,7 +31,7 @@ pub(crate) struct RowIndex {
 }
 
 impl RowIndex {
-    /// The index of no rows, with names made with that secret. Takes no memory.
+    /// The index of no rows, with this key of its hashes. Allocates nothing.
     pub(crate) fn new(alloc: Global, secret: u128) -> RowIndex
         ensures { IsIndexOf [] result }
     {
@@ -38,7 +42,7 @@ impl RowIndex {
         }
     }
 
-    /// The index of these rows, made at once.
+    /// The index of these rows, built in one pass.
     pub(crate) fn of(alloc: Global, secret: u128, rows: &[StoredRow]) -> Result<RowIndex, NoMemory>
         ensures { IfOk result (IsIndexOf rows.now) }
     {
@@ -51,10 +55,12 @@ impl RowIndex {
         })
     }
 
-    /// Adds a row. Without memory the index stays that of the rows before.
+    /// Adds a row. When out of memory, the index is unchanged.
     pub(crate) fn insert(&mut self, row: &StoredRow) -> Result<(), NoMemory>
-        ensures ok { (rows : List Row) → IsIndexOf rows self.old → OnOk result (IsIndexOf (rows ++ row.now ∷ []) self.new) }
-        ensures err { (rows : List Row) → IsAbsent row.now.date rows → IsIndexOf rows self.old → OnErr result (IsIndexOf rows self.new) }
+        ensures ok { (rows : List Row) → IsIndexOf rows self.old
+            → OnOk result (IsIndexOf (rows ++ row.now ∷ []) self.new) }
+        ensures err { (rows : List Row) → IsAbsent row.now.date rows → IsIndexOf rows self.old
+            → OnErr result (IsIndexOf rows self.new) }
     {
         let key = version_key(self.secret, row);
         self.by_version.insert(key)?;
@@ -65,20 +71,23 @@ impl RowIndex {
         added
     }
 
-    /// Takes the last row out, where no other has its date. Takes no memory, as all below.
+    /// Removes the last row, if no other row has its date. Allocates nothing; nor do the calls
+    /// below.
     pub(crate) fn remove(&mut self, row: &StoredRow)
-        ensures { (rows : List Row) → IsAbsent row.now.date rows → IsIndexOf (rows ++ row.now ∷ []) self.old → IsIndexOf rows self.new }
+        ensures { (rows : List Row) → IsAbsent row.now.date rows
+            → IsIndexOf (rows ++ row.now ∷ []) self.old → IsIndexOf rows self.new }
     {
         self.by_version.remove(version_key(self.secret, row));
         self.by_text.remove(text_key(self.secret, row));
     }
 
-    /// Takes those of the rows out that are of these dates: by their keys, or where they are many by a pass
-    /// over all keys.
+    /// Removes the rows of these dates: key by key if they are few, by one scan of all keys if they
+    /// are many.
     pub(crate) fn remove_dates(&mut self, rows: &[StoredRow], dates: &[u64])
         requires rows { AscendFrom 1 (dates_of rows.now) }
         requires dates { AscendFrom 0 dates.now }
-        ensures { IsIndexOf rows.now self.old → IsIndexOf (filter (λ row. not (is_date_in dates.now row.date)) rows.now) self.new }
+        ensures { IsIndexOf rows.now self.old
+            → IsIndexOf (filter (λ row. not (is_date_in dates.now row.date)) rows.now) self.new }
     {
         if dates.len() < rows.len() / ROWS_PER_LOOKUP {
             self.remove_few(rows, dates);
@@ -87,19 +96,21 @@ impl RowIndex {
         }
     }
 
-    /// Takes the rows of these dates out by a pass over all keys.
+    /// Removes the rows of these dates by one scan of all keys. O(n log d) for d dates.
     fn remove_many(&mut self, dates: &[u64])
         requires { AscendFrom 0 dates.now }
-        ensures { (rows : List Row) → IsIndexOf rows self.old → IsIndexOf (filter (λ row. not (is_date_in dates.now row.date)) rows) self.new }
+        ensures { (rows : List Row) → IsIndexOf rows self.old
+            → IsIndexOf (filter (λ row. not (is_date_in dates.now row.date)) rows) self.new }
     {
         self.by_version.remove_dates(dates);
         self.by_text.remove_dates(dates);
     }
 
-    /// Takes those of the rows out that are of these dates: as many look-ups as there are dates.
+    /// Removes the rows of these dates key by key. O(d log n) for d dates.
     fn remove_few(&mut self, rows: &[StoredRow], dates: &[u64])
         requires { AscendFrom 1 (dates_of rows.now) }
-        ensures { IsIndexOf rows.now self.old → IsIndexOf (filter (λ row. not (is_date_in dates.now row.date)) rows.now) self.new }
+        ensures { IsIndexOf rows.now self.old
+            → IsIndexOf (filter (λ row. not (is_date_in dates.now row.date)) rows.now) self.new }
     {
         for date in dates {
             self.remove_date(rows, *date);
@@ -108,7 +119,8 @@ impl RowIndex {
 
     fn remove_date(&mut self, rows: &[StoredRow], date: u64)
         requires { AscendFrom 1 (dates_of rows.now) }
-        ensures { (gone : List ℕ) → IsIndexBut gone rows.now self.old → IsIndexBut (gone ++ date ∷ []) rows.now self.new }
+        ensures { (gone : List ℕ) → IsIndexBut gone rows.now self.old
+            → IsIndexBut (gone ++ date ∷ []) rows.now self.new }
     {
         match row_at(rows, date) {
             Some(row) => self.remove_row(row),
@@ -117,17 +129,19 @@ impl RowIndex {
     }
 
     fn remove_row(&mut self, row: &StoredRow)
-        ensures { (gone : List ℕ) (rows : List Row) → AscendFrom 1 (dates_of rows) → Contains rows row.now → IsIndexBut gone rows self.old
+        ensures { (gone : List ℕ) (rows : List Row) → AscendFrom 1 (dates_of rows)
+            → Contains rows row.now → IsIndexBut gone rows self.old
             → IsIndexBut (gone ++ row.now.date ∷ []) rows self.new }
     {
         self.by_version.remove_one(version_key(self.secret, row));
         self.by_text.remove_one(text_key(self.secret, row));
     }
 
-    /// The keys of the rows that may make the object present in the collection, by date: none is left
-    /// out.
+    /// The keys of all rows that may make the object present in the collection, by date. None is
+    /// missed; collisions may add some.
     pub(crate) fn same(&self, collection: u128, object: &Described) -> Range<'_, Key>
-        ensures { (rows : List Row) → IsIndexOf rows self.now → LeadsToSame collection object.now rows result }
+        ensures { (rows : List Row) → IsIndexOf rows self.now
+            → LeadsToSame collection object.now rows result }
     {
         match object.version {
             Some(version) => {
@@ -142,35 +156,38 @@ impl RowIndex {
         }
     }
 
-    /// The keys of the versions of the row's object that are later.
+    /// The keys of the later versions of the row's object.
     pub(crate) fn later(&self, row: &StoredRow) -> Range<'_, Key>
-        ensures { (rows : List Row) → IsIndexOf rows self.now → LeadsToThose self.now.secret (IsBefore row.now) row.now rows result }
+        ensures { (rows : List Row) → IsIndexOf rows self.now
+            → LeadsToThose self.now.secret (IsBefore row.now) row.now rows result }
     {
         self.by_version.after(version_key(self.secret, row))
     }
 
-    /// The keys of the versions of the row's object that are earlier.
+    /// The keys of the earlier versions of the row's object.
     pub(crate) fn earlier(&self, row: &StoredRow) -> Range<'_, Key>
-        ensures { (rows : List Row) → IsIndexOf rows self.now → LeadsToThose self.now.secret (λ other. IsBefore other row.now) row.now rows result }
+        ensures { (rows : List Row) → IsIndexOf rows self.now
+            → LeadsToThose self.now.secret (λ other. IsBefore other row.now) row.now rows result }
     {
         self.by_version.before(version_key(self.secret, row))
     }
 
-    /// The keys of the rows of the object that has that number and kind.
+    /// The keys of the rows of the object with this UUID and type.
     pub(crate) fn of_object(&self, collection: u128, number: u128, kind: &str) -> Range<'_, Key>
-        ensures { (rows : List Row) → IsIndexOf rows self.now → LeadsToObject self.now.secret collection (id_of number kind.now) rows result }
+        ensures { (rows : List Row) → IsIndexOf rows self.now
+            → LeadsToObject self.now.secret collection (id_of number kind.now) rows result }
     {
         let name = parts_name(self.secret, collection, number, kind);
         self.by_version.after((name, i64::MIN, 0))
     }
 
-    /// The keys of all versions: those of a name stand together, in the order of their versions.
+    /// All version keys: those of one hash are adjacent, ordered by version.
     pub(crate) fn versions(&self) -> Iter<'_, Key> {
         self.by_version.iter()
     }
 
-    /// The dates of the rows beside the row among the versions of its name, and 0 where there is none.
-    /// Whether they are of its object is asked of the rows.
+    /// The dates of the previous and of the next key of the same hash, or 0 if there is none. The
+    /// rows decide whether they belong to the same object.
     pub(crate) fn neighbours(&self, row: &StoredRow) -> (u64, u64) {
         let key = version_key(self.secret, row);
         let mut before = self.by_version.before(key);
@@ -179,7 +196,7 @@ impl RowIndex {
     }
 }
 
-/// The date of a key, or 0 where there is none.
+/// The date of a key, or 0 if there is none.
 fn key_date(key: Option<&Key>) -> u64 {
     match key {
         Some(key) => key.2,
@@ -187,8 +204,8 @@ fn key_date(key: Option<&Key>) -> u64 {
     }
 }
 
-/// Some rows among the versions of their objects: a sort of their keys, and no look-up for each. They go
-/// into the set as they are made, since what a list of them would leave free stays the process's.
+/// The version keys of some rows, in one pass. They are collected straight into the set: a
+/// temporary list would leave memory that the process does not return.
 fn by_version(alloc: Global, secret: u128, rows: &[StoredRow]) -> Result<Keys, NoMemory>
     ensures keys { IfOk result (λ set. HasKeys (map (version_key_of secret) rows.now) set.keys) }
     ensures bits { IfOk result (λ _. All (λ row. IsIn64Bits (version_key_of secret row)) rows.now) }
@@ -200,7 +217,7 @@ fn by_version(alloc: Global, secret: u128, rows: &[StoredRow]) -> Result<Keys, N
     Ok(Keys::of(keys))
 }
 
-/// Some rows among the rows of their texts, as above.
+/// The text keys of some rows, likewise.
 fn by_text(alloc: Global, secret: u128, rows: &[StoredRow]) -> Result<Keys, NoMemory>
     ensures { IfOk result (λ set. HasKeys (map (text_key_of secret) rows.now) set.keys) }
 {
@@ -208,7 +225,7 @@ fn by_text(alloc: Global, secret: u128, rows: &[StoredRow]) -> Result<Keys, NoMe
     Ok(Keys::of(keys))
 }
 
-/// The key of a row among the versions of its object.
+/// The version key of a row.
 fn version_key(secret: u128, row: &StoredRow) -> Key
     ensures key { result ≡ version_key_of secret row.now }
     ensures bits { IsIn64Bits result }
@@ -224,7 +241,7 @@ fn key_of(name: u64, number: i64, date: u64) -> Key
     (name, number, date)
 }
 
-/// The key of a row among the rows of its text.
+/// The text key of a row.
 fn text_key(secret: u128, row: &StoredRow) -> Key
     ensures { result ≡ text_key_of secret row.now }
 {

@@ -4,8 +4,8 @@ ghost use Rattle.flow_memory.specs.Streams.{is_failing};
 
 use flow_values::{Fault, Items};
 
-/// The calls of a keeper in memory: which of them fail, by their numbers from 1, and how many there
-/// were and failed so far.
+/// The call counter of a keeper in memory: the numbers of the calls that fail, starting at 1, and
+/// how many calls were made and failed.
 #[derive(Drop)]
 pub(crate) struct Calls {
     pub(crate) failing: Items<u64>,
@@ -14,7 +14,7 @@ pub(crate) struct Calls {
 }
 
 impl Calls {
-    /// Counts one more call, and its fault where it fails.
+    /// Counts a call, and fails if its number is listed.
     pub(crate) fn begin(&mut self) -> Result<(), Fault>
         ensures fails { IsErr result ↔ (is_failing self.old.failing self.old.count ≡ true) }
         ensures count { self.new.count ≡ counted self.old.count }

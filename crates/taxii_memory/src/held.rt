@@ -6,7 +6,7 @@ use flow_values::NoMemory;
 use std::alloc::Global;
 use taxii_rows::StoredRow;
 
-/// Whether the date is one of these, by halving.
+/// Whether the date is listed. Binary search.
 pub(crate) fn is_among(dates: &[u64], date: u64) -> bool
     requires { AscendFrom 0 dates.now }
     ensures { result ≡ is_date_in dates.now date }
@@ -14,7 +14,7 @@ pub(crate) fn is_among(dates: &[u64], date: u64) -> bool
     dates.binary_search(&date).is_ok()
 }
 
-/// Adds copies of more rows at the end. Without memory the rows are as they were.
+/// Appends copies of more rows. When out of memory, the rows are unchanged.
 pub(crate) fn append_copies(
     alloc: Global,
     rows: &mut Vec<StoredRow>,

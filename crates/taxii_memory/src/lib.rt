@@ -1,5 +1,12 @@
-//! A keeper of rows in memory that tells them all to contracts, and whose calls can be made to fail: the
-//! double that whatever keeps rows can be tested with.
+//! A keeper in memory, for tests of anything that uses a `taxii_rows::Keeper`: all of its rows are
+//! observable to contracts, and chosen calls fail (fault injection).
+//!
+//! ```text
+//! // `failing` holds the numbers of the calls that fail; here it is [2]
+//! let mut keeper = MemoryKeeper::new(alloc, rows, watermark, failing);
+//! keeper.attach("store")?;               // call 1
+//! assert!(keeper.watermark().is_err());  // call 2
+//! ```
 #![tactic(auto)]
 
 mod calls;

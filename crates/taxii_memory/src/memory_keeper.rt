@@ -13,7 +13,7 @@ use std::alloc::Global;
 use std::marker::Model;
 use taxii_rows::{FaultCause, Keeper, KeeperRefusal, StoredRow, row_after};
 
-/// Rows in memory, with calls that fail.
+/// Rows in memory, with injected faults.
 #[derive(Drop)]
 pub struct MemoryKeeper {
     alloc: Global,
@@ -41,8 +41,8 @@ impl Model for MemoryKeeper {
 }
 
 impl MemoryKeeper {
-    /// A keeper of these rows, whose dates ascend. The calls whose numbers, from 1, are in `failing` fail.
-    /// Takes no memory.
+    /// A keeper with these rows, whose dates ascend. The calls with the numbers in `failing`,
+    /// starting at 1, fail. Allocates nothing.
     pub fn new(
         alloc: Global,
         rows: Items<StoredRow>,
@@ -79,7 +79,7 @@ impl MemoryKeeper {
         self.rows.as_slice()
     }
 
-    /// The last date ever given.
+    /// The watermark: the last date ever given.
     pub fn last_date(&self) -> u64
         ensures { result ≡ self.now.state.watermark }
     {
@@ -88,13 +88,17 @@ impl MemoryKeeper {
 }
 
 impl Keeper for MemoryKeeper {
-    ghost kept = { λ keeper. record { observable = Some keeper.state; name = keeper.name; attached = is_some keeper.name } };
+    ghost kept = { λ keeper. record {
+      observable = Some keeper.state;
+      name = keeper.name;
+      attached = is_some keeper.name;
+    } };
 
     ghost faults = { λ keeper. keeper.faults };
 
     ghost last_cause = { λ _. NotKnown };
 
-    /// No secret: who makes such a keeper sends its objects too.
+    /// Returns 0: whoever creates such a keeper also sends its objects.
     fn secret(&self) -> u128 {
         0
     }
@@ -110,7 +114,8 @@ impl Keeper for MemoryKeeper {
         ensures err { OnErr result (self.new.name ≡ self.old.name) }
         ensures state { self.new.state ≡ self.old.state }
         ensures ascend { AscendFrom 1 (dates_of self.new.state.rows) }
-        ensures causes { Counted (result ≡ Err KeeperRefusal.Fault) self.old.faults self.new.faults }
+        ensures causes { Counted
+            (result ≡ Err KeeperRefusal.Fault) self.old.faults self.new.faults }
 
         ensures call { IsMemoryCall self.old self.new result }
     {
@@ -124,7 +129,8 @@ impl Keeper for MemoryKeeper {
         ensures row { IfOk result (λ found. found ≡ first_later date self.old.state.rows) }
         ensures state { self.new.state ≡ self.old.state }
         ensures name { self.new.name ≡ self.old.name }
-        ensures causes { Counted (result ≡ Err KeeperRefusal.Fault) self.old.faults self.new.faults }
+        ensures causes { Counted
+            (result ≡ Err KeeperRefusal.Fault) self.old.faults self.new.faults }
 
         ensures call { IsMemoryCall self.old self.new result }
     {
@@ -140,7 +146,8 @@ impl Keeper for MemoryKeeper {
         ensures memory { result ≢ Err OutOfMemory }
         ensures state { self.new.state ≡ self.old.state }
         ensures name { self.new.name ≡ self.old.name }
-        ensures causes { Counted (result ≡ Err KeeperRefusal.Fault) self.old.faults self.new.faults }
+        ensures causes { Counted
+            (result ≡ Err KeeperRefusal.Fault) self.old.faults self.new.faults }
 
         ensures call { IsMemoryCall self.old self.new result }
     {
@@ -153,7 +160,8 @@ impl Keeper for MemoryKeeper {
         ensures ok { OnOk result (self.new.state ≡ with_rows rows.now watermark self.old.state) }
         ensures err { OnErr result (self.new.state ≡ self.old.state) }
         ensures name { self.new.name ≡ self.old.name }
-        ensures causes { Counted (result ≡ Err KeeperRefusal.Fault) self.old.faults self.new.faults }
+        ensures causes { Counted
+            (result ≡ Err KeeperRefusal.Fault) self.old.faults self.new.faults }
 
         ensures call { IsMemoryCall self.old self.new result }
     {
@@ -169,7 +177,8 @@ impl Keeper for MemoryKeeper {
         ensures memory { result ≢ Err OutOfMemory }
         ensures err { OnErr result (self.new.state ≡ self.old.state) }
         ensures name { self.new.name ≡ self.old.name }
-        ensures causes { Counted (result ≡ Err KeeperRefusal.Fault) self.old.faults self.new.faults }
+        ensures causes { Counted
+            (result ≡ Err KeeperRefusal.Fault) self.old.faults self.new.faults }
 
         ensures call { IsMemoryCall self.old self.new result }
     {

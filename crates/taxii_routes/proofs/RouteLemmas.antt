@@ -32,7 +32,7 @@ part_first : (segment rest : List ℕ) → IsSegment segment → parts_of (segme
 part_first segment rest is =
     slice_split_at is_slash segment 47 rest (All-weaker (λ byte. byte ≢ 47) (λ byte. is_slash byte ≡ false) (λ byte other. ne_eqb byte 47 other) segment is.bytes) refl
 
--- the parts of the path of a collection, with more behind it
+-- the parts of the path of a collection, with more after it
 collection_parts : (id rest path : List ℕ) → IsSegment id → path ≡ collection_path id ++ rest
     → parts_of path ≡ [] ∷ codes "api" ∷ codes "collections" ∷ id ∷ parts_of rest
 collection_parts id rest path is e =

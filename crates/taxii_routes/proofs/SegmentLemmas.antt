@@ -12,7 +12,7 @@ use Rattle.matchit.specs.Seek.{segment, has_slash, cuts}
 abbrev pub NoSlash : List ℕ → Type 0
 NoSlash text = All (λ byte. byte ≢ 47) text
 
--- the bytes up to the first slash, and those behind it
+-- the bytes up to the first slash, and those after it
 abbrev pub IsCutAtSlash : List ℕ → List ℕ → List ℕ → Type 0
 IsCutAtSlash path front back = (path ≡ front ++ 47 ∷ back) × NoSlash front
 

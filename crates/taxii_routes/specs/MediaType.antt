@@ -5,6 +5,7 @@
 use Rattle.std.specs.Prelude.{◌≡◌, ◌⊎◌, ℕ, ◌-◌, ◌==◌, ◌||◌, Bool, List, length, take, drop, map, All, Any, codes}
 use Rattle.std.specs.List.{slice_split, before_first, after_first, prefix_len, suffix_len}
 use Rattle.std.specs.Char.{to_ascii_lowercase}
+use Rattle.taxii_routes.specs.Value.{is_comma}
 
 -- OWS = *( SP / HTAB )
 abbrev pub is_blank : ℕ → Bool
@@ -26,9 +27,6 @@ trimmed text = without_back (without_front text)
 abbrev pub IsNamed : List ℕ → List ℕ → Type 0
 IsNamed name text = map to_ascii_lowercase (trimmed text) ≡ map to_ascii_lowercase name
 
-abbrev pub is_comma : ℕ → Bool
-is_comma byte = byte == 44
-
 abbrev pub is_semicolon : ℕ → Bool
 is_semicolon byte = byte == 59
 
@@ -39,7 +37,7 @@ is_equals_sign byte = byte == 61
 abbrev pub range_of : List ℕ → List ℕ
 range_of text = before_first is_semicolon text
 
--- parameters = *( OWS ";" OWS [ parameter ] ): the parts behind the first semicolon
+-- parameters = *( OWS ";" OWS [ parameter ] ): the parts after the first semicolon
 abbrev pub parameters_of : List ℕ → List (List ℕ)
 parameters_of text = drop 1 (slice_split is_semicolon text)
 
@@ -67,6 +65,7 @@ pub record IsTaxii (text : List ℕ) : Type 0 where
 abbrev pub IsWildcard : List ℕ → Type 0
 IsWildcard text = IsNamed (codes "*/*") (range_of text) ⊎ IsNamed (codes "application/*") (range_of text)
 
--- Accept = #( media-range [ weight ] ): some member of the list is TAXII's type, or a range that takes it in
+-- Accept = #( media-range [ weight ] ): some member of the list is TAXII's type, or a range that
+-- takes it in
 abbrev pub Accepts : List ℕ → Type 0
 Accepts text = Any (λ member. IsTaxii member ⊎ IsWildcard member) (slice_split is_comma text)

@@ -1,6 +1,6 @@
--- Queries: TAXII 2.1, section 3.4, in the form of the URL Standard, section 5
--- (`application/x-www-form-urlencoded`). A query is its pairs of a name and a value. Each parameter has
--- one pair at most, and pairs of other names don't matter.
+-- Queries (TAXII 2.1, section 3.4), encoded as `application/x-www-form-urlencoded` (URL Standard,
+-- section 5): a list of pairs of a name and a value. Each parameter occurs at most once, and pairs
+-- with other names are ignored.
 use Rattle.std.specs.Prelude.{◌≡◌, ◌≢◌, ℕ, List, [], ◌∷◌, ◌++◌, map, filter, bytes_eq, Option, None, IsSomeAnd}
 use Rattle.std.specs.Str.Lossy.{utf8_lossy}
 use Rattle.form_urlencoded.specs.Form.{raw_pairs, decode}
@@ -16,11 +16,11 @@ use Rattle.taxii_routes.specs.Value.{Meaning, IsValueOf, HasMeaning}
 abbrev pub Pair : Type 0
 Pair = List ℕ × List ℕ
 
--- the text that an encoded one stands for
+-- the text that an encoded one represents
 abbrev pub text_of : List ℕ → List ℕ
 text_of encoded = utf8_lossy (decode encoded)
 
--- the pairs of a query, in turn
+-- the pairs of a query, in order
 abbrev pub pairs_of : List ℕ → List Pair
 pairs_of query = map (λ pair. (text_of pair.0, text_of pair.1)) (raw_pairs query)
 
@@ -38,7 +38,7 @@ asked MatchType query = query.kinds
 asked MatchVersion query = query.picks
 asked MatchSpec query = query.specs
 
--- these values of a parameter ask for that: nothing where there is none, else what the one means
+-- these values of a parameter ask for that: nothing if there is none, else what the one means
 abbrev pub AskFor : (param : Param) → List (List ℕ) → Option (Meaning param) → Type 0
 AskFor param [] slot = slot ≡ None
 AskFor param (value ∷ []) slot = IsSomeAnd slot (λ meaning. IsValueOf param value meaning)
@@ -48,7 +48,8 @@ AskFor param (value ∷ other ∷ values) slot = ⊥
 abbrev pub IsQueryOf : List Pair → Query → Type 0
 IsQueryOf pairs query = (param : Param) → AskFor param (values_of (name_of param) pairs) (asked param query)
 
--- what is wrong with a pair behind others: its parameter stood there before, or its value has no meaning
+-- what is wrong with a pair after others: its parameter stood there before, or its value has no
+-- meaning
 abbrev pub IsBadAfter : List Pair → Pair → QueryRefusal → Type 0
 IsBadAfter before pair (Repeated param) = (pair.0 ≡ name_of param) × (values_of pair.0 before ≢ [])
 IsBadAfter before pair (BadValue param) = (pair.0 ≡ name_of param) × (values_of pair.0 before ≡ []) × (¬ HasMeaning param pair.1)

@@ -1,6 +1,6 @@
--- The paths of the server: the endpoints of TAXII 2.1, sections 4.1, 4.2, 4.3 and 5.1 to 5.8, with the
--- API root `/api/`. A route is printed to its path, and the texts in it are segments of RFC 3986,
--- section 3.3, that aren't empty. Of the bytes, 47 is `/`.
+-- The paths of the server: the endpoints of TAXII 2.1, sections 4.1, 4.2, 4.3 and 5.1 to 5.8, with
+-- the API root `/api/`. A route is printed to its path, and the texts in it are segments of RFC
+-- 3986, section 3.3, that are not empty. Of the bytes, 47 is `/`.
 use Rattle.std.specs.Prelude.{◌≡◌, ◌≢◌, ℕ, List, [], ◌++◌, All, codes}
 use Rattle.taxii_routes.specs.declared.route.Route.{Route}
 use Rattle.taxii_routes.specs.declared.route.Route.TheVariants.{Discovery, Root, Status, Collections, Collection, Manifest, Objects, Object, Versions}

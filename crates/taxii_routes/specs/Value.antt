@@ -1,5 +1,5 @@
--- What the values of the parameters mean: TAXII 2.1, sections 3.4 and 3.5. Of the bytes, 44 is `,`, and
--- 97 to 102 are `a` to `f`.
+-- What the values of the parameters mean: TAXII 2.1, sections 3.4 and 3.5. Of the bytes, 44 is `,`,
+-- and 97 to 102 are `a` to `f`.
 use Rattle.std.specs.Prelude.{◌≡◌, ◌≢◌, ◌⊎◌, ℕ, ◌<◌, ◌≤◌, ℤ, pos, ◌*ℤ◌, ◌==◌, Bool, List, [], length, All, codes}
 use Rattle.std.specs.List.{AllZip, slice_split}
 use Rattle.std.specs.Char.{IsAsciiDigit}
@@ -12,7 +12,7 @@ use Rattle.stix_ids.specs.Identifier as identifier
 use Rattle.taxii_routes.specs.declared.param.Param.{Param}
 use Rattle.taxii_routes.specs.declared.param.Param.TheVariants.{AddedAfter, Limit, Next, MatchId, MatchType, MatchVersion, MatchSpec}
 
--- one to eighteen decimal digits, of a number that isn't zero
+-- one to eighteen decimal digits, of a number that is not zero
 pub record IsLimit (value : List ℕ) (limit : ℕ) : Type 0 where
   pub digits : IsNumeral 10 value
   pub few : length value ≤ 18
@@ -62,7 +62,7 @@ Meaning MatchType = List (List ℕ)
 Meaning MatchVersion = List Pick
 Meaning MatchSpec = List (List ℕ)
 
--- the text is of the parameter's form, and this is what it means
+-- the text is a well-formed value of the parameter with this meaning
 abbrev pub IsValueOf : (param : Param) → List ℕ → Meaning param → Type 0
 IsValueOf AddedAfter value instant = time.IsTextOf value instant
 IsValueOf Limit value limit = IsLimit value limit
@@ -72,6 +72,6 @@ IsValueOf MatchType value kinds = AreTexts value kinds
 IsValueOf MatchVersion value picks = AllZip IsPickText (members value) picks
 IsValueOf MatchSpec value specs = AreTexts value specs
 
--- the text is of the parameter's form
+-- the text is a well-formed value of the parameter
 abbrev pub HasMeaning : Param → List ℕ → Type 0
 HasMeaning param value = (meaning : Meaning param) × IsValueOf param value meaning

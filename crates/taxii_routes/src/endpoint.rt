@@ -1,4 +1,4 @@
-/// Which row of the table a path has, without the texts that stand in it.
+/// The endpoint of a path, without the identifiers in it.
 #[derive(Clone, Copy, Debug, PartialEq, Eq)]
 pub enum Endpoint {
     Discovery,

@@ -1,4 +1,4 @@
-//! What follows from the definitions: the contracts are the laws, and the functions do nothing.
+//! Theorems about the definitions. Each `ensures` states one; the functions have no effect.
 
 ghost use Rattle.std.specs.Prelude.{◌≡◌, ℕ, List, Option};
 ghost use Rattle.taxii_routes.specs.declared.route.Route.{Route};
@@ -8,7 +8,7 @@ ghost use Rattle.taxii_routes.specs.Target.{IsTargetOf};
 ghost use Rattle.taxii_routes.specs.Route.{IsPathOf};
 ghost use Rattle.taxii_routes.specs.Query.{Pair, IsQueryOf, IsRefusedAs};
 
-/// A target has one path, and one query at most.
+/// A target has one path and at most one query.
 pub fn one_target()
     ensures path { (target first second : List ℕ) (query other : Option (List ℕ))
         → IsTargetOf target first query → IsTargetOf target second other → first ≡ second }
@@ -16,25 +16,25 @@ pub fn one_target()
         → IsTargetOf target first query → IsTargetOf target second other → query ≡ other }
 {}
 
-/// A path has one route at most.
+/// A path has at most one route.
 pub fn one_route()
     ensures { (path : List ℕ) (first second : Route) → IsPathOf path first → IsPathOf path second
         → first ≡ second }
 {}
 
-/// Pairs ask for one query at most.
+/// The meaning of a list of pairs is unique.
 pub fn one_query()
     ensures { (pairs : List Pair) (first second : Query) → IsQueryOf pairs first
         → IsQueryOf pairs second → first ≡ second }
 {}
 
-/// Pairs are refused in one way at most.
+/// The refusal of a list of pairs is unique.
 pub fn one_refusal()
     ensures { (pairs : List Pair) (first second : QueryRefusal) → IsRefusedAs pairs first
         → IsRefusedAs pairs second → first ≡ second }
 {}
 
-/// Pairs that ask for a query aren't refused.
+/// No list of pairs has both a meaning and a refusal.
 pub fn never_both()
     ensures { (pairs : List Pair) (query : Query) (refusal : QueryRefusal) → IsQueryOf pairs query
         → ¬ IsRefusedAs pairs refusal }

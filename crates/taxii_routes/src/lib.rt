@@ -1,7 +1,14 @@
-//! What a request asks for, in TAXII 2.1: the route of its path (the endpoints of sections 4 and 5),
-//! the query behind it (sections 3.4 and 3.5) and the media types of its header fields (section 1.6.8).
-//! Each is read exactly: a path has one route at most, a query one meaning or one refusal, which is
-//! that of its first bad pair.
+//! Parses TAXII 2.1 requests: the endpoint of the path (sections 4 and 5), the filters and the page
+//! of the query (sections 3.4 and 3.5), and the media types of the header fields (section 1.6.8).
+//!
+//! Parsing is exact: a path has at most one route, and a query has one meaning or one refusal, that
+//! of its first invalid parameter. Unknown parameters are ignored.
+//!
+//! ```text
+//! let (path, query) = split_target("/api/collections/91a7b528/objects/?limit=10");
+//! let route = routes.route(path)?;                       // Route::Objects("91a7b528")
+//! let query = read_query(alloc, query.unwrap_or(""))?;   // query.limit == Some(10)
+//! ```
 #![tactic(auto)]
 
 mod endpoint;

@@ -5,23 +5,23 @@ ghost use Rattle.taxii_routes.specs.MediaType as spec;
 
 use crate::whitespace::{is_named, trimmed};
 
-/// Whether the value of an Accept field takes TAXII 2.1: some member of its list is TAXII's media type
-/// or `*/*` or `application/*`. Weights are passed over. Takes no memory.
+/// Whether an Accept value allows TAXII 2.1: it lists TAXII's media type, `application/*` or `*/*`.
+/// Weights are ignored. Allocates nothing.
 pub fn accepts(header: &str) -> bool
     ensures { IsTrue result ↔ Accepts header.now }
 {
     header.split(',').any(|member| is_taken(member))
 }
 
-/// Whether a member of an Accept field takes TAXII's media type.
+/// Whether one member of an Accept value allows TAXII's media type.
 fn is_taken(member: &str) -> bool
     ensures { IsTrue result ↔ (IsTaxii member.now ⊎ IsWildcard member.now) }
 {
     is_taxii(member) || is_wildcard(member)
 }
 
-/// Whether the value of a Content-Type field is TAXII's media type, `application/taxii+json`, with no
-/// version but 2.1. Takes no memory.
+/// Whether a Content-Type value is `application/taxii+json`, without a version or with version 2.1.
+/// Allocates nothing.
 pub fn is_taxii(header: &str) -> bool
     ensures { IsTrue result ↔ IsTaxii header.now }
 {
@@ -33,7 +33,7 @@ pub fn is_taxii(header: &str) -> bool
     }
 }
 
-/// Whether no parameter of these says another version.
+/// Whether no parameter names another version.
 fn names_no_other_version(parameters: &str) -> bool
     ensures { IsTrue result ↔ All NamesNoOtherVersion (slice_split is_semicolon parameters.now) }
 {
@@ -42,7 +42,7 @@ fn names_no_other_version(parameters: &str) -> bool
         .all(|parameter| is_version_2_1_or_absent(parameter))
 }
 
-/// Whether a parameter isn't another version.
+/// Whether this parameter is not a version other than 2.1.
 fn is_version_2_1_or_absent(parameter: &str) -> bool
     ensures { IsTrue result ↔ NamesNoOtherVersion parameter.now }
 {
@@ -60,7 +60,7 @@ fn is_version(value: &str) -> bool
     value == b"2.1".as_slice() || value == b"\"2.1\"".as_slice()
 }
 
-/// Whether the media range takes in every type of which TAXII's is one.
+/// Whether the media range is a wildcard that includes TAXII's type.
 fn is_wildcard(member: &str) -> bool
     ensures { IsTrue result ↔ IsWildcard member.now }
 {
@@ -68,7 +68,7 @@ fn is_wildcard(member: &str) -> bool
     is_named(range, "*/*") || is_named(range, "application/*")
 }
 
-/// What stands before the parameters.
+/// The media type without its parameters.
 fn range_of(text: &str) -> &str
     ensures { result.now ≡ spec.range_of text.now }
 {

@@ -10,14 +10,14 @@ use flow_values::{Items, NoMemory, Text};
 use std::alloc::{AllocError, Global};
 use stix_ids::{Id, IdRefusal, Pick, read_id};
 
-/// The members of a list, lent: what stands between its commas.
+/// The comma-separated members of a list, borrowed.
 fn members(alloc: Global, value: &str) -> Result<Vec<&str>, AllocError>
     ensures { IfOk result (λ texts. map (λ text. text.now) texts.items ≡ spec.members value.now) }
 {
     value.split(',').collect(alloc)
 }
 
-/// The members of a list of texts, if none is empty.
+/// The members of a list as owned texts, or `None` if one is empty.
 pub(crate) fn read_texts(alloc: Global, value: &str) -> Result<Option<Items<Text>>, NoMemory>
     ensures { IfOk result (FindsExactly (AreTexts value.now)) }
 {
@@ -32,7 +32,7 @@ pub(crate) fn read_texts(alloc: Global, value: &str) -> Result<Option<Items<Text
     Ok(Some(texts))
 }
 
-/// The identifiers of a list, if each member is one.
+/// The members of a list as STIX identifiers, or `None` if one is malformed.
 pub(crate) fn read_ids(alloc: Global, value: &str) -> Result<Option<Items<Id>>, NoMemory>
     ensures { IfOk result (FindsExactly (AllZip IsTextOf (spec.members value.now))) }
 {
@@ -47,7 +47,7 @@ pub(crate) fn read_ids(alloc: Global, value: &str) -> Result<Option<Items<Id>>, 
     Ok(Some(ids))
 }
 
-/// The identifier that a member is, if it is one.
+/// The member as a STIX identifier, if it is one.
 fn identifier(alloc: Global, member: &str) -> Result<Option<Id>, NoMemory>
     ensures { IfOk result (FindsExactly (IsTextOf member.now)) }
 {
@@ -60,7 +60,7 @@ fn identifier(alloc: Global, member: &str) -> Result<Option<Id>, NoMemory>
     }
 }
 
-/// What the members of a `match[version]` ask for, if each is of the form.
+/// The members of a `match[version]` value, or `None` if one is malformed.
 pub(crate) fn read_picks(alloc: Global, value: &str) -> Result<Option<Items<Pick>>, NoMemory>
     ensures { IfOk result (FindsExactly (AllZip IsPickText (spec.members value.now))) }
 {

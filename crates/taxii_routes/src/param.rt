@@ -2,27 +2,27 @@ ghost use Rattle.std.specs.Prelude.{◌≡◌, ℕ, List, option_map, Some, Matc
 ghost use Rattle.flow_values.specs.Answers.{FindsExactly};
 ghost use Rattle.taxii_routes.specs.Param.{name_of};
 
-/// A parameter of a query (TAXII 2.1, sections 3.4 and 3.5).
+/// A query parameter (TAXII 2.1, sections 3.4 and 3.5).
 #[derive(Clone, Copy, Debug, PartialEq, Eq)]
 pub enum Param {
-    /// Only what was added after an instant.
+    /// `added_after`: only objects added after an instant.
     AddedAfter,
-    /// How many things a page may have.
+    /// `limit`: the maximum number of objects in a page.
     Limit,
-    /// Where the next page begins.
+    /// `next`: the cursor of the next page.
     Next,
-    /// The identifiers of the objects.
+    /// `match[id]`: the identifiers of the objects.
     MatchId,
-    /// The types of the objects.
+    /// `match[type]`: the types of the objects.
     MatchType,
-    /// Which versions of an object.
+    /// `match[version]`: which versions of each object.
     MatchVersion,
-    /// The versions of the standard that the objects follow.
+    /// `match[spec_version]`: the STIX versions of the objects.
     MatchSpec,
 }
 
 impl Param {
-    /// The parameter's name in a query.
+    /// The parameter's name in a query string.
     pub fn name(self) -> &'static str
         ensures { result.now ≡ name_of self }
     {
@@ -37,7 +37,7 @@ impl Param {
         }
     }
 
-    /// The parameter of this name, if one has it.
+    /// The parameter with this name, if any.
     pub(crate) fn named(name: &str) -> Option<Param>
         ensures { FindsExactly (λ param. name.now ≡ name_of param) result }
     {

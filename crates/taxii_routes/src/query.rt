@@ -13,27 +13,28 @@ use std::alloc::Global;
 use stix_ids::{Id, Pick};
 use stix_times::Instant;
 
-/// What a query asks for: of each parameter what its value means, and none where it isn't named.
+/// A parsed query: the value of each parameter, or `None` if it is absent.
 #[derive(Debug, Drop)]
 pub struct Query {
-    /// Only what was added after this instant (`added_after`).
+    /// Only objects added after this instant (`added_after`).
     pub added_after: Option<Instant>,
-    /// How many things a page may have (`limit`).
+    /// The maximum number of objects in a page (`limit`).
     pub limit: Option<u64>,
-    /// Where the page begins (`next`).
+    /// The cursor of the page (`next`): the date of the last row of the page before.
     pub next: Option<u64>,
     /// The identifiers of the objects (`match[id]`).
     pub ids: Option<Items<Id>>,
     /// The types of the objects (`match[type]`).
     pub kinds: Option<Items<Text>>,
-    /// Which versions of an object (`match[version]`).
+    /// Which versions of each object (`match[version]`).
     pub picks: Option<Items<Pick>>,
-    /// The versions of the standard (`match[spec_version]`).
+    /// The STIX versions of the objects (`match[spec_version]`).
     pub specs: Option<Items<Text>>,
 }
 
-/// The query of the text behind the `?` of a target. Its pairs are judged from left to right, and the
-/// first bad one is refused. Parameters of other names are passed over.
+/// Parses the query string after the `?` of a target. The first invalid parameter from left to
+/// right is refused: `BadValue`, or `Repeated` if it occurred before. Unknown parameters are
+/// ignored. O(n) in the length of the text.
 pub fn read_query(alloc: Global, text: &str) -> Result<Query, QueryRefusal>
     ensures ok { IfOk result (IsQueryOf (pairs_of text.now)) }
     ensures err { IfErr result
@@ -47,7 +48,7 @@ pub fn read_query(alloc: Global, text: &str) -> Result<Query, QueryRefusal>
 }
 
 impl Query {
-    /// A query that asks for nothing.
+    /// A query without parameters.
     fn new() -> Query
         ensures { (param : Param) → asked param result ≡ None }
     {
@@ -62,7 +63,7 @@ impl Query {
         }
     }
 
-    /// Whether the query asks for something by the parameter.
+    /// Whether the parameter is present.
     fn has(&self, param: Param) -> bool
         ensures { IsTrue result ↔ (asked param self.now ≢ None) }
     {
@@ -77,7 +78,7 @@ impl Query {
         }
     }
 
-    /// Adds what an encoded pair asks for, which is nothing where no parameter has its name.
+    /// Adds a percent-encoded pair; unknown names are ignored.
     fn add_pair(&mut self, alloc: Global, name: &[u8], value: &[u8]) -> Result<(), QueryRefusal>
         ensures ok { OnOk result (Steps name.now value.now self.old self.new) }
         ensures err { IfErr result (Stops name.now value.now self.old) }
@@ -92,7 +93,7 @@ impl Query {
         }
     }
 
-    /// Adds what a value of the parameter asks for.
+    /// Parses a value, and stores it under its parameter.
     fn add(&mut self, alloc: Global, param: Param, value: &str) -> Result<(), QueryRefusal>
         ensures ok { OnOk result (Adds param value.now self.old self.new) }
         ensures err { IfErr result (CannotAdd param value.now self.old) }
@@ -113,7 +114,7 @@ impl Query {
     }
 }
 
-/// Sets what is asked for by a parameter, where its value has a meaning.
+/// Stores a parsed value; `None` means that it is malformed.
 fn set<T: Drop>(
     slot: &mut Option<T>,
     meaning: Option<T>,

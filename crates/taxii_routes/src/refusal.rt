@@ -3,13 +3,13 @@ use flow_values::NoMemory;
 use std::alloc::AllocError;
 use thiserror::Error;
 
-/// Why a query was not read: what is wrong with its first bad pair.
+/// Why a query is refused: the fault of its first invalid parameter.
 #[derive(Clone, Copy, Debug, PartialEq, Eq, Error)]
 pub enum QueryRefusal {
-    /// The value isn't of the parameter's form.
+    /// The value is malformed.
     #[error("bad value of {}", .name.name())]
     BadValue { name: Param },
-    /// The parameter stood before.
+    /// The parameter occurs twice.
     #[error("repeated {}", .name.name())]
     Repeated { name: Param },
     /// Memory ran out.

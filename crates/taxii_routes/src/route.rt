@@ -1,7 +1,7 @@
 use flow_values::Text;
 
-/// What a path names (the endpoints of TAXII 2.1, sections 4 and 5), with the texts that stand in it as
-/// they stand there, not decoded.
+/// The resource that a path names (TAXII 2.1, sections 4 and 5), with the raw path segments, which
+/// are not decoded.
 #[derive(Debug, Drop)]
 pub enum Route {
     /// `/taxii2/`
@@ -22,6 +22,6 @@ pub enum Route {
     Object { collection: Text, object: Text },
     /// `/api/collections/{id}/objects/{object}/versions/`
     Versions { collection: Text, object: Text },
-    /// No path of these.
+    /// None of these paths.
     None,
 }

@@ -1,3 +1,5 @@
+//! The routing table: a radix-tree router (`matchit`) over the paths of TAXII 2.1.
+
 ghost use Rattle.std.specs.Prelude.{◌≡◌, ◌≢◌, ℕ, List, [], Ok, IfOk, OnOk, OnErr};
 ghost use Rattle.taxii_routes.specs.declared.route.Route.{Route};
 ghost use Rattle.taxii_routes.specs.declared.route.Route.TheVariants as Route;
@@ -11,7 +13,7 @@ use flow_values::{NoMemory, Text};
 use matchit::{InsertError, Params, Router};
 use std::alloc::Global;
 
-/// The routes of the server, made ready for look-ups.
+/// The routing table.
 #[derive(Drop)]
 pub struct Routes {
     alloc: Global,
@@ -20,7 +22,7 @@ pub struct Routes {
 }
 
 impl Routes {
-    /// The routes of the server.
+    /// The routing table of a TAXII server with one API root, `/api/`.
     pub fn new(alloc: Global) -> Result<Routes, NoMemory> {
         match router(alloc) {
             Ok(router) => Ok(Routes { alloc, router }),
@@ -28,8 +30,9 @@ impl Routes {
         }
     }
 
-    /// The route of a path, which ends before the `?` of a target. Nothing in it is decoded. A path
-    /// without a route is answered as such also without memory.
+    /// The route of a path, without the query. Segments are not decoded. `Err` means that a path
+    /// has a route but its segments could not be copied, so a wrong path is reported even when out
+    /// of memory.
     pub fn route(&self, path: &str) -> Result<Route, NoMemory>
         ensures found { IfOk result (λ route. route ≢ Route.None → IsPathOf path.now route) }
         ensures none { result ≡ Ok Route.None → (route : Route) → ¬ IsPathOf path.now route }
@@ -41,7 +44,7 @@ impl Routes {
         }
     }
 
-    /// The route of the endpoint, with what the parameters of a match took.
+    /// The route of an endpoint with its path parameters.
     fn named(&self, endpoint: Endpoint, params: &Params<'_, '_>) -> Result<Route, NoMemory>
         ensures { (path : List ℕ) → Found endpoint path (taken params.now)
             → IfOk result (λ route. (route ≢ Route.None) × IsPathOf path route) }
@@ -67,7 +70,7 @@ impl Routes {
         }
     }
 
-    /// What stands in the path for a name.
+    /// The path parameter with this name.
     fn text(&self, params: &Params<'_, '_>, name: &str) -> Result<Text, NoMemory>
         ensures { (value : List ℕ) → Takes (taken params.now) name.now value
             → IfOk result (λ text. text ≡ value) }
@@ -79,7 +82,7 @@ impl Routes {
     }
 }
 
-/// A router with all rows.
+/// A router with all paths.
 fn router(alloc: Global) -> Result<Router<Endpoint>, InsertError>
     ensures { IfOk result (λ router. router ≡ table) }
 {
@@ -88,7 +91,7 @@ fn router(alloc: Global) -> Result<Router<Endpoint>, InsertError>
     Ok(router)
 }
 
-/// Inserts all rows into a router without rows.
+/// Inserts all paths into an empty router.
 fn insert_routes(router: &mut Router<Endpoint>) -> Result<(), InsertError>
     requires { router.old ≡ [] }
     ensures { OnOk result (router.new ≡ table) }

@@ -1,7 +1,7 @@
 ghost use Rattle.std.specs.Prelude.{option_map};
 ghost use Rattle.taxii_routes.specs.Target.{IsTargetOf};
 
-/// The path of a target, and the query behind its first `?`, if it has one. Takes no memory.
+/// Splits a request target at its first `?` into path and query. Allocates nothing.
 pub fn split_target(target: &str) -> (&str, Option<&str>)
     ensures { IsTargetOf target.now result.0.now (option_map (λ query. query.now) result.1) }
 {

@@ -6,22 +6,22 @@ ghost use Rattle.taxii_routes.specs.Value.{IsLimit, IsNext, IsHexDigit, IsPickTe
 use stix_ids::Pick;
 use stix_times::{Instant, nanos, read};
 
-/// How many digits a limit may have.
+/// The maximum number of digits of a limit.
 const LIMIT_LENGTH: usize = 18;
 
-/// How many digits a place to go on from has.
+/// The number of hexadecimal digits of a cursor.
 const NEXT_LENGTH: usize = 16;
 
 const NANOS_PER_MICRO: i128 = 1000;
 
-/// The instant of a timestamp.
+/// Parses a timestamp.
 pub(crate) fn read_instant(value: &str) -> Option<Instant>
     ensures { FindsExactly (time.IsTextOf value.now) result }
 {
     read(value).ok()
 }
 
-/// The limit that one to eighteen decimal digits are, if it isn't zero.
+/// Parses a limit: one to 18 decimal digits, not zero.
 pub(crate) fn read_limit(value: &str) -> Option<u64>
     ensures { FindsExactly (IsLimit value.now) result }
 {
@@ -35,7 +35,7 @@ pub(crate) fn read_limit(value: &str) -> Option<u64>
     Some(limit)
 }
 
-/// The number that sixteen hex digits in lower case are.
+/// Parses a cursor: 16 lower-case hexadecimal digits.
 pub(crate) fn read_next(value: &str) -> Option<u64>
     ensures { FindsExactly (IsNext value.now) result }
 {
@@ -45,7 +45,7 @@ pub(crate) fn read_next(value: &str) -> Option<u64>
     u64::from_str_radix(value, 16).ok()
 }
 
-/// Whether each byte is a hex digit in lower case.
+/// Whether each byte is a lower-case hexadecimal digit.
 fn has_hex_digits(text: &str) -> bool
     ensures { IsTrue result ↔ All IsHexDigit text.now }
 {
@@ -54,7 +54,7 @@ fn has_hex_digits(text: &str) -> bool
         .all(|byte| matches!(*byte, b'0'..=b'9' | b'a'..=b'f'))
 }
 
-/// The versions that a member of `match[version]` asks for.
+/// Parses one member of a `match[version]` value.
 pub(crate) fn read_pick(text: &str) -> Option<Pick>
     ensures { FindsExactly (IsPickText text.now) result }
 {
@@ -66,7 +66,7 @@ pub(crate) fn read_pick(text: &str) -> Option<Pick>
     }
 }
 
-/// The microseconds since 1970 of a timestamp that has no finer part.
+/// Parses a timestamp without a part below one microsecond, as microseconds since 1970.
 fn read_micros(text: &str) -> Option<i64>
     ensures { FindsExactly (IsTextOfMicros text.now) result }
 {

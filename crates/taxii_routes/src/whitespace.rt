@@ -2,14 +2,14 @@ ghost use Rattle.std.specs.Prelude.{◌≡◌, ◌↔◌, IsTrue};
 ghost use Rattle.taxii_routes.specs.MediaType.{IsNamed};
 ghost use Rattle.taxii_routes.specs.MediaType as spec;
 
-/// The text without the spaces and tabs at both ends.
+/// The text without leading and trailing spaces and tabs.
 pub(crate) fn trimmed(text: &str) -> &[u8]
     ensures { result.now ≡ spec.trimmed text.now }
 {
     without_back(without_front(text.as_bytes()))
 }
 
-/// Whether the text, trimmed, is the name, in letters of either case.
+/// Whether the trimmed text equals the name, ignoring ASCII case.
 pub(crate) fn is_named(text: &str, name: &str) -> bool
     ensures { IsTrue result ↔ IsNamed name.now text.now }
 {

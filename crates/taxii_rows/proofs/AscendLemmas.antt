@@ -22,7 +22,7 @@ at_least least (date ∷ dates) zero d ascend within = ascend.0
 at_least least (date ∷ dates) (suc j) d ascend within =
     let rest : date + 1 ≤ get_or dates j d = at_least (date + 1) dates j d ascend.1 (omega arith) in omega (arith, ascend.0)
 
--- no date is later than one behind it
+-- no date is later than one after it
 pub never_fall : (least : ℕ) (dates : List ℕ) → AscendFrom least dates → (i j d : ℕ) → i ≤ j → j < length dates → get_or dates i d ≤ get_or dates j d
 never_fall least [] ascend i j d before within = absurd (omega arith)
 never_fall least (date ∷ dates) ascend zero zero d before within = omega arith

@@ -1,4 +1,4 @@
--- Why a keeper failed, in words.
+-- The cause of a keeper's fault as a text.
 use Rattle.std.specs.Prelude.{ℕ, List, codes}
 use Rattle.taxii_rows.specs.declared.fault_cause.FaultCause.{FaultCause}
 use Rattle.taxii_rows.specs.declared.fault_cause.FaultCause.TheVariants.{NotKnown, Closed, Locked, NoFolder, NoFile, Denied, ReadOnly, Journal, NotOpened, NoDatabase, Damaged, OtherLayout, LaterLayout, Unsound, Full, Disk}

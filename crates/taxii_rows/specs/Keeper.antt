@@ -1,4 +1,4 @@
--- What a keeper of rows answers and leaves, where it tells its rows.
+-- What a keeper's calls return and store, if its rows are observable.
 use Rattle.std.specs.Prelude.{◌≡◌, ℕ, ◌≤◌, List, ◌++◌, Bool, true, not, nat_eq, nat_lt, Option, option_map, IfSome, All, find, filter}
 use Rattle.std.specs.List.{list_any}
 use Rattle.taxii_rows.specs.declared.stored_row.StoredRow.{StoredRow}
@@ -24,24 +24,26 @@ with_rows rows watermark state = record { rows = state.rows ++ rows; watermark =
 abbrev pub without : List ℕ → StoreState → StoreState
 without dates state = record { rows = filter (λ row. not (is_date_in dates row.date)) state.rows; watermark = state.watermark }
 
--- what contracts see of a keeper: where it tells its rows, these with the last date ever given, and the name that an `attach` last took;
--- and whether an `attach` has answered `Ok`, which every keeper tells
+-- the observable state of a keeper: its rows with the watermark and the name of the last `attach`,
+-- if it makes them observable, and whether an `attach` has succeeded, which every keeper makes
+-- observable
 pub record Kept : Type 0 where
   pub observable : Option StoreState
   pub name : Option (List ℕ)
   pub attached : Bool
 
--- with another state, where one is told
+-- with another state, where one is reported
 abbrev pub updated : (StoreState → StoreState) → Kept → Kept
 updated change kept = record { observable = option_map change kept.observable; name = kept.name; attached = kept.attached }
 
--- with the rows at the end the dates ascend strictly, and the watermark isn't earlier than one of the rows
+-- with the rows at the end the dates ascend strictly, and the watermark is no earlier than any of
+-- these rows
 pub record CanAppend (rows : List StoredRow) (watermark : ℕ) (state : StoreState) : Type 0 where
   pub ascend : AscendFrom 1 (dates_of (state.rows ++ rows))
   pub marked : All (λ row. row.date ≤ watermark) rows
 
--- what stands after an `attach` under a text: the keeper is attached, and where it tells its rows, their dates ascend strictly
--- and the text is its name
+-- the result of an `attach` under a name: the keeper is attached; if its rows are observable, their
+-- dates ascend strictly and this is its name
 pub record IsAttached (text : List ℕ) (kept : Kept) : Type 0 where
   pub attached : kept.attached ≡ true
   pub named : kept.name ≡ option_map (λ _. text) kept.observable

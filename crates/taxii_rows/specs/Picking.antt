@@ -1,5 +1,5 @@
--- Which versions of an object are picked (`match[version]` of TAXII 2.1, section 3.4), among the rows of one collection and
--- identifier that a store has.
+-- Which versions of an object are picked (`match[version]` of TAXII 2.1, section 3.4), among the
+-- rows of one collection and identifier that a store has.
 use Rattle.std.specs.Prelude.{◌≡◌, ◌⊎◌, ◌<ℤ◌, ◌≤◌, true, ⊤, List, Any}
 use Rattle.std.specs.List.{Contains}
 use Rattle.stix_ids.specs.declared.pick.Pick.{Pick}
@@ -7,7 +7,7 @@ use Rattle.stix_ids.specs.declared.pick.Pick.TheVariants.{Last, First, All, At}
 use Rattle.taxii_rows.specs.declared.stored_row.StoredRow.{StoredRow}
 use Rattle.taxii_rows.specs.Identity.{is_row_of}
 
--- the second row isn't later than the first: by version, and of one version by date
+-- the second row is not later than the first: by version, and of one version by date
 abbrev pub IsNotBefore : StoredRow → StoredRow → Type 0
 IsNotBefore row other = (other.version <ℤ row.version) ⊎ ((other.version ≡ row.version) × (other.date ≤ row.date))
 

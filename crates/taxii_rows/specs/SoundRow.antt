@@ -1,4 +1,4 @@
--- What makes the rows of a store sound: each is what its body gives, and their dates ascend up to the watermark.
+-- Soundness of a store: each row agrees with its body, and the dates ascend up to the watermark.
 use Rattle.std.specs.Prelude.{◌≡◌, ◌⊎◌, ◌≤◌, pos, All}
 use Rattle.std.specs.Bool.{MatchBool}
 use Rattle.serde_json.specs.Data.{Data}
@@ -14,7 +14,8 @@ use Rattle.taxii_rows.specs.declared.type_set.TypeSet.TheVariants.{First, Second
 use Rattle.taxii_rows.specs.StoreState.{StoreState, dates_of, AscendFrom}
 use Rattle.taxii_rows.specs.Version.{HasVersion, IsUndated}
 
--- the row has the object's version, or the object is undated and the row has its own date as its version
+-- the row has the object's version, or the object is undated and the row has its own date as its
+-- version
 abbrev pub FitsUnder : TypeSet → StoredRow → Data → Type 0
 FitsUnder set row d =
     MatchBool row.dated (HasVersion set d row.version) (IsUndated set d × (row.version ≡ pos row.date))
@@ -35,7 +36,8 @@ pub record IsSoundRow (row : StoredRow) : Type 0 where
   pub reads : IsJsonOf row.body object
   pub makes : IsRowOf row (data_of object)
 
--- the dates ascend strictly from at least 1, none is later than the watermark, nor is the watermark than the last date there is, and each row is sound
+-- the dates ascend strictly from at least 1, none is after the watermark, the watermark is no later
+-- than the last valid date, and each row is sound
 pub record IsSoundState (state : StoreState) : Type 0 where
   pub ascend : AscendFrom 1 (dates_of state.rows)
   pub marked : All (λ row. row.date ≤ state.watermark) state.rows

@@ -1,4 +1,5 @@
--- The state of a TAXII store (TAXII 2.1, section 3.4): rows by the date when each was added, and the last date ever given.
+-- The state of a TAXII store (TAXII 2.1, section 3.4): rows by the date when each was added, and
+-- the last date ever given.
 use Rattle.std.specs.Prelude.{⊤, ℕ, ◌+◌, ◌≤◌, List, [], ◌∷◌, map}
 use Rattle.taxii_rows.specs.declared.stored_row.StoredRow.{StoredRow}
 

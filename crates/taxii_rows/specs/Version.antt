@@ -1,5 +1,6 @@
--- The version of an object (STIX 2.1, sections 3.2 and 3.6; TAXII 2.1, section 3.4): its `modified`, else its `created`, in
--- microseconds since 1970. An observable of a known type has none (STIX 2.1, section 6), nor has an object without both.
+-- The version of an object (STIX 2.1, sections 3.2 and 3.6; TAXII 2.1, section 3.4): its
+-- `modified`, else its `created`, in microseconds since 1970. An observable of a known type has
+-- none (STIX 2.1, section 6), nor has an object without both.
 use Rattle.std.specs.Prelude.{◌≡◌, ◌⊎◌, ℕ, ℤ, pos, ◌*ℤ◌, List, Some, codes}
 use Rattle.serde_json.specs.Data.{Data}
 use Rattle.stix_json.specs.Properties.{text_at}
@@ -11,7 +12,8 @@ use Rattle.stix_objects.specs.Properties.{IsTimestampAt}
 use Rattle.taxii_rows.specs.declared.type_set.TypeSet.{TypeSet}
 use Rattle.taxii_rows.specs.declared.type_set.TypeSet.TheVariants.{First, Second}
 
--- the group of a kind: the first set has the types that were known at first, the second those that are known now
+-- the group of a kind: the first set has the types that were known at first, the second those that
+-- are known now
 abbrev pub group_under : TypeSet → List ℕ → Group
 group_under First kind = group_before_of kind
 group_under Second kind = group_of kind

@@ -14,24 +14,26 @@ use stix_ids::Id;
 use stix_json::{Json, write_json};
 use stix_objects::object_id;
 
-/// What a store keeps of an object.
+/// The parts of an object that a store keeps.
 #[derive(Drop)]
 pub struct Described {
     /// The object's identifier.
     pub id: Id,
-    /// The object's version in microseconds since 1970, where it tells one.
+    /// The object's version in microseconds since 1970; `None` if the object is undated.
     pub version: Option<i64>,
     /// The object as compact JSON.
     pub body: Text,
 }
 
-/// What a store keeps of an object whose names are in order, or none where the object has no
-/// identifier, which needs no memory. A row of what is kept is sound where JSON's limits take the object.
+/// Extracts the parts that a store keeps. `None`, without allocating, if the object has no
+/// identifier. The row made of them is sound if the object is within the limits of JSON.
 pub fn describe(alloc: Global, object: &Json) -> Result<Option<Described>, NoMemory>
     requires ordered { IsOrdered (data_of object.now) }
     ensures described { IfOk result (Describes (data_of object.now)) }
     ensures unnamed { ((id : Identifier) → ¬ HasId (data_of object.now) id) → result ≡ Ok None }
-    ensures sound { IfOk result (λ found. IfSome found (λ described. refusal_of (data_of object.now) ≡ None
+    // `refusal_of .. ≡ None` means that the reader accepts the object
+    ensures sound { IfOk result
+        (λ found. IfSome found (λ described. refusal_of (data_of object.now) ≡ None
         → (date collection : ℕ) → IsSoundRow (row_of described date collection))) }
 {
     let Some(parts) = object_id(object) else {
@@ -50,7 +52,8 @@ pub fn describe(alloc: Global, object: &Json) -> Result<Option<Described>, NoMem
 }
 
 impl Described {
-    /// The row of the object, added to a collection then.
+    /// The row of the object, added to a collection at `date`. The version of an undated object is
+    /// that date.
     pub fn into_row(self, date: u64, collection: u128) -> StoredRow
         requires { date ≤ LAST_DATE }
         ensures { result ≡ row_of self date collection }

@@ -1,45 +1,45 @@
 ghost use Rattle.std.specs.Prelude.{◌≡◌};
 ghost use Rattle.taxii_rows.specs.Causes.{text_of};
 
-/// Why a keeper failed, as far as it can tell.
+/// Why a keeper failed, as far as it knows.
 #[derive(Clone, Copy, Debug, PartialEq, Eq)]
 pub enum FaultCause {
-    /// The keeper can't tell, or no call of it has failed.
+    /// Unknown, or no call has failed.
     NotKnown,
-    /// It isn't attached, or an earlier failure has shut it.
+    /// Not attached, or closed by an earlier failure.
     Closed,
-    /// Another process has the file.
+    /// Another process holds the file.
     Locked,
-    /// The folder of the file isn't there.
+    /// The file's directory does not exist.
     NoFolder,
-    /// The path is that of a folder, a link or a device.
+    /// The path is a directory, a link or a device.
     NoFile,
-    /// The process may not read and write the file, or make it.
+    /// The process lacks the permission to read and write the file, or to create it.
     Denied,
-    /// The file system takes no writes.
+    /// The file system is read-only.
     ReadOnly,
-    /// Another program left a rollback journal, which only that program can play back.
+    /// Another program left a rollback journal, which only that program can replay.
     Journal,
-    /// The system opens no such file.
+    /// The system cannot open the file.
     NotOpened,
-    /// The file is no database, or one whose rows break its own rules.
+    /// The file is not a database, or its rows violate its own constraints.
     NoDatabase,
-    /// A page of the file isn't what was written.
+    /// A page of the file is corrupt.
     Damaged,
-    /// The database has other tables than a store.
+    /// The database has tables other than those of a store.
     OtherLayout,
-    /// A later version of this program made the store.
+    /// A later version of this program created the store.
     LaterLayout,
-    /// The tables hold what no store writes.
+    /// The tables contain values that no store writes.
     Unsound,
-    /// The disk has no room.
+    /// The disk is full.
     Full,
-    /// The disk failed.
+    /// The disk reported an error.
     Disk,
 }
 
 impl FaultCause {
-    /// The cause in a few words, of what is kept.
+    /// The cause as a clause whose subject is the store, for error messages.
     pub fn text(self) -> &'static str
         ensures { result.now ≡ text_of self }
     {

@@ -6,64 +6,78 @@ ghost use Rattle.flow_edges.specs.Faults.{Counted};
 
 use crate::{FaultCause, KeeperRefusal, StoredRow};
 
-/// Where rows last: a file, or memory. It is attached under a name first, and then its rows are read,
-/// added and removed.
+/// Persistent storage of rows: a file, or memory. It is attached under a name first; then its rows
+/// are read, added and removed.
 ///
-/// A call that answers `Ok` is done whole. After a refusal the rows, the watermark and the name are as they
-/// were, where the keeper tells them; one over a file may have ended, and then each later call is a fault.
-/// A `Fault` is counted; no other answer is.
+/// Calls are atomic. After `Ok` the whole effect is stored. After an error the rows, the watermark
+/// and the name are unchanged, as far as they are observable. Storage in a file may become closed
+/// by a failure, and then every later call is a `Fault`. Exactly the faults are counted.
 pub trait Keeper {
-    /// Its rows and its name, where it tells them, and whether it is attached.
+    /// The rows, the watermark and the name, as far as they are observable, and whether it is
+    /// attached.
     ghost kept: { Self → Kept };
 
-    /// How many calls failed.
+    /// The number of calls that failed.
     ghost faults: { Self → ℕ };
 
-    /// Why the last one of them did.
+    /// The cause of the last fault.
     ghost last_cause: { Self → Cause };
 
-    /// A number that nobody who sends objects knows, with which a library names the rows that it has in memory. No clause
-    /// speaks of it: where it is known, look-ups may take long, and nothing else changes.
+    /// A secret number that clients who send objects do not know. The library uses it as the key of
+    /// its hashes. No clause depends on it: if it leaks, lookups may become slow, and nothing else
+    /// changes.
     fn secret(&self) -> u128;
 
-    /// Why the last call that was a fault failed.
+    /// The cause of the last fault.
     fn cause(&self) -> FaultCause
         ensures { result ≡ last_cause self.now };
 
-    /// Makes the rows under a name ready.
+    /// Opens the rows stored under a name.
     fn attach(&mut self, text: &str) -> Result<(), KeeperRefusal>
         ensures ok { OnOk result (IsAttached text.now (kept self.new)) }
         ensures err { OnErr result (kept self.new ≡ kept self.old) }
         ensures observable { (kept self.new).observable ≡ (kept self.old).observable }
-        ensures causes { Counted (result ≡ Err KeeperRefusal.Fault) (faults self.old) (faults self.new) };
+        ensures causes { Counted (result ≡ Err KeeperRefusal.Fault) (faults self.old)
+            (faults self.new) };
 
-    /// The first row that was added later than this date, or none where there is none.
+    /// The first row added later than this date, if any.
     fn next_after(&mut self, date: u64) -> Result<Option<StoredRow>, KeeperRefusal>
         requires attached { (kept self.old).attached ≡ true }
-        ensures row { IfOk result (λ found. IfSome (kept self.old).observable (λ state. found ≡ row_after date state.rows)) }
+        ensures row { IfOk result
+            (λ found. IfSome (kept self.old).observable
+            (λ state. found ≡ row_after date state.rows)) }
         ensures stays { kept self.new ≡ kept self.old }
-        ensures causes { Counted (result ≡ Err KeeperRefusal.Fault) (faults self.old) (faults self.new) };
+        ensures causes { Counted (result ≡ Err KeeperRefusal.Fault) (faults self.old)
+            (faults self.new) };
 
-    /// The last date ever given.
+    /// The watermark: the last date ever given, in microseconds since 1970.
     fn watermark(&mut self) -> Result<u64, KeeperRefusal>
         requires attached { (kept self.old).attached ≡ true }
-        ensures watermark { IfOk result (λ date. IfSome (kept self.old).observable (λ state. date ≡ state.watermark)) }
+        ensures watermark { IfOk result
+            (λ date. IfSome (kept self.old).observable (λ state. date ≡ state.watermark)) }
         ensures stays { kept self.new ≡ kept self.old }
-        ensures causes { Counted (result ≡ Err KeeperRefusal.Fault) (faults self.old) (faults self.new) };
+        ensures causes { Counted (result ≡ Err KeeperRefusal.Fault) (faults self.old)
+            (faults self.new) };
 
-    /// Adds rows at the end, and makes `watermark` the last date ever given.
+    /// Appends rows, and sets the watermark.
     fn append(&mut self, rows: &[StoredRow], watermark: u64) -> Result<(), KeeperRefusal>
         requires attached { (kept self.old).attached ≡ true }
+        // the new rows' dates follow all others, and none is after the new watermark
         requires later { IfSome (kept self.old).observable (CanAppend rows.now watermark) }
-        ensures ok { OnOk result (kept self.new ≡ updated (with_rows rows.now watermark) (kept self.old)) }
+        ensures ok { OnOk result
+            (kept self.new ≡ updated (with_rows rows.now watermark) (kept self.old)) }
         ensures err { OnErr result (kept self.new ≡ kept self.old) }
-        ensures causes { Counted (result ≡ Err KeeperRefusal.Fault) (faults self.old) (faults self.new) };
+        ensures causes { Counted (result ≡ Err KeeperRefusal.Fault) (faults self.old)
+            (faults self.new) };
 
-    /// Removes the rows of these dates, which ascend. The last date ever given stays.
+    /// Removes the rows of these dates, which ascend. The watermark stays, so no date is given
+    /// twice.
     fn remove(&mut self, dates: &[u64]) -> Result<(), KeeperRefusal>
         requires attached { (kept self.old).attached ≡ true }
+        // the dates are distinct, and sorted for binary search
         requires ascend { AscendFrom 0 dates.now }
         ensures ok { OnOk result (kept self.new ≡ updated (without dates.now) (kept self.old)) }
         ensures err { OnErr result (kept self.new ≡ kept self.old) }
-        ensures causes { Counted (result ≡ Err KeeperRefusal.Fault) (faults self.old) (faults self.new) };
+        ensures causes { Counted (result ≡ Err KeeperRefusal.Fault) (faults self.old)
+            (faults self.new) };
 }

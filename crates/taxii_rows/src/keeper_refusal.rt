@@ -1,10 +1,10 @@
 use flow_values::{Fault, NoMemory};
 use thiserror::Error;
 
-/// Why a keeper didn't do what it was called for.
+/// Why a call of a keeper failed.
 #[derive(Clone, Copy, Debug, PartialEq, Eq, Error)]
 pub enum KeeperRefusal {
-    /// The outside failed, and the keeper has counted it.
+    /// The storage failed, and the keeper has counted it.
     #[error("the keeper of the rows failed")]
     Fault,
     /// Memory ran out.

@@ -1,4 +1,4 @@
-//! What follows from the definitions: the contracts are the laws, and the functions do nothing.
+//! Theorems about the definitions. Each `ensures` states one; the functions have no effect.
 
 ghost use Rattle.std.specs.Prelude.{◌≡◌, ◌↔◌, ◌+◌, ◌≤◌, ℕ, ℤ, List, All};
 ghost use Rattle.serde_json.specs.Data.{Data};
@@ -12,7 +12,7 @@ ghost use Rattle.taxii_rows.specs.Keeper.{CanAppend, with_rows, without};
 
 use stix_objects::laws::one_timestamp;
 
-/// An object has at most one version, and is undated exactly where it has none.
+/// The version of an object is unique, and an object is undated exactly if it has none.
 pub fn one_version()
     ensures only { (set : TypeSet) (object : Data) (first second : ℤ) → HasVersion set object first
         → HasVersion set object second → first ≡ second }
@@ -22,17 +22,19 @@ pub fn one_version()
     one_timestamp();
 }
 
-/// Rows that ascend past the watermark of a sound state may be added to it.
+/// Rows with ascending dates after the watermark of a sound state may be appended to it.
 pub fn later_rows()
     ensures { (state : StoreState) (rows : List StoredRow) (watermark : ℕ) → IsSoundState state
         → AscendFrom (state.watermark + 1) (dates_of rows) → All (λ row. row.date ≤ watermark) rows
         → CanAppend rows watermark state }
 {}
 
-/// A sound state stays sound where sound rows are added with a later watermark, and where rows are removed.
+/// Appending sound rows with a later watermark, and removing rows, preserve soundness.
 pub fn sound_states()
-    ensures added { (state : StoreState) (rows : List StoredRow) (watermark : ℕ) → IsSoundState state
-        → CanAppend rows watermark state → All IsSoundRow rows → state.watermark ≤ watermark → watermark ≤ LAST_DATE
+    ensures added { (state : StoreState) (rows : List StoredRow) (watermark : ℕ)
+        → IsSoundState state
+        → CanAppend rows watermark state → All IsSoundRow rows → state.watermark ≤ watermark
+        → watermark ≤ LAST_DATE
         → IsSoundState (with_rows rows watermark state) }
     ensures removed { (state : StoreState) (dates : List ℕ) → IsSoundState state
         → IsSoundState (without dates state) }

@@ -1,9 +1,16 @@
-//! The rows of a TAXII 2.1 server's store: an object in a collection with the date when it was added
-//! (section 3.4), and what the object says of itself: its identifier, its version (STIX 2.1, sections
-//! 2.9 and 3.2) and its compact text.
+//! The rows of a TAXII 2.1 server's store. A row is an object in a collection, with the date when
+//! it was added (section 3.4). It contains the object's identifier, its version (STIX 2.1, sections
+//! 2.9 and 3.2) and its compact JSON text.
 //!
-//! Where rows last is a `Keeper`, a trait with a ghost meaning (its rows, the last date given, its name)
-//! and a count of faults.
+//! `Keeper` is the trait of the persistent storage. Its contract states the rows, the watermark
+//! (the last date ever given) and the name of the store, and counts faults.
+//!
+//! ```text
+//! if let Some(described) = describe(alloc, &object)? {
+//!     let row = described.into_row(date, collection);
+//!     keeper.append(&[row], date)?;
+//! }
+//! ```
 #![tactic(auto)]
 
 mod by_date;

@@ -13,8 +13,9 @@ use std::alloc::Global;
 use stix_ids::{Id, is_text_of};
 use stix_json::{Json, JsonReader, JsonRefusal, text_at, write_json_with_capacity};
 
-/// Whether the row is what its body gives: the body is the compact text of an ordered JSON value, with
-/// the row's identifier, and with its version by the types of observables of either set.
+/// Whether the row agrees with its body. The body must be the compact text of an ordered JSON
+/// object with the row's identifier, and with its version under one of the two sets of observable
+/// types. O(n log n) in the length of the body.
 pub fn is_sound_row(
     alloc: Global,
     reader: &mut JsonReader,
@@ -28,13 +29,13 @@ pub fn is_sound_row(
     }
 }
 
-/// Whether the row is what the object makes.
+/// Whether the row is the one that the object gives.
 fn is_row_of(alloc: Global, row: &StoredRow, object: &Json) -> Result<bool, NoMemory>
     requires { IsOrdered (data_of object.now) }
     ensures { IfOk result (λ own. IsTrue own ↔ IsRowOf row.now (data_of object.now)) }
 {
-    // The writer asks for a byte more than a text takes. Without it the text would move to memory of twice its size, and half of that
-    // stay free between the rows that are kept.
+    // The writer reserves one byte more than a text has. Without it, the text would move to a
+    // buffer of twice its size, half of which would stay unused between the rows that are kept.
     let room = row.body.len().saturating_add(1);
     let text = write_json_with_capacity(alloc, object, room)?;
     let own = has_body(row, text.as_str());
@@ -49,12 +50,13 @@ fn has_body(row: &StoredRow, text: &str) -> bool
 
 /// Whether the row has the object's identifier and version.
 fn has_id_and_version(row: &StoredRow, object: &Json) -> bool
-    ensures { IsTrue result ↔ (HasId (data_of object.now) row.now.id × Fits row.now (data_of object.now)) }
+    ensures { IsTrue result
+        ↔ (HasId (data_of object.now) row.now.id × Fits row.now (data_of object.now)) }
 {
     has_id(object, &row.id) && fits(row, object)
 }
 
-/// The JSON value that the row's body is, where it is one.
+/// The JSON value of the row's body, if it is one.
 fn read_body(reader: &mut JsonReader, row: &StoredRow) -> Result<Option<Json>, NoMemory>
     ensures { IfOk result (FindsExactly (IsJsonOf row.now.body)) }
 {
@@ -81,7 +83,7 @@ fn has_id(object: &Json, id: &Id) -> bool
     }
 }
 
-/// Whether the row's version is that of the object by one of the sets.
+/// Whether the row's version is the object's under one of the two sets.
 fn fits(row: &StoredRow, object: &Json) -> bool
     ensures { IsTrue result ↔ Fits row.now (data_of object.now) }
 {

@@ -5,16 +5,16 @@ use flow_values::{Name, NoMemory, Text};
 use std::alloc::Global;
 use stix_ids::Id;
 
-/// The latest date that a row can have, in microseconds since 1970: the last one of the year 9999.
+/// The latest date of a row, in microseconds since 1970: the last microsecond of the year 9999.
 pub const LAST_DATE: u64 = 253_402_300_799_999_999;
 
-/// A row of a store: an object in a collection, and when it was added. The fields lie in this order, in which no
-/// room is left between them.
+/// A row of a store: an object in a collection, and when it was added. The fields are ordered so
+/// that the struct has no padding.
 #[derive(Drop)]
 pub struct StoredRow {
-    /// When the object was added, in microseconds since 1970. No two rows of a store have one date.
+    /// When the object was added, in microseconds since 1970. It is unique in the store.
     pub date: u64,
-    /// The object's version in microseconds since 1970, or the date where it is undated.
+    /// The object's version in microseconds since 1970, or `date` if the object is undated.
     pub version: i64,
     /// The number of the collection's UUID.
     pub collection: u128,
@@ -22,12 +22,12 @@ pub struct StoredRow {
     pub id: Id,
     /// The object as compact JSON.
     pub body: Text,
-    /// Whether the object tells its version.
+    /// Whether the object has a version.
     pub dated: bool,
 }
 
 impl StoredRow {
-    /// Whether the row is of that object in that collection.
+    /// Whether this is a row of the object in the collection.
     pub fn is_of(&self, collection: u128, id: &Id) -> bool
         ensures { result ≡ is_row_of collection id.now self.now }
     {
@@ -36,7 +36,7 @@ impl StoredRow {
             && self.id.kind.as_str() == id.kind.as_str()
     }
 
-    /// An equal row.
+    /// A copy of the row.
     pub fn copy(&self, alloc: Global) -> Result<StoredRow, NoMemory>
         ensures { IfOk result (λ copy. copy ≡ self.now) }
     {

@@ -5,12 +5,13 @@ ghost use Rattle.taxii_rows.specs.Version.{group_under, IsObservableOf};
 use stix_json::{Json, text_at};
 use stix_objects::{Group, group, group_before};
 
-/// A set of types of observables, which have no versions (STIX 2.1, section 6).
+/// A set of observable types, which have no versions (STIX 2.1, section 6). Stores of an older
+/// program used the first set, so rows of both are accepted.
 #[derive(Clone, Copy, Debug, PartialEq, Eq)]
 pub enum TypeSet {
-    /// Those without artifact, email-message and x509-certificate.
+    /// All but artifact, email-message and x509-certificate.
     First,
-    /// These three too.
+    /// All observable types.
     Second,
 }
 

@@ -9,8 +9,8 @@ use stix_json::Json;
 use stix_objects::{Precision, timestamp_at};
 use stix_times::{Instant, nanos};
 
-/// The version that an object tells: its `modified`, else its `created`, in microseconds since 1970.
-/// None where its type is of the set or it has neither; then it is undated. Takes no memory.
+/// The version of an object: `modified`, else `created`, in microseconds since 1970. `None` if its
+/// type is in the set or it has neither: then it is undated. Allocates nothing.
 pub fn version_of(object: &Json, set: TypeSet) -> Option<i64>
     ensures { FindsExactly (HasVersion set (data_of object.now)) result }
 {
@@ -31,7 +31,7 @@ fn version_time(object: &Json) -> Option<Instant>
     }
 }
 
-/// The microseconds from 1970 to an instant that is a whole number of them.
+/// Microseconds since 1970 of an instant that is a whole number of them.
 fn micros(instant: Instant) -> i64
     requires { IsWhole 1000 instant }
     ensures { result *ℤ pos 1000 ≡ instant }

@@ -1,4 +1,4 @@
--- Requests that bytes begin with: bytes that come behind, and one request more at the end.
+-- Requests that bytes begin with: bytes that come after, and one request more at the end.
 use Rattle.std.proofs.Common.{◌≢◌, ℕ, List, [], ◌∷◌, ◌++◌, refl, ap}
 use Rattle.http_messages.specs.declared.frame.Frame.{Frame}
 use Rattle.http_messages.specs.declared.frame.Frame.TheVariants.{More, Request as Given}
@@ -12,7 +12,7 @@ abbrev pub LaterBytesChangeNothing : Type 0
 LaterBytesChangeNothing = (greatest : ℕ) (bytes more : List ℕ) (frame : Frame) (rest : List ℕ)
     → IsFirstFrame greatest bytes frame rest → frame ≢ More → IsFirstFrame greatest (bytes ++ more) frame (rest ++ more)
 
--- bytes that come behind stand in the rest
+-- bytes that come after stand in the rest
 pub begin_with-more : LaterBytesChangeNothing → (bytes more : List ℕ) (requests : List Request) (rest : List ℕ)
     → BeginWith bytes requests rest → BeginWith (bytes ++ more) requests (rest ++ more)
 begin_with-more later bytes more [] rest begins = ap (λ (some : List ℕ). some ++ more) begins

@@ -107,7 +107,7 @@ takes-all taken bytes (Some all) left takes is =
     let same : takes.0 ≡ bytes = cc (takes.2, is) in
     ap Some (takes.1 ∙ ap (λ (rest : List ℕ). taken ++ rest) same)
 
--- a read that began behind bytes that want more
+-- a read that began after bytes that want more
 pub wanted-more : {before fed rest : List ℕ} {first left : Option (List ℕ)} → HasTaken before fed first left → IsFirstFrame MAX_BODY fed More rest
     → (began : Option (List ℕ)) → IfSome began (λ bytes. left ≡ Some bytes) → IfSome began (WantedMore before first)
 wanted-more {fed = fed} {first = first} {left = left} has more began observable =

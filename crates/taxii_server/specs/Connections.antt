@@ -1,4 +1,5 @@
--- One connection (RFC 9112, sections 9.3 and 9.6): the requests of its bytes, each answered in turn, and how it ends.
+-- One connection (RFC 9112, sections 9.3 and 9.6): the requests of its bytes, each answered in
+-- order, and how it ends.
 use Rattle.std.specs.Prelude.{◌≡◌, ◌⊎◌, ⊤, ℕ, ◌+◌, ◌-◌, ◌<◌, List, [], ◌∷◌, ◌++◌, length, map, Bool, true, false, ◌||◌, if◌then◌else◌, nat_eq, Option, Some, None, IfSome}
 use Rattle.flow_edges.specs.Faults.{HasIncreased}
 use Rattle.flow_edges.specs.Flow.{written_with, WritesPart, IsAtEnd}
@@ -23,7 +24,8 @@ BeginWith bytes [] rest = rest ≡ bytes
 BeginWith bytes (request ∷ requests) rest =
     (more : List ℕ) × IsFirstFrame MAX_BODY bytes (Given request) more × BeginWith more requests rest
 
--- when these bytes were left, so many requests had come whole, and more was wanted for the next one
+-- when these bytes were left on the link, `requests` complete requests had arrived, and more bytes
+-- were needed for the next one
 pub record HadCome (requests : ℕ) (left : Option (List ℕ)) (bytes : List ℕ) : Type 0 where
   pub taken : List ℕ
   pub all : left ≡ Some (taken ++ bytes)
@@ -55,20 +57,20 @@ abbrev pub keeper_faults : List Exchange → ℕ
 keeper_faults [] = 0
 keeper_faults (e ∷ exchanges) = (if is_keeper_fault e.course then 1 else 0) + keeper_faults exchanges
 
--- the replies, where so many may be given: one ends the connection where its request asks for that, where memory ran out, and where it
--- is the last that may be given
+-- the responses, if at most `left` may follow. A response ends the connection if its request asks
+-- for that, when out of memory, and if it is the last one allowed
 abbrev pub replies_within : ℕ → List Exchange → List Reply
 replies_within left [] = []
 replies_within left (e ∷ exchanges) =
     record { answer = e.answer; close = e.request.close || is_out_of_memory e.course || nat_eq left 1 } ∷ replies_within (left - 1) exchanges
 
--- what is said besides the answers to requests, before the connection ends: why the bytes are refused that aren't given yet, or that
+-- the last response before the connection ends early: why the remaining bytes are refused, or that
 -- memory ran out
 abbrev pub IsClosingAnswer : List ℕ → Option Answer → Type 0
 IsClosingAnswer rest None = ⊤
 IsClosingAnswer rest (Some answer) = ((refusal : Refusal) × IsFirstFrame MAX_BODY rest (Refused refusal) rest × (answer ≡ answer_to refusal)) ⊎ (answer ≡ no_memory_answer)
 
--- it ends the connection
+-- it closes the connection
 abbrev pub closing_answer_reply : Option Answer → List Reply
 closing_answer_reply None = []
 closing_answer_reply (Some answer) = record { answer = answer; close = true } ∷ []
@@ -102,8 +104,9 @@ CutsReplies replies before now =
     (whole : List Reply) × (last : Reply) × (middle : Option (List ℕ)) × (text : List ℕ) × (replies ≡ whole ++ (last ∷ []))
     × Continue whole × WritesReplies whole before middle × IsAnswerText last.answer last.close text × WritesPart text middle now
 
--- the last read began before the last of these replies was due, as fewer requests had come whole: so each reply is written before more is
--- read. Where memory is wanting from the start, nothing was read
+-- the last read began before the last of these responses was due, when fewer complete requests had
+-- arrived. So each response is written before more is read. If memory is missing from the start,
+-- nothing was read
 abbrev pub RepliesInTime : LinkView → LinkView → List Reply → Type 0
 RepliesInTime before now replies =
     (now.left ≡ before.left) ⊎ IfSome now.began (λ bytes. (came : ℕ) × (came < length replies) × HadCome came before.left bytes)
@@ -112,12 +115,12 @@ RepliesInTime before now replies =
 abbrev pub IsQuiet : LinkView → LinkView → Type 0
 IsQuiet before now = (now.read_faults ≡ before.read_faults) × (now.write_faults ≡ before.write_faults)
 
--- so a connection ends: by a reply that says so, or at the end of what the peer sends
+-- a connection closes by a response that says so, or at the end of the client's bytes
 abbrev pub IsClosed : LinkView → LinkView → List ℕ → List Reply → Type 0
 IsClosed before now rest replies = IsQuiet before now × WritesReplies replies before.written now.written
     × (End replies ⊎ (Continue replies × IsFirstFrame MAX_BODY rest More rest × IsAtEnd now.left))
 
--- or a read failed, while more was wanted for the next request, or a write of a reply
+-- or a read failed, while more bytes were needed for the next request, or the write of a response
 abbrev pub IsCut : LinkView → LinkView → List ℕ → List Reply → Type 0
 IsCut before now rest replies =
     (HasIncreased before.read_faults now.read_faults × Continue replies × IsFirstFrame MAX_BODY rest More rest × WritesReplies replies before.written now.written)
@@ -133,7 +136,8 @@ abbrev pub requests_of : LinkEnd → ℕ
 requests_of (Closed requests) = requests
 requests_of (LinkFault requests) = requests
 
--- one connection: the bytes that were taken from its link, the requests that they begin with, what was answered, and how it ended
+-- one connection: the bytes that were taken from its link, the requests that they begin with, what
+-- was answered, and how it ended
 pub record Connection (config : Config) (before : State) (link_before link_now : LinkView) (exchanges : List Exchange) (end : LinkEnd) (after : State) : Type 0 where
   pub taken : List ℕ
   pub rest : List ℕ
@@ -145,8 +149,8 @@ pub record Connection (config : Config) (before : State) (link_before link_now :
   pub closing_answer_is : IsClosingAnswer rest closing_answer
   pub ends : Ends end link_before link_now rest exchanges closing_answer
 
--- what requests ask of the clock and of the keeper: each takes the next moment; each fault of the keeper was counted, and where there was none
--- the count stays
+-- the use of the clock and the keeper: each request takes the next moment; each fault of the keeper
+-- was counted, and without one the count stays
 pub record Pass (exchanges : List Exchange) (before now : Environment) : Type 0 where
   pub moments : GivesMoments (map (λ e. e.moment) exchanges) before.moments now.moments
   pub faults : HasIncreasedBy (keeper_faults exchanges) before.faults now.faults

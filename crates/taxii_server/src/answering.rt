@@ -12,8 +12,8 @@ use taxii_rows::Keeper;
 use taxii_service::respond;
 use taxii_service::step_laws::no_step_reports_a_store_fault;
 
-/// Answers a request at the clock's next moment, and whether the connection ends then. Where memory ran
-/// out it says so and ends.
+/// Responds to a request at the clock's next moment, and returns whether the connection ends. When
+/// out of memory, it sends the 503 response and ends the connection.
 pub(crate) fn answer<K: Keeper, L: Link, C: Clock>(
     server: &mut Server,
     keeper: &mut K,
@@ -27,7 +27,8 @@ pub(crate) fn answer<K: Keeper, L: Link, C: Clock>(
     ensures keeper { without_rows (K.kept keeper.new) ≡ without_rows (K.kept keeper.old) }
     ensures config { server.new.config ≡ server.old.config }
     ensures answers { Answers server.old.config server.old.state request.now is_last
-        (record { moments = C.moments clock.old; faults = K.faults keeper.old }) (record { moments = C.moments clock.new; faults = K.faults keeper.new })
+        (record { moments = C.moments clock.old; faults = K.faults keeper.old })
+        (record { moments = C.moments clock.new; faults = K.faults keeper.new })
         (L.written link.old) (L.written link.new) result server.new.state }
     ensures causes { Counted (IsErr result) (L.Sink.faults link.old) (L.Sink.faults link.new) }
     ensures unread { L.Sink.other link.new ≡ L.Sink.other link.old }

@@ -9,15 +9,19 @@ use http_messages::Refusal;
 use std::alloc::Global;
 use taxii_exchange::{refusal_answer, write_answer, write_no_memory};
 
-/// Says why the connection ends, where that is to be said. A read that failed is handed on.
+/// Sends the last response before a connection ends early, if any. A failed read is passed on as
+/// `Fault`.
 pub(crate) fn write_closing_answer<L: Link>(
     alloc: Global,
     receive_end: ReceiveEnd,
     link: &mut L,
 ) -> Result<(), Fault>
-    ensures leave { WritesClosingAnswer receive_end (L.written link.old) (L.written link.new) result }
-    ensures causes { receive_end ≢ ReceiveEnd.Failed → Counted (IsErr result) (L.Sink.faults link.old) (L.Sink.faults link.new) }
-    ensures failed { receive_end ≡ ReceiveEnd.Failed → IsErr result × (L.Sink.faults link.new ≡ L.Sink.faults link.old) }
+    ensures leave { WritesClosingAnswer receive_end (L.written link.old)
+        (L.written link.new) result }
+    ensures causes { receive_end ≢ ReceiveEnd.Failed
+        → Counted (IsErr result) (L.Sink.faults link.old) (L.Sink.faults link.new) }
+    ensures failed { receive_end ≡ ReceiveEnd.Failed
+        → IsErr result × (L.Sink.faults link.new ≡ L.Sink.faults link.old) }
     ensures unread { L.Sink.other link.new ≡ L.Sink.other link.old }
 {
     match receive_end {
@@ -28,9 +32,10 @@ pub(crate) fn write_closing_answer<L: Link>(
     }
 }
 
-/// Writes the answer to a refusal, or that memory ran out for it.
+/// Sends the error response to a refusal, or the 503 when out of memory.
 fn refuse<L: Link>(alloc: Global, refusal: Refusal, link: &mut L) -> Result<(), Fault>
-    ensures leave { WritesClosingAnswer (ReceiveEnd.Refused refusal) (L.written link.old) (L.written link.new) result }
+    ensures leave { WritesClosingAnswer (ReceiveEnd.Refused refusal) (L.written link.old)
+        (L.written link.new) result }
     ensures causes { Counted (IsErr result) (L.Sink.faults link.old) (L.Sink.faults link.new) }
     ensures unread { L.Sink.other link.new ≡ L.Sink.other link.old }
 {

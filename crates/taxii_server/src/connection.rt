@@ -14,30 +14,34 @@ use flow_values::{Fault, NoMemory};
 use http_messages::request_laws::later_bytes_change_nothing;
 use taxii_rows::Keeper;
 
-/// The most bytes that the body of a request may have.
+/// The maximum size of a request body in bytes.
 pub const MAX_BODY: u64 = 8_388_608;
 
-/// The most requests that one connection may make.
+/// The maximum number of requests of one connection.
 pub const MAX_REQUESTS: u64 = 1024;
 
-/// Serves one connection: answers the requests of its bytes in turn, each before more is read. It ends after an answer that says
-/// so and at the end of what the peer sends, or where the link fails; a request that the end cuts gets
-/// no answer.
+/// Serves one connection: answers its requests in order, each before more is read. The connection
+/// ends after a response with `Connection: close`, at the end of the client's bytes, or when the
+/// link fails. An incomplete last request gets no response.
 pub fn serve_link<K: Keeper, L: Link, C: Clock>(
     server: &mut Server,
     keeper: &mut K,
     clock: &mut C,
     link: &mut L,
 ) -> LinkEnd
+    // the keeper's observable rows must be the library's, and stay so
     requires agrees { Agrees (K.kept keeper.old) server.old.state.library }
     ensures agrees { Agrees (K.kept keeper.new) server.new.state.library }
     ensures keeper { without_rows (K.kept keeper.new) ≡ without_rows (K.kept keeper.old) }
     ensures config { server.new.config ≡ server.old.config }
+    // there is a list of exchanges: the bytes read are its requests, the bytes written its
+    // responses, and clock and keeper were used as it says
     ensures serves { (exchanges : List Exchange) × Connection server.old.config server.old.state
         (link_view L.left L.began L.written L.Source.faults L.Sink.faults link.old)
         (link_view L.left L.began L.written L.Source.faults L.Sink.faults link.new)
         exchanges result server.new.state
-        × Pass exchanges (record { moments = C.moments clock.old; faults = K.faults keeper.old }) (record { moments = C.moments clock.new; faults = K.faults keeper.new }) }
+        × Pass exchanges (record { moments = C.moments clock.old; faults = K.faults keeper.old })
+        (record { moments = C.moments clock.new; faults = K.faults keeper.new }) }
     ensures few { requests_of result ≤ MAX_REQUESTS }
 {
     later_bytes_change_nothing();

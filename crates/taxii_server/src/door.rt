@@ -13,9 +13,9 @@ use flow_links::{Clock, Door};
 use flow_values::Fault;
 use taxii_rows::Keeper;
 
-/// Listens at the port and serves so many clients, one after the other, or as many as come. A link that
-/// fails ends alone; each link is handed back to the door, in order. After a `Fault` of the door the
-/// clients before it were served.
+/// Listens at a port and serves up to `connections` clients, one after the other. A failing link
+/// ends only its own connection. Each link is returned to the door, in order. `Fault` means that
+/// the door failed; the clients before that were served.
 pub fn serve_door<K: Keeper, D: Door, C: Clock>(
     server: &mut Server,
     keeper: &mut K,
@@ -24,18 +24,25 @@ pub fn serve_door<K: Keeper, D: Door, C: Clock>(
     port: u16,
     connections: u64,
 ) -> Result<Served, Fault>
+    // the keeper's observable rows must be the library's, and stay so
     requires agrees { Agrees (K.kept keeper.old) server.old.state.library }
     requires few { connections < 2 ^ 32 }
     ensures agrees { Agrees (K.kept keeper.new) server.new.state.library }
     ensures keeper { without_rows (K.kept keeper.new) ≡ without_rows (K.kept keeper.old) }
     ensures config { server.new.config ≡ server.old.config }
+    // what the door, the clock and the keeper were asked, and each connection's exchanges
     ensures serves { (clients : List (Client D.Link))
-        × HaveConnections (link_view D.Link.left D.Link.began D.Link.written D.Link.Source.faults D.Link.Sink.faults)
+        × HaveConnections (link_view D.Link.left D.Link.began D.Link.written D.Link.Source.faults
+        D.Link.Sink.faults)
         server.old.config server.old.state clients server.new.state
-        × Pass (exchanges_of clients) (record { moments = C.moments clock.old; faults = K.faults keeper.old }) (record { moments = C.moments clock.new; faults = K.faults keeper.new })
+        × Pass (exchanges_of clients)
+        (record { moments = C.moments clock.old; faults = K.faults keeper.old })
+        (record { moments = C.moments clock.new; faults = K.faults keeper.new })
         × (length clients ≤ connections)
-        × (PassThrough port clients (D.observable door.old) (D.observable door.new) ⊎ (IsErr result × (clients ≡ []) × Stays (D.observable door.old) (D.observable door.new)))
+        × (PassThrough port clients (D.observable door.old) (D.observable door.new)
+        ⊎ (IsErr result × (clients ≡ []) × Stays (D.observable door.old) (D.observable door.new)))
         × IfOk result (IsWholeOf connections clients (D.observable door.new)) }
+    // the door counts a fault exactly if the call fails; faults of links are not its own
     ensures causes { Counted (IsErr result) (D.faults door.old) (D.faults door.new) }
 {
     door.listen(port)?;
@@ -53,7 +60,7 @@ pub fn serve_door<K: Keeper, D: Door, C: Clock>(
     Ok(served)
 }
 
-/// Serves one client and hands its link back. Answers how many requests it made.
+/// Serves one client and returns its link to the door. Returns the number of its requests.
 fn serve_client<K: Keeper, D: Door, C: Clock>(
     server: &mut Server,
     keeper: &mut K,
@@ -66,9 +73,11 @@ fn serve_client<K: Keeper, D: Door, C: Clock>(
     ensures agrees { Agrees (K.kept keeper.new) server.new.state.library }
     ensures keeper { without_rows (K.kept keeper.new) ≡ without_rows (K.kept keeper.old) }
     ensures config { server.new.config ≡ server.old.config }
-    ensures serves { ServesClient (link_view D.Link.left D.Link.began D.Link.written D.Link.Source.faults D.Link.Sink.faults)
+    ensures serves { ServesClient
+        (link_view D.Link.left D.Link.began D.Link.written D.Link.Source.faults D.Link.Sink.faults)
         server.old.config server.old.state link
-        (record { moments = C.moments clock.old; faults = K.faults keeper.old }) (record { moments = C.moments clock.new; faults = K.faults keeper.new })
+        (record { moments = C.moments clock.old; faults = K.faults keeper.old })
+        (record { moments = C.moments clock.new; faults = K.faults keeper.new })
         (D.observable door.old) (D.observable door.new) result server.new.state }
     ensures few { result ≤ MAX_REQUESTS }
     ensures quiet { D.faults door.new ≡ D.faults door.old }

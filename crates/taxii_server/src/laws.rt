@@ -1,4 +1,4 @@
-//! What follows from the definitions: the contracts are the laws, and the functions do nothing.
+//! Theorems about the definitions. Each `ensures` states one; the functions have no effect.
 
 ghost use Rattle.std.specs.Prelude.{List};
 ghost use Rattle.taxii_exchange.specs.declared.config.Config.{Config};
@@ -9,8 +9,10 @@ ghost use Rattle.taxii_server.specs.Serving.{Client, exchanges_of, HaveConnectio
 
 use flow_links::Door;
 
-/// The requests of a door's clients, one client after the other, are a history of the server.
+/// The requests of all clients, one client after the other, are a history of the server.
 pub fn clients_make_history<D: Door>()
-    ensures { (view : D.Link → LinkView) (config : Config) (before after : State) (clients : List (Client D.Link))
-        → HaveConnections view config before clients after → HasServed config before (exchanges_of clients) after }
+    ensures { (view : D.Link
+        → LinkView) (config : Config) (before after : State) (clients : List (Client D.Link))
+        → HaveConnections view config before clients after
+        → HasServed config before (exchanges_of clients) after }
 {}

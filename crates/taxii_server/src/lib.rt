@@ -1,9 +1,15 @@
-//! A TAXII 2.1 server behind its door: clients are served one after the other. The requests of a caller's
-//! bytes are answered in turn, until one asks for the end, the peer sends no more, or its bytes are
-//! refused (RFC 9112, sections 9.3 and 9.6).
+//! A TAXII 2.1 server that accepts connections one after the other. The requests of a connection
+//! are answered in order (RFC 9112, sections 9.3 and 9.6), until one asks to close, the client
+//! sends no more, or its bytes are refused.
 //!
-//! A link that fails ends its own connection and no other. Where memory runs out an answer says so that
-//! takes none, and nothing has changed.
+//! A failing link ends its own connection and no other. When memory runs out, the server sends a
+//! 503 that needs no memory, closes the connection, and has changed nothing.
+//!
+//! ```text
+//! let mut server = Server { config, state };
+//! let served = serve_door(&mut server, &mut keeper, &mut clock, &mut door, 8080, 1_000)?;
+//! // served.connections, served.requests
+//! ```
 #![tactic(auto)]
 
 mod answering;

@@ -4,17 +4,17 @@ ghost use Rattle.taxii_server.specs.Connections.{requests_of};
 
 use flow_values::Fault;
 
-/// How a connection ended, and how many requests were answered, or begun to be.
+/// How a connection ended, and how many requests were answered, at least in part.
 #[derive(Clone, Copy, Debug, PartialEq, Eq, Hash)]
 pub enum LinkEnd {
-    /// By an answer that says so, or at the end of what the peer sends.
+    /// By a response that says so, or at the end of the client's bytes.
     Closed { requests: u64 },
-    /// A read or a write failed, and was counted by the link.
+    /// A read or a write failed; the link has counted it.
     LinkFault { requests: u64 },
 }
 
 impl LinkEnd {
-    /// How many requests were answered, or begun to be.
+    /// The number of requests that were answered, at least in part.
     pub fn requests(self) -> u64
         ensures { result ≡ requests_of self }
     {
@@ -24,9 +24,10 @@ impl LinkEnd {
         }
     }
 
-    /// The end after the last call of the link.
+    /// The end after the result of the last write.
     pub(crate) fn after(last: Result<(), Fault>, requests: u64) -> LinkEnd
-        ensures { MatchResult last (λ _. result ≡ End.Closed requests) (λ _. result ≡ End.LinkFault requests) }
+        ensures { MatchResult last (λ _. result ≡ End.Closed requests)
+            (λ _. result ≡ End.LinkFault requests) }
     {
         match last {
             Ok(()) => LinkEnd::Closed { requests },

@@ -4,9 +4,9 @@ use http_messages::Refusal;
 /// Why a link gives no further request.
 #[derive(Debug)]
 pub(crate) enum ReceiveEnd {
-    /// The peer sends no more.
+    /// The client sends no more.
     AtEnd,
-    /// Its bytes are refused.
+    /// The bytes are refused.
     Refused(Refusal),
     NoMemory,
     /// A read failed.

@@ -11,7 +11,8 @@ use http_messages::{Frame, Request, Session};
 use std::alloc::Global;
 use std::marker::Model;
 
-/// The requests of a link. Contracts see the bytes that were taken and not given yet.
+/// Receives the requests of a link. Its model is the list of bytes read and not yet returned as a
+/// request.
 #[derive(Drop)]
 pub(crate) struct Receiver {
     session: Session,
@@ -27,11 +28,12 @@ impl Model for Receiver {
 
     ghost view = { λ receiver. receiver.session.fed };
 
-    ghost invariant = { λ receiver. (receiver.session.max_body ≡ MAX_BODY) × (vec_len receiver.buffer ≡ MAX_READ) };
+    ghost invariant = { λ receiver. (receiver.session.max_body ≡ MAX_BODY)
+        × (vec_len receiver.buffer ≡ MAX_READ) };
 }
 
 impl Receiver {
-    /// A receiver that has taken nothing yet.
+    /// A receiver that has read nothing.
     pub(crate) fn new(alloc: Global) -> Result<Receiver, NoMemory>
         ensures { IfOk result (λ receiver. receiver ≡ []) }
     {
@@ -41,12 +43,16 @@ impl Receiver {
         })
     }
 
-    /// The next request, for which bytes are taken from the link as long as more are wanted.
+    /// The next request. Bytes are read only as long as they are needed for it.
     pub(crate) fn receive<L: Link>(&mut self, link: &mut L) -> Result<Request, ReceiveEnd>
-        ensures receives { Receives self.old self.new (L.left link.old) (L.left link.new) (L.Source.faults link.old) (L.Source.faults link.new) result }
-        ensures in_time { (link.new ≡ link.old) ⊎ IfSome (L.began link.new) (WantedMore self.old (L.left link.old)) }
+        ensures receives { Receives self.old self.new (L.left link.old) (L.left link.new)
+            (L.Source.faults link.old) (L.Source.faults link.new) result }
+        // the last read began while more bytes were needed, so no response waits for it
+        ensures in_time { (link.new ≡ link.old)
+            ⊎ IfSome (L.began link.new) (WantedMore self.old (L.left link.old)) }
         ensures unwritten { L.Source.other link.new ≡ L.Source.other link.old }
-        ensures quiet { result ≢ Err ReceiveEnd.Failed → L.Source.faults link.new ≡ L.Source.faults link.old }
+        ensures quiet { result ≢ Err ReceiveEnd.Failed
+            → L.Source.faults link.new ≡ L.Source.faults link.old }
     {
         few_bytes_need_more();
         loop {
@@ -58,12 +64,14 @@ impl Receiver {
         }
     }
 
-    /// Takes the next bytes of the link, one at least.
+    /// Reads the next bytes of the link, at least one.
     fn take<L: Link>(&mut self, link: &mut L) -> Result<(), ReceiveEnd>
-        ensures takes { TakesMore self.old self.new (L.left link.old) (L.left link.new) (L.Source.faults link.old) (L.Source.faults link.new) result }
+        ensures takes { TakesMore self.old self.new (L.left link.old) (L.left link.new)
+            (L.Source.faults link.old) (L.Source.faults link.new) result }
         ensures began { IfSome (L.began link.new) (λ bytes. L.left link.old ≡ Some bytes) }
         ensures unwritten { L.Source.other link.new ≡ L.Source.other link.old }
-        ensures quiet { result ≢ Err ReceiveEnd.Failed → L.Source.faults link.new ≡ L.Source.faults link.old }
+        ensures quiet { result ≢ Err ReceiveEnd.Failed
+            → L.Source.faults link.new ≡ L.Source.faults link.old }
     {
         let count = link.read(&mut self.buffer)?;
         if count == 0 {

@@ -1,7 +1,7 @@
-/// What a server did behind its door.
+/// Counts of what a server has done.
 #[derive(Clone, Copy, Debug, PartialEq, Eq, Hash)]
 pub struct Served {
     pub connections: u64,
-    /// The requests that were answered, or begun to be.
+    /// The number of requests that were answered, at least in part.
     pub requests: u64,
 }

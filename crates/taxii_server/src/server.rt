@@ -1,7 +1,7 @@
 use taxii_exchange::Config;
 use taxii_service::State;
 
-/// A server: what it serves, and what it has.
+/// A server: its configuration and its state.
 #[derive(Drop)]
 pub struct Server {
     pub config: Config,

@@ -45,7 +45,7 @@ uuid_is e = cc
 pub kind_is : (at : ℕ) → BadKind at ≢ WantOfMemory
 kind_is at e = cc
 
--- rows with others behind them aren't the same
+-- rows with others after them aren't the same
 pub rows_grow : (rows new : List StoredRow) → new ≢ [] → rows ++ new ≢ rows
 rows_grow rows [] some same = some refl
 rows_grow rows (row ∷ new) some same =

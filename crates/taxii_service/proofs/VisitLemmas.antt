@@ -58,7 +58,7 @@ ends_here config wanted next e state stop some here dated (visit, no_more, last)
   history = no_history state stop.state here;
 }
 
--- or the walk goes on among those behind it
+-- or the walk goes on among those after it
 continues_here : (config : Config) (wanted : Wanted) (next : Option ℕ) (e : Exchange) (state later : StoreState) (stop other : Stop) (stops : List Stop) (some : List Exchange)
     → stop.state ≡ state → IsDated state → IsHistory state later → VisitFrom config wanted next (e ∷ some) stop (other ∷ stops)
     → Reaches wanted (last_date stop.page) later other stops → Reaches wanted next state stop (other ∷ stops)

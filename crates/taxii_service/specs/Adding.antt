@@ -23,7 +23,7 @@ use Rattle.taxii_service.specs.declared.state.State.{State}
 abbrev pub IsSuccess : List StoredRow → AddOutcome → Detail → Type 0
 IsSuccess rows outcome detail = (row : StoredRow) × Contains rows row × (row.date ≡ date_in outcome) × IsSuccessOf row detail
 
--- what is told of an addition, with these rows behind it
+-- what is reported of an addition, with these rows after it
 pub record IsReport (number moment : ℕ) (posted : Posted) (outcomes : List AddOutcome) (rows : List StoredRow) (report : StatusReport) : Type 0 where
   pub number_is : report.number ≡ number
   pub moment_is : report.moment ≡ moment
@@ -32,7 +32,8 @@ pub record IsReport (number moment : ℕ) (posted : Posted) (outcomes : List Add
   pub success_count : report.success_count ≡ length outcomes
   pub failure_count : report.failure_count ≡ posted.failure_count
 
--- an addition to a collection at a moment: what the body holds, what becomes of it, the new rows, and the text that tells of it
+-- an addition to a collection at a moment: the entries of the body, their outcomes, the new rows,
+-- and the text of the status
 pub record IsAdding (before : State) (collection moment : ℕ) (body : List ℕ) (new : List StoredRow) (text : List ℕ) : Type 0 where
   pub posted : Posted
   pub outcomes : List AddOutcome

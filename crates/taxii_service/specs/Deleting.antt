@@ -18,7 +18,8 @@ deleted_picks query = unwrap_or query.picks (All ∷ [])
 abbrev pub AllowsStandard : Query → Type 0
 AllowsStandard query = IfSome query.specs (λ specs. Contains specs (codes "2.1"))
 
--- the dates of the rows that a request deletes: none where the query asks for another version of the standard
+-- the dates of the rows that a request deletes: none where the query asks for another version of
+-- the standard
 pub record AreDeleted (store : StoreState) (collection : ℕ) (id : Id) (query : Query) (dates : List ℕ) : Type 0 where
   pub taken : AllowsStandard query → AreDatesTaken store.rows collection id (deleted_picks query) dates
   pub none : (AllowsStandard query → ⊥) → dates ≡ []

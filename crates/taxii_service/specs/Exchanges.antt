@@ -1,4 +1,5 @@
--- What a server did: requests at moments, in turn, each with its answer and what the server had before and after it.
+-- The exchanges of a server: requests at moments, in order, each with its response and the states
+-- before and after it.
 use Rattle.std.specs.Prelude.{◌≡◌, ℕ, List, [], ◌∷◌, All, Option, unwrap_or}
 use Rattle.http_messages.specs.declared.request.Request.{Request}
 use Rattle.taxii_exchange.specs.declared.answer.Answer.{Answer}
@@ -10,7 +11,7 @@ use Rattle.taxii_exchange.specs.declared.config.Config.{Config}
 use Rattle.taxii_service.specs.declared.state.State.{State}
 use Rattle.taxii_service.specs.Step.{IsDone, Step, FailsToKeep}
 
--- what came of a request: its step, a fault of the keeper, or want of memory
+-- what came of a request: its step, a fault of the keeper, or out of memory
 pub data Course : Type 0 where
   Stepped : Course
   KeeperFailed : Course
@@ -25,7 +26,7 @@ pub record Exchange : Type 0 where
   pub answer : Answer
   pub after : State
 
--- so it goes: a step, or an answer that tells what was wanting, and then nothing has changed
+-- an exchange: a step, or a response that reports a failure, and then nothing has changed
 abbrev pub Runs : Course → Config → Exchange → Type 0
 Runs Stepped config e = Step config e.before e.moment e.request e.answer e.after
 Runs KeeperFailed config e = FailsToKeep config e.before e.moment e.request e.answer e.after
@@ -35,7 +36,8 @@ Runs OutOfMemory config e = (e.answer ≡ no_memory_answer) × (e.after ≡ e.be
 abbrev pub IsExchange : Config → Exchange → Type 0
 IsExchange config e = Runs e.course config e
 
--- an exchange did what its request asks for: its target has a path and maybe a query, the path a route, and nothing stood against it
+-- an exchange performed its request: its target has a path and perhaps a query, the path has a
+-- route, and no check failed
 pub record WasDone (config : Config) (e : Exchange) : Type 0 where
   pub path : List ℕ
   pub text : Option (List ℕ)
@@ -49,7 +51,7 @@ abbrev pub Follow : State → List Exchange → State → Type 0
 Follow before [] after = after ≡ before
 Follow before (e ∷ exchanges) after = (e.before ≡ before) × Follow e.after exchanges after
 
--- the server served these requests in turn, and nothing else changed what it has
+-- the server served these requests in order, and nothing else changed what it has
 pub record HasServed (config : Config) (before : State) (exchanges : List Exchange) (after : State) : Type 0 where
   pub each : All (IsExchange config) exchanges
   pub follow : Follow before exchanges after

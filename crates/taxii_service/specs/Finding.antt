@@ -1,4 +1,5 @@
--- Which resources there are (TAXII 2.1, sections 4 and 5), what a client may do with them, and which methods they allow.
+-- Which resources there are (TAXII 2.1, sections 4 and 5), what a client may do with them, and
+-- which methods they allow.
 use Rattle.std.specs.Prelude.{◌≡◌, ◌≢◌, ℕ, List, Any, Some, None}
 use Rattle.stix_ids.specs.Identifier.{IsTextOf}
 use Rattle.taxii_exchange.specs.declared.answer.Allow.{Allow}

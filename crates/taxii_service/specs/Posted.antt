@@ -1,4 +1,4 @@
--- What a request to add objects holds (TAXII 2.1, section 5.5): an object of each entry that keeps the rules, and the failures.
+-- The entries of a POST (TAXII 2.1, section 5.5): valid objects, and failures.
 use Rattle.std.specs.Prelude.{◌≡◌, ◌⊎◌, ⊤, ℕ, List, [], ◌∷◌, length, take, codes}
 use Rattle.std.specs.List.{AllZip}
 use Rattle.serde_json.specs.Data.{Data}
@@ -23,29 +23,30 @@ pub record BreaksFirst (value : Data) (first : Break) : Type 0 where
   pub others : List Break
   pub breaks : AreBreaksOf value (first ∷ others)
 
--- the entry is an object without breaks, and this is kept of it
+-- the entry is an valid object, and this is kept of it
 abbrev pub IsKept : Entry → Described → Type 0
 IsKept (Good value) object = AreBreaksOf (data_of value) [] × IsDescribed (data_of value) object
 IsKept (Bad refusal) object = ⊥
 
--- the entry is no JSON value, or no object without breaks
+-- the entry is no JSON value, or no valid object
 abbrev pub Fails : Entry → Type 0
 Fails (Good value) = ¬ AreBreaksOf (data_of value) []
 Fails (Bad refusal) = ⊤
 
--- the detail of an entry that fails: of a value it tells the first break
+-- the detail of a failed entry; for a value it names the first violation
 abbrev pub IsDetailOf : ℕ → Entry → Detail → Type 0
 IsDetailOf moment (Good value) detail = (first : Break) × BreaksFirst (data_of value) first × IsFailureOf (data_of value) first moment detail
 IsDetailOf moment (Bad refusal) detail = IsRefusalOf refusal moment detail
 
--- entries in turn: an object is kept of each, or it fails
+-- entries in order: an object is kept of each, or it fails
 abbrev pub Splits : List Entry → List Described → List Entry → Type 0
 Splits [] objects failed = (objects ≡ []) × (failed ≡ [])
 Splits (entry ∷ entries) objects failed =
     ((object : Described) × (others : List Described) × (objects ≡ object ∷ others) × IsKept entry object × Splits entries others failed)
     ⊎ ((others : List Entry) × (failed ≡ entry ∷ others) × Fails entry × Splits entries objects others)
 
--- what some entries hold, in a request of that moment: those that fail are counted, and the first of them have details
+-- what some entries hold, in a request of that moment: those that fail are counted, and the first
+-- of them have details
 pub record Holds (moment : ℕ) (entries : List Entry) (posted : Posted) : Type 0 where
   pub failed : List Entry
   pub splits : Splits entries posted.objects.items failed

@@ -1,4 +1,5 @@
--- What a GET of a resource answers (TAXII 2.1, sections 4 and 5), behind what is asked of every request.
+-- What a GET of a resource answers (TAXII 2.1, sections 4 and 5), after what is asked of every
+-- request.
 use Rattle.std.specs.Prelude.{◌≡◌, ℕ, List, [], ◌∷◌, Bool, Option, Some, None}
 use Rattle.serde_json.specs.Written.{compact_text}
 use Rattle.stix_ids.specs.declared.id.Id.{Id}
@@ -88,6 +89,6 @@ IsReading config state (Versions collection object) query answer =
     (info : CollectionInfo) × Names collection config.collections info × IsPageOfObject state.library.rows info.id object (versions_query query) AreVersions answer
 IsReading config state NoRoute query answer = ⊥
 
--- no client may do anything with the resource of the route: it isn't there
+-- no client may do anything with the resource of the route: it is not there
 abbrev pub IsNoResource : Config → State → Route → Type 0
 IsNoResource config state route = (rights : Rights) → ¬ IsFound config.collections state route rights

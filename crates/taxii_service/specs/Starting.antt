@@ -3,6 +3,6 @@ use Rattle.taxii_rows.specs.StoreState.{StoreState}
 use Rattle.taxii_exchange.specs.Statuses.{no_statuses}
 use Rattle.taxii_service.specs.declared.state.State.{State}
 
--- with these rows, and where no status was given yet
+-- these rows, and no status yet
 abbrev pub starting_with : StoreState → State
 starting_with store = record { library = store; statuses = no_statuses }

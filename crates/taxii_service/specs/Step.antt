@@ -1,4 +1,5 @@
--- One step of a server (TAXII 2.1, sections 3 to 5): a request at a moment, its answer, and what the server has after it.
+-- One step of a server (TAXII 2.1, sections 3 to 5): a request at a moment, its answer, and what
+-- the server has after it.
 use Rattle.std.specs.Prelude.{◌≡◌, ◌≢◌, ◌⊎◌, ℕ, List, [], Option, Some, None, unwrap_or}
 use Rattle.stix_ids.specs.declared.id.Id.{Id}
 use Rattle.stix_ids.specs.Identifier.{IsTextOf}
@@ -43,7 +44,7 @@ Posts config before moment request (Object collection object) answer after = ⊥
 Posts config before moment request (Versions collection object) answer after = ⊥
 Posts config before moment request NoRoute answer after = ⊥
 
--- DELETE of an object: the rows that the query picks are gone
+-- DELETE of an object: the rows that the query selects are removed
 abbrev pub Deletes : Config → State → Route → Query → Answer → State → Type 0
 Deletes config before Discovery query answer after = ⊥
 Deletes config before Root query answer after = ⊥
@@ -58,7 +59,7 @@ Deletes config before (Object collection object) query answer after =
 Deletes config before (Versions collection object) query answer after = ⊥
 Deletes config before NoRoute query answer after = ⊥
 
--- what a request does against which nothing stands
+-- the effect of a request that passed all checks
 abbrev pub Does : Config → State → ℕ → Request → Route → Query → Method → Answer → State → Type 0
 Does config before moment request route query Get answer after = IsReading config before route query answer × (after ≡ before)
 Does config before moment request route query Head answer after = ⊥
@@ -66,7 +67,7 @@ Does config before moment request route query Post answer after = Posts config b
 Does config before moment request route query Delete answer after = Deletes config before route query answer after
 Does config before moment request route query Other answer after = ⊥
 
--- why objects can't be added
+-- why objects cannot be added
 abbrev pub CannotPost : Config → State → ℕ → Request → Route → Refusal → Type 0
 CannotPost config before moment request Discovery refusal = ⊥
 CannotPost config before moment request Root refusal = ⊥
@@ -80,7 +81,7 @@ CannotPost config before moment request (Object collection object) refusal = ⊥
 CannotPost config before moment request (Versions collection object) refusal = ⊥
 CannotPost config before moment request NoRoute refusal = ⊥
 
--- why a request against which nothing stands can't be done
+-- why a request that passed all checks cannot be performed
 abbrev pub CannotDo : Config → State → ℕ → Request → Route → Method → Refusal → Type 0
 CannotDo config before moment request route Get refusal = ⊥
 CannotDo config before moment request route Head refusal = ⊥
@@ -88,7 +89,7 @@ CannotDo config before moment request route Post refusal = CannotPost config bef
 CannotDo config before moment request route Delete refusal = ⊥
 CannotDo config before moment request route Other refusal = ⊥
 
--- what stands against a request to the resource of a route
+-- why a request to the resource of a route is refused
 abbrev pub IsRefused : Config → State → ℕ → Request → Route → List ℕ → Refusal → Type 0
 IsRefused config before moment request route text refusal =
     (IsNoResource config before route × (refusal ≡ Problem NotFound))
@@ -106,7 +107,7 @@ pub record IsDone (config : Config) (before : State) (moment : ℕ) (request : R
   pub query_is : IsQueryOf (pairs_of text) query
   pub does : Does config before moment request route query request.method answer after
 
--- the answer to a refusal; want of memory has one of its own
+-- the response to a refusal; out of memory has a separate one
 abbrev pub IsAnswerTo : Method → Refusal → Answer → Type 0
 IsAnswerTo method (NotAllowed its) answer = answer ≡ bare_answer MethodNotAllowed (Some its)
 IsAnswerTo method (Problem problem) answer = answer ≡ answer_to_problem method problem
@@ -118,7 +119,7 @@ RouteStep config before moment request route text answer after =
     ((refusal : Refusal) × IsRefused config before moment request route text refusal × IsAnswerTo request.method refusal answer × (after ≡ before))
     ⊎ IsDone config before moment request route text answer after
 
--- one step: a path without a route isn't found
+-- one step: a path without a route is not found
 pub record Step (config : Config) (before : State) (moment : ℕ) (request : Request) (answer : Answer) (after : State) : Type 0 where
   pub path : List ℕ
   pub query : Option (List ℕ)

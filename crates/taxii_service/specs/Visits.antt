@@ -1,5 +1,6 @@
--- Walks among the requests that a server served: a client asks for a page of objects, and then, as long as the answer says that there
--- is more, for the next one, by the `next` of that answer (TAXII 2.1, sections 3.4, 5.4 and 5.6). Whatever others ask stands between.
+-- Walks among the requests of a server: a client requests a page of objects and, as long as the
+-- response says that more follow, the next one, with the `next` of that response (TAXII 2.1,
+-- sections 3.4, 5.4 and 5.6). Other requests may occur in between.
 use Rattle.std.specs.Prelude.{◌≡◌, ◌⊎◌, ⊤, ℕ, List, [], ◌∷◌, All, map, true, false, Option, Some, None, unwrap_or}
 use Rattle.std.specs.List.{Contains}
 use Rattle.stix_ids.specs.declared.id.Id.{Id}
@@ -26,13 +27,14 @@ use Rattle.taxii_store.specs.Page.{IsPage}
 use Rattle.taxii_store.specs.Walk.{Stop, Wanted, AsksAlike, IsWanted, last_date, rows_given, last_state}
 use Rattle.taxii_service.specs.Exchanges.{Exchange}
 
--- all objects of a collection are asked for
+-- all objects of a collection are requested
 abbrev pub AsksForAll : Config → Route → Query → ℕ → Option Id → Query → Type 0
 AsksForAll config route parsed collection only query =
     (id : List ℕ) × (info : CollectionInfo) × (route ≡ Objects id) × Names id config.collections info
     × (collection ≡ info.id) × (only ≡ None) × (query ≡ parsed)
 
--- one object of a collection is asked for, and then its type and its identifier aren't asked for again
+-- one object of a collection is requested, and then its type and its identifier are not requested
+-- again
 abbrev pub AsksForOne : Config → Route → Query → ℕ → Option Id → Query → Type 0
 AsksForOne config route parsed collection only query =
     (name text : List ℕ) × (info : CollectionInfo) × (id : Id) × (route ≡ Object name text) × Names name config.collections info
@@ -50,7 +52,8 @@ pub record Asks (config : Config) (request : Request) (collection : ℕ) (only :
   pub query_is : IsQueryOf (pairs_of (unwrap_or text [])) parsed
   pub asks : AsksForAll config route parsed collection only query ⊎ AsksForOne config route parsed collection only query
 
--- an exchange is a stop of a walk: what the walk asks for, from that date on, was answered with 200, and the stop has the page
+-- an exchange is a stop of a walk: what the walk asks for, from that date on, was answered with
+-- 200, and the stop has the page
 pub record IsVisit (config : Config) (wanted : Wanted) (next : Option ℕ) (e : Exchange) (stop : Stop) : Type 0 where
   pub okay : e.answer.status ≡ Okay
   pub asks : Asks config e.request wanted.collection wanted.only stop.query
@@ -59,7 +62,8 @@ pub record IsVisit (config : Config) (wanted : Wanted) (next : Option ℕ) (e : 
   pub state : stop.state ≡ e.before.library
   pub page : IsPage stop.state.rows wanted.collection wanted.only stop.query stop.page stop.more
 
--- the exchanges are the stops of a walk, after that date: there is more at each but the last, and the one after it goes on behind its page
+-- the exchanges are the stops of a walk, from that date on: more follows at each but the last, and
+-- the next one continues after its page
 abbrev pub VisitFrom : Config → Wanted → Option ℕ → List Exchange → Stop → List Stop → Type 0
 VisitFrom config wanted next [] stop stops = ⊥
 VisitFrom config wanted next (e ∷ exchanges) stop [] = IsVisit config wanted next e stop × (stop.more ≡ false) × (exchanges ≡ [])
@@ -82,15 +86,16 @@ pub record IsWalkAmong (config : Config) (exchanges : List Exchange) (wanted : W
 abbrev pub answer_at : Stop → Answer
 answer_at stop = page_answer stop.page (envelope_text stop.page stop.more)
 
--- the law of a walk: its answers have its pages; these give each row once, in the order of dates, give only what was asked for, and give
--- every row that was asked for and is still stored at the last page
+-- the theorem about a walk: its responses have its pages. They give each row once, in the order of
+-- dates. They give only requested rows, and every requested row that is still stored at the last
+-- page
 pub record SkipsNoRow (wanted : Wanted) (visited : List Exchange) (first : Stop) (others : List Stop) : Type 0 where
   pub answers : map (λ e. e.answer) visited ≡ map answer_at (first ∷ others)
   pub once : AscendFrom 1 (dates_of (rows_given first others))
   pub asked : All (IsWanted wanted) (rows_given first others)
   pub whole : (row : StoredRow) → Contains (last_state first others).rows row → IsWanted wanted row → Contains (rows_given first others) row
 
--- every walk among the requests has the law
+-- the theorem holds for every walk among the requests
 abbrev pub WalksSkipNoRow : Config → List Exchange → Type 0
 WalksSkipNoRow config exchanges = (wanted : Wanted) (visited : List Exchange) (first : Stop) (others : List Stop)
     → IsWalkAmong config exchanges wanted visited first others → SkipsNoRow wanted visited first others

@@ -16,10 +16,10 @@ use taxii_bodies::Problem;
 use taxii_exchange::{Answer, Refusal, body_answer};
 use taxii_rows::{Keeper, KeeperRefusal};
 
-/// Adds the objects in the body of a request, which came at that moment, in microseconds since 1970, to
-/// a collection (TAXII 2.1, section 5.5), and keeps its status. Nothing changes where it is refused:
-/// `NotJson` and `NotList` for the body, `DatesUsedUp` where too few dates are left, `StoreFault` where
-/// the keeper failed. All memory is taken before the keeper is called.
+/// Adds the objects of a POST at a moment (microseconds since 1970) to a collection, and keeps its
+/// status (TAXII 2.1, section 5.5). After an error nothing has changed. `NotJson` and `NotList`
+/// refuse the body. `DatesUsedUp` means that too few dates are left, `StoreFault` that the keeper
+/// failed. All memory is allocated before the keeper is called.
 pub fn add_objects<K: Keeper>(
     alloc: Global,
     collection: u128,
@@ -28,19 +28,26 @@ pub fn add_objects<K: Keeper>(
     moment: u64,
     body: &[u8],
 ) -> Result<Answer, Refusal>
+    // `kept` is the keeper's observable state: it must be the library's, and stays so
     requires agrees { Agrees (K.kept keeper.old) state.old.library }
     ensures agrees { Agrees (K.kept keeper.new) state.new.library }
+    // the keeper's name and attachment stay
     ensures keeper { without_rows (K.kept keeper.new) ≡ without_rows (K.kept keeper.old) }
+    // `new` are the new rows, `text` is the status: both the response's body and the kept status
     ensures ok { IfOk result (λ answer. (new : List Row) × (text : List ℕ)
         × IsAdding state.old collection moment body.now new text
         × (answer ≡ answer_with Accepted text)
         × (state.new ≡ with_added new text state.old)) }
+    // the reason holds: the request cannot be performed, or the keeper failed although it could
     ensures err { IfErr result (λ refusal. (refusal ≡ Refused.NoMemory)
         ⊎ (CannotAdd state.old collection moment body.now refusal
-        ⊎ ((refusal ≡ Refused.Problem Trouble.StoreFault) × ((new : List Row) × (text : List ℕ) × (new ≢ [])
+        ⊎ ((refusal ≡ Refused.Problem Trouble.StoreFault)
+        × ((new : List Row) × (text : List ℕ) × (new ≢ [])
         × IsAdding state.old collection moment body.now new text)))) }
     ensures unchanged { OnErr result (state.new ≡ state.old) }
-    ensures causes { Counted (result ≡ Err (Refused.Problem Trouble.StoreFault)) (K.faults keeper.old) (K.faults keeper.new) }
+    // the keeper counts a fault exactly if the result is `StoreFault`
+    ensures causes { Counted (result ≡ Err (Refused.Problem Trouble.StoreFault))
+        (K.faults keeper.old) (K.faults keeper.new) }
 {
     let prepared = Prepared::of(alloc, collection, state, moment, body)?;
     let Prepared {

@@ -21,9 +21,8 @@ use taxii_routes::Query;
 use taxii_rows::{Keeper, KeeperRefusal};
 use taxii_store::Library;
 
-/// Deletes the rows of an object of a collection that the query picks (TAXII 2.1, section 5.7): all of
-/// its versions where the query names none. Nothing changes where it is refused: `StoreFault` where the
-/// keeper failed.
+/// Deletes the versions of an object that the query selects, by default all (TAXII 2.1, section
+/// 5.7). After an error nothing has changed; `StoreFault` means that the keeper failed.
 pub fn delete_object<K: Keeper>(
     alloc: Global,
     collection: u128,
@@ -32,15 +31,22 @@ pub fn delete_object<K: Keeper>(
     state: &mut State,
     keeper: &mut K,
 ) -> Result<Answer, Refusal>
+    // `kept` is the keeper's observable state: it must be the library's, and stays so
     requires agrees { Agrees (K.kept keeper.old) state.old.library }
     ensures agrees { Agrees (K.kept keeper.new) state.new.library }
     ensures keeper { without_rows (K.kept keeper.new) ≡ without_rows (K.kept keeper.old) }
-    ensures ok { IfOk result (λ answer. (dates : List ℕ) × AreDeleted state.old.library collection id.now query dates
+    ensures ok { IfOk result (λ answer. (dates : List ℕ)
+        × AreDeleted state.old.library collection id.now query dates
         × (answer ≡ bare Okay None) × (state.new ≡ without_dates dates state.old)) }
-    ensures err { IfErr result (λ refusal. (refusal ≡ Refused.NoMemory) ⊎ ((refusal ≡ Refused.Problem Trouble.StoreFault)
-        × ((dates : List ℕ) × (dates ≢ []) × AreDeleted state.old.library collection id.now query dates))) }
+    // with no rows to delete, the keeper is not called and cannot fail
+    ensures err { IfErr result (λ refusal. (refusal ≡ Refused.NoMemory)
+        ⊎ ((refusal ≡ Refused.Problem Trouble.StoreFault)
+        × ((dates : List ℕ) × (dates ≢ [])
+        × AreDeleted state.old.library collection id.now query dates))) }
     ensures unchanged { OnErr result (state.new ≡ state.old) }
-    ensures causes { Counted (result ≡ Err (Refused.Problem Trouble.StoreFault)) (K.faults keeper.old) (K.faults keeper.new) }
+    // the keeper counts a fault exactly if the result is `StoreFault`
+    ensures causes { Counted (result ≡ Err (Refused.Problem Trouble.StoreFault))
+        (K.faults keeper.old) (K.faults keeper.new) }
 {
     let dates = dates_of(alloc, collection, id, query, &state.library)?;
     match state.library.commit_delete(keeper, dates.as_slice()) {
@@ -50,7 +56,7 @@ pub fn delete_object<K: Keeper>(
     }
 }
 
-/// The dates of the rows that are to be deleted.
+/// The dates of the rows to be deleted.
 fn dates_of(
     alloc: Global,
     collection: u128,
@@ -68,7 +74,7 @@ fn dates_of(
     taken_dates(collection, id, picks.as_slice(), library)
 }
 
-/// The dates of the rows that the picks select.
+/// The dates of the rows that the version filters select.
 fn taken_dates(
     collection: u128,
     id: &Id,
@@ -81,7 +87,7 @@ fn taken_dates(
     library.plan_delete(collection, id, picks)
 }
 
-/// Whether an object of STIX 2.1 may meet the query.
+/// Whether `match[spec_version]` allows 2.1.
 fn allows_standard(query: &Query) -> bool
     ensures { IsTrue result ↔ AllowsStandard query.now }
 {
@@ -91,7 +97,7 @@ fn allows_standard(query: &Query) -> bool
     }
 }
 
-/// The versions that are deleted.
+/// The version filters of a deletion; the default is all versions.
 fn picks_of(alloc: Global, query: Query) -> Result<Items<Pick>, NoMemory>
     ensures { IfOk result (λ picks. picks ≡ deleted_picks query) }
 {

@@ -12,7 +12,7 @@ use taxii_exchange::{Allow, Config, Rights, Statuses};
 use taxii_routes::Route;
 use taxii_store::Library;
 
-/// The methods that a resource allows.
+/// The methods that the resource of a route allows.
 pub fn allow_of(route: &Route) -> Allow
     ensures { result ≡ allowed_of route.now }
 {
@@ -30,8 +30,8 @@ pub fn allow_of(route: &Route) -> Allow
     }
 }
 
-/// What a client may do with the resource of a route, where there is one: a status that is kept, a
-/// collection that is served, an object of which the collection has a row. Takes no memory.
+/// The rights on the resource of a route, if it exists: a status that is kept, a collection of the
+/// configuration, an object with a row in its collection. Allocates nothing.
 pub fn rights_for(config: &Config, state: &State, route: &Route) -> Option<Rights>
     ensures { FindsExactly (IsFound config.now.collections state.now route.now) result }
 {
@@ -52,21 +52,24 @@ pub fn rights_for(config: &Config, state: &State, route: &Route) -> Option<Right
 }
 
 fn rights_to_status(statuses: &Statuses, id: &str) -> Option<Rights>
-    ensures { FindsExactly (λ rights. (rights ≡ all_rights) × (body_of id.now statuses.now ≢ None)) result }
+    ensures { FindsExactly (λ rights. (rights ≡ all_rights)
+        × (body_of id.now statuses.now ≢ None)) result }
 {
     statuses.find(id)?;
     Some(Rights::ALL)
 }
 
 fn rights_to_info(config: &Config, id: &str) -> Option<Rights>
-    ensures { FindsExactly (λ rights. (rights ≡ all_rights) × (collection_named id.now config.now.collections ≢ None)) result }
+    ensures { FindsExactly (λ rights. (rights ≡ all_rights)
+        × (collection_named id.now config.now.collections ≢ None)) result }
 {
     config.collection(id)?;
     Some(Rights::ALL)
 }
 
 fn rights_in(config: &Config, id: &str) -> Option<Rights>
-    ensures { FindsExactly (λ rights. (info : Info) × Names id.now config.now.collections info × (rights ≡ rights_of info)) result }
+    ensures { FindsExactly (λ rights. (info : Info) × Names id.now config.now.collections info
+        × (rights ≡ rights_of info)) result }
 {
     let info = config.collection(id)?;
     Some(Rights::of(info))
@@ -78,7 +81,8 @@ fn rights_to_object(
     collection: &str,
     object: &str,
 ) -> Option<Rights>
-    ensures { FindsExactly (λ rights. (info : Info) × Names collection.now config.now.collections info
+    ensures { FindsExactly (λ rights. (info : Info)
+        × Names collection.now config.now.collections info
         × (rights ≡ rights_of info) × NamesRowOf object.now info.id library.now.rows) result }
 {
     let info = config.collection(collection)?;
@@ -89,7 +93,7 @@ fn rights_to_object(
     }
 }
 
-/// Whether one of the rows is of the collection, and the text is its identifier.
+/// Whether the collection has a row of the object with this identifier.
 fn has_row(library: &Library, collection: u128, object: &str) -> bool
     ensures { IsTrue result ↔ NamesRowOf object.now collection library.now.rows }
 {

@@ -1,4 +1,4 @@
-//! What follows from the definitions: the contracts are the laws, and the functions do next to nothing.
+//! Theorems about the definitions. Each `ensures` states one; the functions have no effect.
 
 ghost use Rattle.std.specs.Prelude.{◌≡◌, ℕ, List, Option};
 ghost use Rattle.stix_ids.specs.declared.id.Id.{Id};
@@ -15,8 +15,8 @@ use stix_ids::laws::one_identifier;
 use taxii_routes::laws::{one_query, one_route, one_target};
 use taxii_store::walk_laws::{one_page, walks_skip_no_row};
 
-/// Whatever requests a server serves, its store goes through additions and deletions alone. So a walk
-/// may go on over a restart, which leaves the store as it is.
+/// Any sequence of requests changes the store only by additions and deletions. So a walk may
+/// continue after a restart, which leaves the store as it is.
 pub fn requests_make_history()
     ensures history { (config : Config) (before after : State) (exchanges : List Exchange)
         → HasServed config before exchanges after → IsHistory before.library after.library }
@@ -24,15 +24,18 @@ pub fn requests_make_history()
         → HasServed config before exchanges after → IsDated before.library → IsDated after.library }
 {}
 
-/// What was answered with 200 was done: nothing stood against it.
+/// Whatever was answered with 200 was done: no reason against the request held.
 pub fn answered_requests_were_done()
-    ensures { (config : Config) (e : Exchange) → IsExchange config e → e.answer.status ≡ Okay → WasDone config e }
+    ensures { (config : Config) (e : Exchange) → IsExchange config e → e.answer.status ≡ Okay
+        → WasDone config e }
 {}
 
-/// A GET of objects that was answered with 200 was answered with a page of the store as it was there.
+/// A GET of objects that was answered with 200 got a page of the store at that time.
 pub fn gets_are_paged()
-    ensures { (config : Config) (e : Exchange) (collection : ℕ) (only : Option Id) (query : Query) → IsExchange config e → e.answer.status ≡ Okay
-        → Asks config e.request collection only query → IsPageOf e.before.library.rows collection only query IsEnvelope e.answer }
+    ensures { (config : Config) (e : Exchange) (collection : ℕ) (only : Option Id) (query : Query)
+        → IsExchange config e → e.answer.status ≡ Okay
+        → Asks config e.request collection only query
+        → IsPageOf e.before.library.rows collection only query IsEnvelope e.answer }
 {
     one_target();
     one_route();
@@ -40,11 +43,12 @@ pub fn gets_are_paged()
     one_identifier();
 }
 
-/// Every walk among the requests that a server served gives each row that was asked for and is still
-/// stored at the last page, once each, in the order of dates.
+/// Every walk among a server's requests gives each requested row that is still stored at the last
+/// page, once each, in the order of dates.
 pub fn walks_among_requests_skip_no_row()
     ensures { (config : Config) (before after : State) (exchanges : List Exchange)
-        → IsDated before.library → HasServed config before exchanges after → WalksSkipNoRow config exchanges }
+        → IsDated before.library → HasServed config before exchanges after
+        → WalksSkipNoRow config exchanges }
 {
     gets_are_paged();
     one_page();

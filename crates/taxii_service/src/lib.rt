@@ -1,21 +1,16 @@
-//! What a TAXII 2.1 server has: the library of its rows and the statuses that it still knows. Requests
-//! change these two and nothing else.
+//! A TAXII 2.1 server's response to one request (sections 3 to 5). From the configuration, the
+//! state, the time and the request, [`respond`] computes the response and the next state. The state
+//! is the store and the statuses kept; only POST and DELETE change it.
 //!
-//! What a TAXII 2.1 server has to read (sections 4 and 5): which resource a path names, who may do what
-//! with it, and what a GET of it answers.
+//! All memory is allocated before the keeper is called, so nothing can fail after its `Ok`. Each
+//! posted entry is checked by itself: an invalid one does not affect the others. `laws` proves, for
+//! any sequence of requests, that whatever was answered with 200 was done. A client that follows
+//! `next` with all versions receives every row, whatever others request in between.
 //!
-//! What requests to add and to delete objects do to a TAXII 2.1 server (sections 5.5 and 5.7): the store
-//! and the statuses after them, and their answers. All memory is taken before the keeper of the rows is
-//! called, so that nothing can fail after it has done its work.
-//!
-//! Each entry of the list that is posted is judged by itself, so one that fails takes no other with it.
-//!
-//! A TAXII 2.1 server's answer to one request (sections 3 to 5): from the store and the statuses, the
-//! moment and the request, to the answer and what the store and the statuses are after it.
-//!
-//! What a TAXII 2.1 server did: requests in turn, each with what came of it. The laws: what was answered
-//! with 200 was done, a GET of objects so by a page of them, and a client that follows `next` with all
-//! versions is given every row, whatever else was asked between.
+//! ```text
+//! let mut state = State { library, statuses: Statuses::new(alloc)? };
+//! let answer = respond(&config, &mut state, &mut keeper, now_micros, &request)?;
+//! ```
 #![tactic(auto)]
 
 mod adding;

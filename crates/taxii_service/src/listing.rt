@@ -13,7 +13,7 @@ use taxii_routes::Query;
 use taxii_store::page_laws::rows_of_pages;
 use taxii_store::{Library, page_of};
 
-/// A page of objects.
+/// The response with a page of objects.
 pub(crate) fn list_objects<'a>(
     alloc: Global,
     library: &'a Library,
@@ -21,14 +21,16 @@ pub(crate) fn list_objects<'a>(
     only: Option<&'a Id>,
     query: &'a Query,
 ) -> Result<Answer, NoMemory>
-    ensures { IfOk result (IsPageOf library.now.rows collection (option_map (λ id. id.now) only.entry) query.now IsEnvelope) }
+    ensures { IfOk result
+        (IsPageOf library.now.rows collection
+        (option_map (λ id. id.now) only.entry) query.now IsEnvelope) }
 {
     let page = page_of(alloc, library, collection, only, query)?;
     let body = envelope_body(alloc, &page.rows, page.more)?;
     Ok(page_answer(&page.rows, body))
 }
 
-/// A page of a manifest.
+/// The response with a page of a manifest.
 pub(crate) fn list_manifest<'a>(
     alloc: Global,
     library: &'a Library,
@@ -45,7 +47,7 @@ pub(crate) fn list_manifest<'a>(
     Ok(page_answer(&page.rows, body))
 }
 
-/// A page of the versions of an object.
+/// The response with a page of an object's versions.
 pub(crate) fn list_versions<'a>(
     alloc: Global,
     library: &'a Library,
@@ -53,7 +55,9 @@ pub(crate) fn list_versions<'a>(
     only: Option<&'a Id>,
     query: &'a Query,
 ) -> Result<Answer, NoMemory>
-    ensures { IfOk result (IsPageOf library.now.rows collection (option_map (λ id. id.now) only.entry) query.now AreVersions) }
+    ensures { IfOk result
+        (IsPageOf library.now.rows collection
+        (option_map (λ id. id.now) only.entry) query.now AreVersions) }
 {
     rows_of_pages();
     sound_rows_are_writable();

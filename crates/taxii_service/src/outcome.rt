@@ -14,7 +14,7 @@ use taxii_exchange::{Answer, Config, Refusal, check};
 use taxii_routes::Route;
 use taxii_rows::Keeper;
 
-/// What comes of a request to the resource of a route.
+/// Checks a request to the resource of a route, and performs it.
 pub(crate) fn outcome<K: Keeper>(
     config: &Config,
     state: &mut State,
@@ -27,14 +27,18 @@ pub(crate) fn outcome<K: Keeper>(
     requires agrees { Agrees (K.kept keeper.old) state.old.library }
     ensures agrees { Agrees (K.kept keeper.new) state.new.library }
     ensures keeper { without_rows (K.kept keeper.new) ≡ without_rows (K.kept keeper.old) }
-    ensures ok { IfOk result (λ answer. IsDone config.now state.old moment request.now route.now query.now
+    ensures ok { IfOk result
+        (λ answer. IsDone config.now state.old moment request.now route.now query.now
         answer state.new) }
+    // the reason holds: a check refused the request, or the keeper failed on a change
     ensures err { IfErr result (λ refusal. (refusal ≡ Refused.NoMemory)
         ⊎ (IsRefused config.now state.old moment request.now route.now query.now refusal
         ⊎ ((refusal ≡ Refused.Problem Trouble.StoreFault)
         × RouteChanges config.now state.old moment request.now route.now query.now))) }
     ensures unchanged { OnErr result (state.new ≡ state.old) }
-    ensures causes { Counted (result ≡ Err (Refused.Problem Trouble.StoreFault)) (K.faults keeper.old) (K.faults keeper.new) }
+    // the keeper counts a fault exactly if the result is `StoreFault`
+    ensures causes { Counted (result ≡ Err (Refused.Problem Trouble.StoreFault))
+        (K.faults keeper.old) (K.faults keeper.new) }
 {
     let Some(rights) = rights_for(config, state, route) else {
         return Err(Refusal::Problem(Problem::NotFound));

@@ -12,7 +12,7 @@ use taxii_bodies::{Detail, StatusReport, success_detail};
 use taxii_rows::row_at;
 use taxii_store::{AddOutcome, Library, Planned};
 
-/// What is told of an addition.
+/// The status report of a planned addition.
 pub(crate) fn report_of(
     alloc: Global,
     library: &Library,
@@ -23,7 +23,9 @@ pub(crate) fn report_of(
     failure_count: u64,
 ) -> Result<StatusReport, NoMemory>
     requires rows { All (HasRow (library.now.rows ++ planned.now.rows)) planned.now.outcomes }
-    ensures { IfOk result (IsReportOf number moment failures failure_count planned.now.outcomes (library.now.rows ++ planned.now.rows)) }
+    ensures { IfOk result
+        (IsReportOf number moment failures failure_count planned.now.outcomes
+        (library.now.rows ++ planned.now.rows)) }
 {
     let outcomes = planned.outcomes();
     let first = &outcomes[..outcomes.len().min(MAX_DETAILS)];
@@ -38,7 +40,7 @@ pub(crate) fn report_of(
     })
 }
 
-/// The details of objects that were stored.
+/// The details of stored objects.
 fn details_of(
     alloc: Global,
     library: &Library,
@@ -46,7 +48,9 @@ fn details_of(
     outcomes: &[AddOutcome],
 ) -> Result<Items<Detail>, NoMemory>
     requires rows { All (HasRow (library.now.rows ++ planned.now.rows)) outcomes.now }
-    ensures { IfOk result (λ details. AllZip (IsSuccess (library.now.rows ++ planned.now.rows)) outcomes.now details) }
+    ensures { IfOk result
+        (λ details. AllZip
+        (IsSuccess (library.now.rows ++ planned.now.rows)) outcomes.now details) }
 {
     let mut details = Items::with_capacity(alloc, outcomes.len())?;
     for outcome in outcomes {
@@ -55,7 +59,7 @@ fn details_of(
     Ok(details)
 }
 
-/// The detail of the row of an outcome.
+/// The detail of an outcome's row.
 fn detail_of(
     alloc: Global,
     library: &Library,
@@ -73,7 +77,7 @@ fn detail_of(
     }
 }
 
-/// The detail of the new row of an outcome.
+/// The detail of an outcome's new row.
 fn new_detail(alloc: Global, planned: &Planned, outcome: AddOutcome) -> Result<Detail, NoMemory>
     requires row { HasRow planned.now.rows outcome }
     ensures { IfOk result (IsSuccess planned.now.rows outcome) }

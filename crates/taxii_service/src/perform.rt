@@ -21,7 +21,7 @@ use taxii_exchange::{Answer, Config, Refusal};
 use taxii_routes::{Query, Route};
 use taxii_rows::Keeper;
 
-/// Adds the objects of a POST.
+/// Performs a POST: adds its objects.
 pub(crate) fn post<K: Keeper>(
     config: &Config,
     state: &mut State,
@@ -35,12 +35,15 @@ pub(crate) fn post<K: Keeper>(
     requires found { (rights : Rights) × IsFound config.now.collections state.old route.now rights }
     ensures agrees { Agrees (K.kept keeper.new) state.new.library }
     ensures keeper { without_rows (K.kept keeper.new) ≡ without_rows (K.kept keeper.old) }
-    ensures ok { IfOk result (λ answer. Posts config.now state.old moment request.now route.now answer state.new) }
+    ensures ok { IfOk result
+        (λ answer. Posts config.now state.old moment request.now route.now answer state.new) }
     ensures err { IfErr result (λ refusal. (refusal ≡ Refused.NoMemory)
         ⊎ (CannotPost config.now state.old moment request.now route.now refusal
-        ⊎ ((refusal ≡ Refused.Problem Trouble.StoreFault) × PostChanges config.now state.old moment request.now route.now))) }
+        ⊎ ((refusal ≡ Refused.Problem Trouble.StoreFault)
+        × PostChanges config.now state.old moment request.now route.now))) }
     ensures unchanged { OnErr result (state.new ≡ state.old) }
-    ensures causes { Counted (result ≡ Err (Refused.Problem Trouble.StoreFault)) (K.faults keeper.old) (K.faults keeper.new) }
+    ensures causes { Counted (result ≡ Err (Refused.Problem Trouble.StoreFault))
+        (K.faults keeper.old) (K.faults keeper.new) }
 {
     let Route::Objects(id) = route else {
         unreachable!();
@@ -52,7 +55,7 @@ pub(crate) fn post<K: Keeper>(
     add_objects(config.alloc, info.id, state, keeper, moment, body)
 }
 
-/// Deletes the rows of an object that the query of a DELETE picks.
+/// Performs a DELETE: deletes the rows that its query selects.
 pub(crate) fn delete<K: Keeper>(
     config: &Config,
     state: &mut State,
@@ -65,11 +68,14 @@ pub(crate) fn delete<K: Keeper>(
     requires found { (rights : Rights) × IsFound config.now.collections state.old route.now rights }
     ensures agrees { Agrees (K.kept keeper.new) state.new.library }
     ensures keeper { without_rows (K.kept keeper.new) ≡ without_rows (K.kept keeper.old) }
-    ensures ok { IfOk result (λ answer. Deletes config.now state.old route.now query answer state.new) }
-    ensures err { IfErr result (λ refusal. (refusal ≡ Refused.NoMemory) ⊎ ((refusal ≡ Refused.Problem Trouble.StoreFault)
+    ensures ok { IfOk result
+        (λ answer. Deletes config.now state.old route.now query answer state.new) }
+    ensures err { IfErr result (λ refusal. (refusal ≡ Refused.NoMemory)
+        ⊎ ((refusal ≡ Refused.Problem Trouble.StoreFault)
         × DeleteChanges config.now state.old route.now query)) }
     ensures unchanged { OnErr result (state.new ≡ state.old) }
-    ensures causes { Counted (result ≡ Err (Refused.Problem Trouble.StoreFault)) (K.faults keeper.old) (K.faults keeper.new) }
+    ensures causes { Counted (result ≡ Err (Refused.Problem Trouble.StoreFault))
+        (K.faults keeper.old) (K.faults keeper.new) }
 {
     let Route::Object { collection, object } = route else {
         unreachable!();
@@ -81,7 +87,7 @@ pub(crate) fn delete<K: Keeper>(
     delete_object(config.alloc, info.id, &id, query, state, keeper)
 }
 
-/// The identifier that a text is.
+/// The text as an identifier; it is one, since the resource was found.
 fn identifier(alloc: Global, text: &str) -> Result<Id, NoMemory>
     requires { (id : Identifier) × IsTextOf text.now id }
     ensures { IfOk result (IsTextOf text.now) }
@@ -95,7 +101,7 @@ fn identifier(alloc: Global, text: &str) -> Result<Id, NoMemory>
     }
 }
 
-/// Does what a request asks for against which nothing stands.
+/// Performs a request that passed all checks.
 pub(crate) fn perform<K: Keeper>(
     config: &Config,
     state: &mut State,
@@ -110,14 +116,16 @@ pub(crate) fn perform<K: Keeper>(
     requires found { (rights : Rights) × IsFound config.now.collections state.old route.now rights }
     ensures agrees { Agrees (K.kept keeper.new) state.new.library }
     ensures keeper { without_rows (K.kept keeper.new) ≡ without_rows (K.kept keeper.old) }
-    ensures ok { IfOk result (λ answer. Does config.now state.old moment request.now route.now query request.now.method
+    ensures ok { IfOk result
+        (λ answer. Does config.now state.old moment request.now route.now query request.now.method
         answer state.new) }
     ensures err { IfErr result (λ refusal. (refusal ≡ Refused.NoMemory)
         ⊎ (CannotDo config.now state.old moment request.now route.now request.now.method refusal
         ⊎ ((refusal ≡ Refused.Problem Trouble.StoreFault)
         × Changes config.now state.old moment request.now route.now query))) }
     ensures unchanged { OnErr result (state.new ≡ state.old) }
-    ensures causes { Counted (result ≡ Err (Refused.Problem Trouble.StoreFault)) (K.faults keeper.old) (K.faults keeper.new) }
+    ensures causes { Counted (result ≡ Err (Refused.Problem Trouble.StoreFault))
+        (K.faults keeper.old) (K.faults keeper.new) }
 {
     match request.method {
         Method::Get => read(config, state, route, query),

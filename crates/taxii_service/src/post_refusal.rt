@@ -9,10 +9,10 @@ use thiserror::Error;
 /// Why a body has no list of objects.
 #[derive(Clone, Copy, Debug, PartialEq, Eq, Error)]
 pub enum PostRefusal {
-    /// The body isn't UTF-8, isn't JSON, or nests more than 127 levels.
+    /// The body is not UTF-8, is not JSON, or nests more than 127 levels.
     #[error("the body is not JSON")]
     NotJson,
-    /// It is no object, or has another value than a list under `objects`.
+    /// It is no object, or `objects` is no list.
     #[error("the body has no list of objects")]
     NotList,
     /// Memory ran out.
@@ -21,14 +21,15 @@ pub enum PostRefusal {
 }
 
 impl PostRefusal {
-    /// The same of the refusal of a body's entries.
+    /// Converts the reader's refusal.
     pub(crate) fn of(refusal: JsonRefusal) -> PostRefusal
-        ensures { (body : List ℕ) → HasNoEntriesAs body (codes "objects") refusal → IsUnreadable body result }
+        ensures { (body : List ℕ) → HasNoEntriesAs body (codes "objects") refusal
+            → IsUnreadable body result }
     {
         match refusal {
             JsonRefusal::NotList => PostRefusal::NotList,
             JsonRefusal::NoMemory => PostRefusal::NoMemory,
-            // those with a path are of an entry, never of the whole body
+            // refusals with a path concern an entry, never the whole body
             JsonRefusal::NotJson
             | JsonRefusal::TooDeep { .. }
             | JsonRefusal::NotWhole { .. }

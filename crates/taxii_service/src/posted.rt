@@ -13,22 +13,22 @@ use stix_objects::{Break, breaks, object_id};
 use taxii_bodies::{Detail, failure_detail, refused_detail};
 use taxii_rows::{Described, describe};
 
-/// How many failures of a request have details.
+/// The maximum number of failures with details.
 pub const MAX_DETAILS: usize = 100;
 
-/// What a request to add objects holds: each entry of its list is an object or a failure.
+/// The entries of a POST: objects and failures.
 #[derive(Drop)]
 pub struct Posted {
-    /// What a store keeps of each object without a break, in their order.
+    /// The objects without violations, as a store keeps them, in order.
     pub objects: Vec<Described>,
-    /// The details of the entries that failed, or of the first `MAX_DETAILS` of them.
+    /// The details of the first `MAX_DETAILS` failures.
     pub failures: Items<Detail>,
-    /// How many entries failed.
+    /// The number of failures.
     pub failure_count: u64,
 }
 
 impl Posted {
-    /// No entries. Takes no memory.
+    /// No entries. Allocates nothing.
     pub(crate) fn empty(alloc: Global) -> Posted
         ensures objects { result.objects.items ≡ [] }
         ensures failures { result.failures ≡ [] }
@@ -41,7 +41,7 @@ impl Posted {
         }
     }
 
-    /// One more entry, of a request that came at that moment.
+    /// Adds an entry of a request that arrived at `moment`.
     pub(crate) fn add(&mut self, alloc: Global, entry: Entry, moment: u64) -> Result<(), NoMemory>
         requires taken { IsTaken entry }
         requires room { self.old.failure_count < 2 ^ 63 }
@@ -53,8 +53,9 @@ impl Posted {
         }
     }
 
-    /// One more value: an object, or a failure where it breaks a rule. Behind the failures that have details the rules aren't
-    /// asked of what has no identifier: a stranger may send millions of such entries.
+    /// Adds a value: an object, or a failure if it violates a rule. Once `MAX_DETAILS` failures
+    /// have details, values without an identifier are counted without checking the rules: untrusted
+    /// clients may send millions of them.
     fn add_value(&mut self, alloc: Global, value: &Json, moment: u64) -> Result<(), NoMemory>
         requires taken { IsTaken (Good value.now) }
         requires room { self.old.failure_count < 2 ^ 63 }
@@ -71,7 +72,7 @@ impl Posted {
         }
     }
 
-    /// One more object.
+    /// Adds an object.
     fn add_object(&mut self, alloc: Global, object: &Json) -> Result<(), NoMemory>
         requires taken { IsTaken (Good object.now) }
         requires unbroken { AreBreaksOf (data_of object.now) [] }
@@ -85,7 +86,7 @@ impl Posted {
         Ok(())
     }
 
-    /// One more failure: a value that breaks a rule.
+    /// Adds a failure: a value that violates a rule.
     fn add_broken(
         &mut self,
         alloc: Global,
@@ -107,7 +108,7 @@ impl Posted {
         Ok(())
     }
 
-    /// One more failure: an entry that is no JSON value.
+    /// Adds a failure: an entry that is no JSON value.
     fn add_refused(
         &mut self,
         alloc: Global,
@@ -127,7 +128,7 @@ impl Posted {
     }
 }
 
-/// Whether the value has no identifier, and so breaks a rule.
+/// Whether the value has no identifier, which violates a rule.
 fn has_no_id(value: &Json) -> bool
     ensures { IsTrue result → ¬ AreBreaksOf (data_of value.now) [] }
 {

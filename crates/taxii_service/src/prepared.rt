@@ -19,7 +19,7 @@ use taxii_rows::Described;
 use taxii_store::store_laws::outcomes_have_rows;
 use taxii_store::{Library, PlanRefusal, Planned};
 
-/// An addition with all the memory that it takes.
+/// A POST that is ready to be committed, with all memory allocated.
 #[derive(Drop)]
 pub(crate) struct Prepared {
     pub(crate) planned: Planned,
@@ -28,7 +28,7 @@ pub(crate) struct Prepared {
 }
 
 impl Prepared {
-    /// What a request to add objects to a collection, which came at that moment, is to do.
+    /// Prepares a POST to a collection that arrived at `moment`.
     pub(crate) fn of(
         alloc: Global,
         collection: u128,
@@ -36,10 +36,16 @@ impl Prepared {
         moment: u64,
         body: &[u8],
     ) -> Result<Prepared, Refusal>
-        ensures watermark { IfOk result (λ prepared. prepared.planned.watermark ≡ state.now.library.watermark) }
-        ensures adding { IfOk result (λ prepared. IsAdding state.now collection moment body.now prepared.planned.rows prepared.body) }
-        ensures status { IfOk result (λ prepared. prepared.status ≡ record { id = status_id_of (next_number state.now.statuses); body = prepared.body }) }
-        ensures err { IfErr result (λ refusal. (refusal ≡ Refused.NoMemory) ⊎ CannotAdd state.now collection moment body.now refusal) }
+        ensures watermark { IfOk result
+            (λ prepared. prepared.planned.watermark ≡ state.now.library.watermark) }
+        ensures adding { IfOk result
+            (λ prepared. IsAdding state.now collection moment body.now prepared.planned.rows
+            prepared.body) }
+        ensures status { IfOk result
+            (λ prepared. prepared.status
+            ≡ record { id = status_id_of (next_number state.now.statuses); body = prepared.body }) }
+        ensures err { IfErr result (λ refusal. (refusal ≡ Refused.NoMemory)
+            ⊎ CannotAdd state.now collection moment body.now refusal) }
     {
         let posted = posted_of(alloc, body, moment)?;
         let Posted {
@@ -70,11 +76,12 @@ impl Prepared {
     }
 }
 
-/// What the body holds.
+/// Parses the body.
 fn posted_of(alloc: Global, body: &[u8], moment: u64) -> Result<Posted, Refusal>
     ensures ok { IfOk result (IsPosted body.now moment) }
     ensures sound { IfOk result (λ posted. All IsSound posted.objects.items) }
-    ensures few { IfOk result (λ posted. length posted.objects.items + posted.failure_count < 2 ^ 63) }
+    ensures few { IfOk result
+        (λ posted. length posted.objects.items + posted.failure_count < 2 ^ 63) }
     ensures err { IfErr result (λ refusal. (refusal ≡ Refused.NoMemory)
         ⊎ (((refusal ≡ Refused.Problem Trouble.NotJson) × IsUnreadable body.now Unread.NotJson)
         ⊎ ((refusal ≡ Refused.Problem Trouble.NotList) × IsUnreadable body.now Unread.NotList))) }
@@ -87,7 +94,7 @@ fn posted_of(alloc: Global, body: &[u8], moment: u64) -> Result<Posted, Refusal>
     }
 }
 
-/// The addition of some objects.
+/// Plans the addition of the objects.
 fn planned_of(
     library: &Library,
     collection: u128,
@@ -96,9 +103,12 @@ fn planned_of(
 ) -> Result<Planned, Refusal>
     requires { All IsSound objects.items }
     ensures watermark { IfOk result (λ planned. planned.watermark ≡ library.now.watermark) }
-    ensures ok { IfOk result (λ planned. IsAddition library.now collection moment objects.items planned.outcomes planned.rows) }
+    ensures ok { IfOk result
+        (λ planned. IsAddition library.now collection moment objects.items planned.outcomes
+        planned.rows) }
     ensures err { IfErr result (λ refusal. (refusal ≡ Refused.NoMemory)
-        ⊎ ((refusal ≡ Refused.Problem Trouble.DatesUsedUp) × UsesUpDates library.now collection objects.items)) }
+        ⊎ ((refusal ≡ Refused.Problem Trouble.DatesUsedUp)
+        × UsesUpDates library.now collection objects.items)) }
 {
     match library.plan_add(collection, moment, objects) {
         Ok(planned) => Ok(planned),

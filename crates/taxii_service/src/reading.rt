@@ -28,12 +28,12 @@ use taxii_store::Library;
 
 const NOT_FOUND: Refusal = Refusal::Problem(Problem::NotFound);
 
-/// The answer to a GET of the resource of a route, whose query asks for that. `NotFound` where there is
-/// no such resource.
+/// The response to a GET of the resource of a route. `NotFound` if the resource does not exist.
 pub fn read(config: &Config, state: &State, route: &Route, query: Query) -> Result<Answer, Refusal>
     ensures ok { IfOk result (IsReading config.now state.now route.now query) }
     ensures err { IfErr result (λ refusal. (refusal ≡ Refused.NoMemory)
-        ⊎ ((refusal ≡ Refused.Problem Trouble.NotFound) × IsNoResource config.now state.now route.now)) }
+        ⊎ ((refusal ≡ Refused.Problem Trouble.NotFound)
+        × IsNoResource config.now state.now route.now)) }
 {
     let library = &state.library;
     match route {
@@ -57,7 +57,7 @@ pub fn read(config: &Config, state: &State, route: &Route, query: Query) -> Resu
     }
 }
 
-/// An answer with a body.
+/// A 200 response with a body.
 fn okay(body: Text) -> Answer
     ensures { HasBody body result }
 {
@@ -75,7 +75,8 @@ fn read_discovery(config: &Config) -> Result<Answer, NoMemory>
 }
 
 fn read_status(config: &Config, statuses: &Statuses, id: &str) -> Result<Answer, Refusal>
-    ensures ok { IfOk result (λ answer. (body : List ℕ) × (body_of id.now statuses.now ≡ Some body) × HasBody body answer) }
+    ensures ok { IfOk result (λ answer. (body : List ℕ) × (body_of id.now statuses.now ≡ Some body)
+        × HasBody body answer) }
     ensures err { IfErr result (λ refusal. (refusal ≡ Refused.NoMemory)
         ⊎ ((refusal ≡ Refused.Problem Trouble.NotFound) × (body_of id.now statuses.now ≡ None))) }
 {
@@ -86,9 +87,11 @@ fn read_status(config: &Config, statuses: &Statuses, id: &str) -> Result<Answer,
 }
 
 fn read_collection(config: &Config, id: &str) -> Result<Answer, Refusal>
-    ensures ok { IfOk result (λ answer. (info : Info) × Names id.now config.now.collections info × HasBody (compact_text (collection_data info)) answer) }
+    ensures ok { IfOk result (λ answer. (info : Info) × Names id.now config.now.collections info
+        × HasBody (compact_text (collection_data info)) answer) }
     ensures err { IfErr result (λ refusal. (refusal ≡ Refused.NoMemory)
-        ⊎ ((refusal ≡ Refused.Problem Trouble.NotFound) × (collection_named id.now config.now.collections ≡ None))) }
+        ⊎ ((refusal ≡ Refused.Problem Trouble.NotFound)
+        × (collection_named id.now config.now.collections ≡ None))) }
 {
     match config.collection(id) {
         Some(info) => Ok(okay(collection_body(config.alloc, info)?)),
@@ -105,7 +108,8 @@ fn read_manifest(
     ensures ok { IfOk result (λ answer. (info : Info) × Names id.now config.now.collections info
         × IsPageOf library.now.rows info.id None query.now IsManifest answer) }
     ensures err { IfErr result (λ refusal. (refusal ≡ Refused.NoMemory)
-        ⊎ ((refusal ≡ Refused.Problem Trouble.NotFound) × (collection_named id.now config.now.collections ≡ None))) }
+        ⊎ ((refusal ≡ Refused.Problem Trouble.NotFound)
+        × (collection_named id.now config.now.collections ≡ None))) }
 {
     match config.collection(id) {
         Some(info) => Ok(list_manifest(config.alloc, library, info.id, query)?),
@@ -122,7 +126,8 @@ fn read_objects(
     ensures ok { IfOk result (λ answer. (info : Info) × Names id.now config.now.collections info
         × IsPageOf library.now.rows info.id None query.now IsEnvelope answer) }
     ensures err { IfErr result (λ refusal. (refusal ≡ Refused.NoMemory)
-        ⊎ ((refusal ≡ Refused.Problem Trouble.NotFound) × (collection_named id.now config.now.collections ≡ None))) }
+        ⊎ ((refusal ≡ Refused.Problem Trouble.NotFound)
+        × (collection_named id.now config.now.collections ≡ None))) }
 {
     match config.collection(id) {
         Some(info) => Ok(list_objects(config.alloc, library, info.id, None, query)?),
@@ -137,10 +142,14 @@ fn read_object(
     object: &str,
     query: Query,
 ) -> Result<Answer, Refusal>
-    ensures ok { IfOk result (λ answer. (info : Info) × Names collection.now config.now.collections info
-        × IsPageOfObject library.now.rows info.id object.now (object_query query) IsEnvelope answer) }
-    ensures err { IfErr result (λ refusal. (refusal ≡ Refused.NoMemory) ⊎ ((refusal ≡ Refused.Problem Trouble.NotFound)
-        × ((collection_named collection.now config.now.collections ≡ None) ⊎ ((id : Identifier) → ¬ IsTextOf object.now id)))) }
+    ensures ok { IfOk result (λ answer. (info : Info)
+        × Names collection.now config.now.collections info
+        × IsPageOfObject library.now.rows info.id object.now
+        (object_query query) IsEnvelope answer) }
+    ensures err { IfErr result (λ refusal. (refusal ≡ Refused.NoMemory)
+        ⊎ ((refusal ≡ Refused.Problem Trouble.NotFound)
+        × ((collection_named collection.now config.now.collections ≡ None)
+        ⊎ ((id : Identifier) → ¬ IsTextOf object.now id)))) }
 {
     let Some(info) = config.collection(collection) else {
         return Err(NOT_FOUND);
@@ -161,10 +170,14 @@ fn read_versions(
     object: &str,
     query: Query,
 ) -> Result<Answer, Refusal>
-    ensures ok { IfOk result (λ answer. (info : Info) × Names collection.now config.now.collections info
-        × IsPageOfObject library.now.rows info.id object.now (versions_query query) AreVersions answer) }
-    ensures err { IfErr result (λ refusal. (refusal ≡ Refused.NoMemory) ⊎ ((refusal ≡ Refused.Problem Trouble.NotFound)
-        × ((collection_named collection.now config.now.collections ≡ None) ⊎ ((id : Identifier) → ¬ IsTextOf object.now id)))) }
+    ensures ok { IfOk result (λ answer. (info : Info)
+        × Names collection.now config.now.collections info
+        × IsPageOfObject library.now.rows info.id object.now
+        (versions_query query) AreVersions answer) }
+    ensures err { IfErr result (λ refusal. (refusal ≡ Refused.NoMemory)
+        ⊎ ((refusal ≡ Refused.Problem Trouble.NotFound)
+        × ((collection_named collection.now config.now.collections ≡ None)
+        ⊎ ((id : Identifier) → ¬ IsTextOf object.now id)))) }
 {
     let Some(info) = config.collection(collection) else {
         return Err(NOT_FOUND);
@@ -179,7 +192,7 @@ fn read_versions(
     Ok(list_versions(config.alloc, library, info.id, Some(&id), &asked)?)
 }
 
-/// The picks that select every version.
+/// The filter for all versions.
 fn all_versions(alloc: Global) -> Result<Items<Pick>, NoMemory>
     ensures { IfOk result (λ picks. picks ≡ PickAll ∷ []) }
 {
@@ -188,11 +201,12 @@ fn all_versions(alloc: Global) -> Result<Items<Pick>, NoMemory>
     Ok(picks)
 }
 
-/// The identifier that a text in a path is.
+/// Parses the identifier in a path; `NotFound` if it is malformed.
 fn identifier(alloc: Global, text: &str) -> Result<Id, Refusal>
     ensures ok { IfOk result (IsTextOf text.now) }
     ensures err { IfErr result (λ refusal. (refusal ≡ Refused.NoMemory)
-        ⊎ ((refusal ≡ Refused.Problem Trouble.NotFound) × ((id : Identifier) → ¬ IsTextOf text.now id))) }
+        ⊎ ((refusal ≡ Refused.Problem Trouble.NotFound)
+        × ((id : Identifier) → ¬ IsTextOf text.now id))) }
 {
     match read_id(alloc, text) {
         Ok(id) => Ok(id),

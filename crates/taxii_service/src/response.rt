@@ -20,10 +20,10 @@ use taxii_routes::{Route, split_target};
 use taxii_rows::Keeper;
 use taxii_store::page_laws::rows_of_pages;
 
-/// Answers a request that came at a moment, in microseconds since 1970. A POST adds objects and keeps
-/// its status, a DELETE takes rows away, and nothing else changes anything. Where the keeper failed the
-/// answer is 500 and nothing has changed; nor has it where memory ran out, and then the keeper didn't
-/// fail. The dates of an answer lie before the year 10000.
+/// Responds to a request that arrived at a moment (microseconds since 1970). POST adds objects and
+/// keeps a status, DELETE removes rows, and nothing else changes the state. If the keeper failed,
+/// the response is 500 and nothing has changed. `NoMemory` means that nothing has changed and the
+/// keeper did not fail. The dates of a response are before the year 10000.
 pub fn respond<K: Keeper>(
     config: &Config,
     state: &mut State,
@@ -34,10 +34,13 @@ pub fn respond<K: Keeper>(
     requires agrees { Agrees (K.kept keeper.old) state.old.library }
     ensures agrees { Agrees (K.kept keeper.new) state.new.library }
     ensures keeper { without_rows (K.kept keeper.new) ≡ without_rows (K.kept keeper.old) }
-    ensures ok { IfOk result (λ answer. Step config.now state.old moment request.now answer state.new
+    ensures ok { IfOk result
+        (λ answer. Step config.now state.old moment request.now answer state.new
         ⊎ FailsToKeep config.now state.old moment request.now answer state.new) }
     ensures err { OnErr result (state.new ≡ state.old) }
-    ensures causes { Counted (IsOkAnd result (λ answer. answer.status ≡ Code.InternalServerError)) (K.faults keeper.old) (K.faults keeper.new) }
+    // a 500 is sent exactly if the keeper failed, and that fault is counted
+    ensures causes { Counted (IsOkAnd result (λ answer. answer.status ≡ Code.InternalServerError))
+        (K.faults keeper.old) (K.faults keeper.new) }
     ensures dates { IfOk result HasDates }
 {
     let (path, query) = split_target(request.target.as_str());
@@ -50,7 +53,7 @@ pub fn respond<K: Keeper>(
     }
 }
 
-/// The text of a query, which is empty where there is none.
+/// The query string, or the empty one if there is none.
 fn query_text(query: Option<&str>) -> &str
     ensures { result.now ≡ unwrap_or (option_map (λ text. text.now) query.entry) [] }
 {
@@ -60,7 +63,7 @@ fn query_text(query: Option<&str>) -> &str
     }
 }
 
-/// Answers a request to the resource of a route.
+/// Responds to a request to the resource of a route.
 fn respond_at<K: Keeper>(
     config: &Config,
     state: &mut State,
@@ -73,18 +76,21 @@ fn respond_at<K: Keeper>(
     requires agrees { Agrees (K.kept keeper.old) state.old.library }
     ensures agrees { Agrees (K.kept keeper.new) state.new.library }
     ensures keeper { without_rows (K.kept keeper.new) ≡ without_rows (K.kept keeper.old) }
-    ensures ok { IfOk result (λ answer. RouteStep config.now state.old moment request.now route.now query.now
+    ensures ok { IfOk result
+        (λ answer. RouteStep config.now state.old moment request.now route.now query.now
         answer state.new
-        ⊎ ((answer ≡ spec.answer_to_problem request.now.method Trouble.StoreFault) × (state.new ≡ state.old)
+        ⊎ ((answer ≡ spec.answer_to_problem request.now.method Trouble.StoreFault)
+        × (state.new ≡ state.old)
         × RouteChanges config.now state.old moment request.now route.now query.now)) }
     ensures err { OnErr result (state.new ≡ state.old) }
-    ensures causes { Counted (IsOkAnd result (λ answer. answer.status ≡ Code.InternalServerError)) (K.faults keeper.old) (K.faults keeper.new) }
+    ensures causes { Counted (IsOkAnd result (λ answer. answer.status ≡ Code.InternalServerError))
+        (K.faults keeper.old) (K.faults keeper.new) }
     ensures dates { IfOk result HasDates }
 {
     rows_of_pages();
     state.library.rows();
-    // The text of the keeper's fault is there before the keeper is called, so that a change that the
-    // keeper refused is never told as want of memory.
+    // The 500 response is allocated before the keeper is called. So a change that the keeper
+    // refused is never reported as out of memory.
     let store_fault = answer_to_problem(config.alloc, request.method, Problem::StoreFault)?;
     match outcome(config, state, keeper, moment, request, route, query) {
         Ok(answer) => Ok(answer),
@@ -92,7 +98,7 @@ fn respond_at<K: Keeper>(
     }
 }
 
-/// The answer to a refusal of a request of that method. That to the keeper's fault is there already.
+/// The error response to a refusal. The one for a keeper fault exists already.
 fn answer_to(
     alloc: Global,
     method: Method,

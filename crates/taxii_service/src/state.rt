@@ -1,7 +1,7 @@
 use taxii_exchange::Statuses;
 use taxii_store::Library;
 
-/// What a server has: its library, and the statuses that it still knows.
+/// The state of a server: its store, and the statuses that clients may request.
 #[derive(Drop)]
 pub struct State {
     pub library: Library,

@@ -1,4 +1,5 @@
--- What a database answers and does: by statements over its file. Without a file nothing is kept, and so nothing is ever there.
+-- What a database answers and does: by statements over its file. Without a file nothing is kept,
+-- and so nothing is ever there.
 use Rattle.std.specs.Prelude.{◌≡◌, ◌≢◌, ⊤, true, false, Bool, ℕ, List, [], Option, None, Some}
 use Rattle.sqlite_disk.specs.declared.Disk.{Ghosts}
 use Rattle.sqlite_disk.specs.declared.Files.{Files}
@@ -34,7 +35,7 @@ module _ {D : Type 0} {disk : Ghosts D} where
   FindsWatermark InMemory InMemory watermark = watermark ≡ 0
   FindsWatermark _ _ watermark = ⊥
 
-  -- the rows were added, and the date was made the watermark
+  -- the rows were added, and the date became the watermark
   abbrev pub Appends : List StoredRow → ℕ → Database D disk → Database D disk → Type 0
   Appends rows watermark (Disk before) (Disk after) = HasCleanDisk (file_state after.value) → Transacts file_state (Adds file_state rows watermark) before.value after.value
   Appends rows watermark InMemory InMemory = ⊤
@@ -56,14 +57,14 @@ module _ {D : Type 0} {disk : Ghosts D} where
   CanFail InMemory = ⊥
   CanFail _ = ⊤
 
-  -- a change failed and nothing was added or removed; of a file: what it holds and what is committed are as before, unless a failure
-  -- has closed by disk it
+  -- a change failed, and nothing was added or removed; of a file: its contents and the last commit
+  -- are unchanged, unless a disk failure has closed it
   abbrev pub StaysAs : Database D disk → Database D disk → Type 0
   StaysAs (Disk before) (Disk after) = HasCleanDisk (file_state after.value) → IsUntouched (file_state before.value) (file_state after.value)
   StaysAs Closed Closed = ⊤
   StaysAs _ _ = ⊥
 
-  -- a failure of the disk has closed by disk the file: each later call is refused, until the file is opened anew
+  -- a disk failure has closed the file: each later call fails, until the file is opened again
   abbrev pub IsClosedByDisk : Database D disk → Type 0
   IsClosedByDisk (Disk held) = (file_state held.value).is_open ≡ false
   IsClosedByDisk _ = ⊥
@@ -73,8 +74,9 @@ module _ {D : Type 0} {disk : Ghosts D} where
   IsClean (Disk held) = HasCleanDisk (file_state held.value)
   IsClean _ = ⊤
 
-  -- what was opened under a path: with an empty one nothing; with another one a file, whose database is the one that these
-  -- files held, a database and its log, and which was then made ready
+  -- what was opened under a path: with an empty one nothing; with another one a file, whose
+  -- database is the one that these files held, a database and its log, and which was then made
+  -- ready
   abbrev pub IsOpenAt : Image → List ℕ → Database D disk → Type 0
   IsOpenAt files path InMemory = path ≡ []
   IsOpenAt files path (Disk after) =
@@ -82,8 +84,8 @@ module _ {D : Type 0} {disk : Ghosts D} where
       × (HasCleanDisk (file_state after.value) → (before : _) × IsNew before × IsOpened before × FindsIn files (file_state before) × IsReady file_state before after.value)
   IsOpenAt files path Closed = ⊥
 
-  -- what an end leaves: of a file, both of its files, of which the database alone holds what was committed last, also after a crash;
-  -- else nothing
+  -- what an end leaves: of a file, both of its files, of which the database alone holds what was
+  -- committed last, also after a crash; else nothing
   abbrev pub Leaves : Database D disk → Option (Files D) → Type 0
   Leaves (Disk held) (Some files) = AreClean disk files.log files.db → IsCopied held.value files
   Leaves (Disk held) None = ⊥

@@ -1,4 +1,4 @@
--- Which errors of SQLite are want of memory, and what a keeper answers.
+-- Which errors of SQLite are out of memory, and what a keeper answers.
 use Rattle.std.specs.Prelude.{Bool, true, false, if◌then◌else◌}
 use Rattle.sqlite.specs.declared.error.Error.{Error}
 use Rattle.sqlite.specs.declared.error.Error.TheVariants.{SqliteFailure, SqlInputError}

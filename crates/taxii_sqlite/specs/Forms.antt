@@ -1,4 +1,4 @@
--- What layout a database has, and how one becomes a store.
+-- The layout of a database, and how a database becomes a store.
 use Rattle.std.specs.Prelude.{◌≡◌, ◌⊎◌, ℕ, ℤ, pos, List, [], ◌∷◌, Ok}
 use Rattle.sqlite_value.specs.declared.value.Value.{Value}
 use Rattle.sqlite_value.specs.declared.value.Value.TheVariants.{Int, Text}
@@ -10,8 +10,8 @@ use Rattle.taxii_sqlite.specs.declared.layout.Layout.{Layout}
 use Rattle.taxii_sqlite.specs.declared.layout.Layout.TheVariants.{Blank, Unnamed, Named, Other}
 use Rattle.taxii_sqlite.specs.declared.schema.TheConstants.{VERSION, VERSION_BEFORE, ROW_TABLE, WATERMARK_TABLE, LAYOUT_TABLE, FIRST_WATERMARK, NAME_LAYOUT, COUNT_TABLES, READ_VERSION}
 
--- of so many tables so many are those of rows and watermark, and so many the one that names the layout: no tables, those that earlier
--- programs made, all of a store, or any others
+-- the layout from three counts of tables: all, those of rows and watermark, and that of the layout
+-- version. No tables, those of earlier programs, all of a store, or any others
 abbrev pub IsLayoutOf : ℤ → ℤ → ℤ → Layout → Type 0
 IsLayoutOf all rows names Blank = (all ≡ pos 0) × (rows ≡ pos 0) × (names ≡ pos 0)
 IsLayoutOf all rows names Unnamed = (all ≡ pos 2) × (rows ≡ pos 2) × (names ≡ pos 0)
@@ -19,7 +19,7 @@ IsLayoutOf all rows names Named = (all ≡ pos 3) × (rows ≡ pos 2) × (names 
 IsLayoutOf all rows names Other =
     ¬ ((all ≡ pos 0) × (rows ≡ pos 0) × (names ≡ pos 0)) × ¬ ((all ≡ pos 2) × (rows ≡ pos 2) × (names ≡ pos 0)) × ¬ ((all ≡ pos 3) × (rows ≡ pos 2) × (names ≡ pos 1))
 
--- what the schema lists, as `COUNT_TABLES` counts it beside the three tables of a store, is of that layout
+-- the schema, counted by `COUNT_TABLES`, has this layout
 pub record AnswersLayout (before after : State) (layout : Layout) : Type 0 where
   pub columns : List Value
   pub asked : QueriesRow COUNT_TABLES.now (Text ROW_TABLE.now ∷ Text WATERMARK_TABLE.now ∷ Text LAYOUT_TABLE.now ∷ []) before after (Ok columns)
@@ -31,13 +31,13 @@ pub record AnswersLayout (before after : State) (layout : Layout) : Type 0 where
   pub names_are : column columns 2 ≡ Int names
   pub layout_is : IsLayoutOf all rows names layout
 
--- the version of the layout: the column that `READ_VERSION` answers holds it
+-- the layout version: the value of the column that `READ_VERSION` returns
 abbrev pub AnswersVersion : State → State → ℤ → Type 0
 AnswersVersion before after version = (columns : List Value) × (column columns 0 ≡ Int version) × QueriesRow READ_VERSION.now [] before after (Ok columns)
 
 -- `shown` is what a connection shows
 module _ {S : Type 0} (shown : Held S → State) where
-  -- the tables of rows and watermark were made, without rows and with the watermark 0
+  -- the tables of rows and watermark were created, without rows and with the watermark 0
   pub record MakesRows (before after : Held S) : Type 0 where
     pub with_rows : Held S
     pub with_watermark : Held S
@@ -45,7 +45,7 @@ module _ {S : Type 0} (shown : Held S → State) where
     pub watermark : Runs shown WATERMARK_TABLE.now [] with_rows with_watermark
     pub first : Runs shown FIRST_WATERMARK.now [] with_watermark after
 
-  -- the layout was named
+  -- the layout version was recorded
   abbrev pub NamesLayout : Held S → Held S → Type 0
   NamesLayout before after = (made : Held S) × Runs shown LAYOUT_TABLE.now [] before made × Runs shown NAME_LAYOUT.now [] made after
 
@@ -57,20 +57,21 @@ module _ {S : Type 0} (shown : Held S → State) where
   abbrev pub WritesVersion : Held S → Held S → Type 0
   WritesVersion = Runs shown NAME_LAYOUT.now []
 
-  -- a database of that layout got what it lacks, and nothing else
+  -- a database of this layout got the tables that it lacked, and nothing else
   abbrev pub Completes : Layout → Held S → Held S → Type 0
   Completes Blank before after = Transacts shown MakesTables before after
   Completes Unnamed before after = Transacts shown NamesLayout before after
   Completes Named before after = after ≡ before
   Completes Other before after = ⊥
 
-  -- a store of this version stayed as it was, one of the version before got this one, and nothing else
+  -- a store of this version stayed as it was, one of the version before got this one, and nothing
+  -- else
   abbrev pub Migrates : ℤ → Held S → Held S → Type 0
   Migrates version before after =
       ((version ≡ VERSION) × (after ≡ before)) ⊎ ((version ≡ VERSION_BEFORE) × Transacts shown WritesVersion before after)
 
-  -- the schema was asked for its layout, the database got what it lacked of a store's, and its version is this one, or was the one
-  -- before and was made this one
+  -- the layout was read, the database got the tables that it lacked, and its version is this one,
+  -- or was the previous one and was migrated
   pub record IsTaken (before after : Held S) : Type 0 where
     pub layout : Layout
     pub listed : Held S
@@ -82,7 +83,8 @@ module _ {S : Type 0} (shown : Held S → State) where
     pub has_version : AnswersVersion (shown complete) (shown read) version
     pub migrates : Migrates version read after
 
-  -- it was taken as a store, then a watermark was read, and then it was counted that no row is early
+  -- it was accepted as a store, then a watermark was read, and then no row with a date up to 0 was
+  -- found
   pub record IsReady (before after : Held S) : Type 0 where
     pub taken : Held S
     pub marked : Held S

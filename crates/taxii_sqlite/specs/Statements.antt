@@ -1,5 +1,5 @@
--- Which statements are run, with which values, and what they answer. What a statement does and answers is said by `Executes` and
--- `QueriesRow` of the crate `sqlite`.
+-- Which statements are run, with which values, and what they answer. What a statement does and
+-- answers is said by `Executes` and `QueriesRow` of the crate `sqlite`.
 use Rattle.std.specs.Prelude.{◌≡◌, ℕ, ◌-◌, ℤ, Bool, true, false, nat_eq, MatchBool, List, [], ◌∷◌, length, slice_get, Option, None, Some, Ok, Err}
 use Rattle.sqlite_value.specs.declared.value.Value.{Value}
 use Rattle.sqlite_value.specs.declared.value.Value.TheVariants.{Int}
@@ -11,23 +11,25 @@ use Rattle.taxii_rows.specs.declared.stored_row.StoredRow.{StoredRow}
 use Rattle.taxii_sqlite.specs.Columns.{HoldsRow, date_value}
 use Rattle.taxii_sqlite.specs.declared.schema.TheConstants.{COUNT_EARLY_ROWS, NEXT_ROW, READ_WATERMARK, INSERT_ROW, DELETE_ROW, WRITE_WATERMARK, KEEP_WATERMARK}
 
--- the first row that is later than the date: the columns that `NEXT_ROW` answers hold it, or it answers no row
+-- the first row that is later than the date: the columns that `NEXT_ROW` answers hold it, or it
+-- answers no row
 abbrev pub AnswersNext : ℕ → State → State → Option StoredRow → Type 0
 AnswersNext date before after None = QueriesRow NEXT_ROW.now (date_value date ∷ []) before after (Err QueryReturnedNoRows)
 AnswersNext date before after (Some row) =
     (columns : List Value) × HoldsRow columns row × QueriesRow NEXT_ROW.now (date_value date ∷ []) before after (Ok columns)
 
--- the watermark: the column that `READ_WATERMARK` answers holds it
+-- the watermark: the value of the column that `READ_WATERMARK` returns
 abbrev pub AnswersWatermark : State → State → ℕ → Type 0
 AnswersWatermark before after watermark =
     (columns : List Value) × (column columns 0 ≡ date_value watermark) × QueriesRow READ_WATERMARK.now [] before after (Ok columns)
 
--- how many rows are early: no `NEXT_ROW` gives them, since their dates aren't past 0, and `COUNT_EARLY_ROWS` answers their count
+-- how many rows are early: no `NEXT_ROW` gives them, since their dates are not past 0, and
+-- `COUNT_EARLY_ROWS` answers their count
 abbrev pub AnswersCount : State → State → ℤ → Type 0
 AnswersCount before after count =
     (columns : List Value) × (column columns 0 ≡ Int count) × QueriesRow COUNT_EARLY_ROWS.now [] before after (Ok columns)
 
--- a step was done for each of the list, in turn
+-- a step was done for each of the list, in order
 abbrev pub InTurn : {X H : Type 0} → (X → H → H → Type 0) → List X → H → H → Type 0
 InTurn step [] before after = after ≡ before
 InTurn step (x ∷ more) before after = (between : _) × step x before between × InTurn step more between after
@@ -65,18 +67,20 @@ module _ {S : Type 0} (shown : Held S → State) where
   abbrev pub Deletes : ℕ → Held S → Held S → Type 0
   Deletes date = Runs DELETE_ROW.now (date_value date ∷ [])
 
-  -- the date was written as the watermark
+  -- the date was stored as the watermark
   abbrev pub WritesWatermark : ℕ → Held S → Held S → Type 0
   WritesWatermark watermark = Runs WRITE_WATERMARK.now (date_value watermark ∷ [])
 
-  -- the date became the watermark: where the last of the rows has it, by that row, and nothing was written; else it was written
+  -- the date became the watermark: if it is the last row's date, nothing was written; otherwise it
+  -- was stored
   abbrev pub SetsWatermark : List StoredRow → ℕ → Held S → Held S → Type 0
   SetsWatermark rows watermark before after = MatchBool (ends_at rows watermark) (after ≡ before) (WritesWatermark watermark before after)
 
-  -- the rows were added in turn, and then the date was made the watermark
+  -- the rows were inserted in order, and then the date became the watermark
   abbrev pub Adds : List StoredRow → ℕ → Held S → Held S → Type 0
   Adds rows watermark before after = (with_rows : Held S) × InTurn Inserts rows before with_rows × SetsWatermark rows watermark with_rows after
 
-  -- the watermark was written as it is read, so that it stands when the last row goes, and then the rows of the dates were removed in turn
+  -- the watermark was stored as it is read, so that it survives the last row, and then the rows of
+  -- the dates were removed in order
   abbrev pub DeletesAll : List ℕ → Held S → Held S → Type 0
   DeletesAll dates before after = (marked : Held S) × Runs KEEP_WATERMARK.now [] before marked × InTurn Deletes dates marked after

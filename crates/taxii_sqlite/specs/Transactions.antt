@@ -1,4 +1,5 @@
--- A transaction is all or nothing. What is said of a file holds as long as its disk has returned what was written.
+-- A transaction is all or nothing. What is said of a file holds as long as its disk has returned
+-- what was written.
 use Rattle.std.specs.Prelude.{◌≡◌, IsTrue, Result, OnOk}
 use Rattle.std.specs.Borrow.{MutBor}
 use Rattle.sqlite.specs.State.{State, HasCleanDisk, KeepsCommit}
@@ -9,7 +10,7 @@ use Rattle.taxii_sqlite.specs.declared.failure.Failure.{Failure}
 abbrev pub IsSettled : State → Type 0
 IsSettled now = IsTrue now.is_open × (now.now ≡ now.committed)
 
--- the connection holds what it held, and the last commit is what it was, unless a failure of the disk has closed by disk it
+-- contents and last commit of the connection are unchanged, unless a disk failure has closed it
 abbrev pub IsUntouched : State → State → Type 0
 IsUntouched before after = IsTrue after.is_open → (after.now ≡ before.now) × (after.committed ≡ before.committed)
 
@@ -17,12 +18,13 @@ IsUntouched before after = IsTrue after.is_open → (after.now ≡ before.now) �
 abbrev pub Continues : State → State → Type 0
 Continues before after = HasCleanDisk after → HasCleanDisk before × KeepsCommit before after
 
--- and doesn't end it
+-- and does not end it
 abbrev pub StaysUnended : State → State → Type 0
 StaysUnended before after = HasCleanDisk after → after.in_transaction ≡ before.in_transaction
 
--- a step of a transaction, whose connection was `before` and is `after`: it is the same one still, nothing was committed, and where the
--- step succeeds it was this, and hasn't ended the transaction; `shown` is what a connection shows
+-- a step of a transaction, whose connection was `before` and is `after`: it is the same one still,
+-- nothing was committed, and where the step succeeds it was this, and hasn't ended the transaction;
+-- `shown` is what a connection shows
 pub record IsStep {S : Type 0} (shown : Held S → State) (Run : Held S → Held S → Type 0) (before after : MutBor (Held S)) (result : Result (Unit {0}) Failure) : Type 0 where
   pub same_reference : after.ghost_name ≡ before.ghost_name
   pub inside : Continues (shown before.now) (shown after.now)

@@ -1,4 +1,4 @@
-//! What is done to an open database, each change whole in a transaction of its own.
+//! The changes of an open database, each in one transaction.
 
 ghost use Rattle.std.specs.Prelude.{◌≡◌, OnOk, OnErr};
 ghost use Rattle.sqlite.specs.Held.{state};
@@ -15,30 +15,38 @@ use taxii_rows::{FaultCause, StoredRow};
 /// A change of a database.
 #[derive(Clone, Copy)]
 pub(crate) enum Change<'a> {
-    /// All tables are made, of a database that has none.
+    /// Create all tables, in an empty database.
     MakeTables,
-    /// The layout is named, of a store that was made before forms had names.
+    /// Record the layout's version, in a store created before layouts had versions.
     NameLayout,
-    /// The version becomes this one, of a store of the version before.
+    /// Migrate a store of the previous version to this one.
     Migrate,
-    /// These rows are added, and the date is made the watermark.
+    /// Append these rows, and set the watermark.
     Append {
         rows: &'a [StoredRow],
         watermark: u64,
     },
-    /// The rows of these dates are removed.
+    /// Remove the rows of these dates.
     Remove {
         dates: &'a [u64],
     },
 }
 
 impl Change<'_> {
-    /// Does the change, and commits; or changes nothing.
+    /// Performs the change and commits, or changes nothing.
     pub(crate) fn commit<S: Alter>(self, connection: &mut Connection<S>) -> Result<(), Failure>
-        ensures ok { HasCleanDisk (state S.Store connection.new) → OnOk result (IsSettled (state S.Store connection.new)) }
-        ensures err { HasCleanDisk (state S.Store connection.new) → OnErr result (IsUntouched (state S.Store connection.old) (state S.Store connection.new)) }
-        ensures does { HasCleanDisk (state S.Store connection.new) → OnOk result (Transacts (state S.Store) (Does (state S.Store) self.entry) connection.old connection.new) }
-        ensures clean { HasCleanDisk (state S.Store connection.new) → HasCleanDisk (state S.Store connection.old) }
+        // `HasCleanDisk`: the disk has returned what was written; without that, nothing is promised
+        ensures ok { HasCleanDisk (state S.Store connection.new)
+            → OnOk result (IsSettled (state S.Store connection.new)) }
+        ensures err { HasCleanDisk (state S.Store connection.new)
+            → OnErr result (IsUntouched (state S.Store connection.old)
+            (state S.Store connection.new)) }
+        // exactly this change, alone in a committed transaction
+        ensures does { HasCleanDisk (state S.Store connection.new)
+            → OnOk result (Transacts (state S.Store)
+            (Does (state S.Store) self.entry) connection.old connection.new) }
+        ensures clean { HasCleanDisk (state S.Store connection.new)
+            → HasCleanDisk (state S.Store connection.old) }
     {
         if !connection.is_autocommit() {
             return Err(Failure::Fault(FaultCause::Closed));
@@ -49,9 +57,10 @@ impl Change<'_> {
         Ok(())
     }
 
-    /// Does the change in a transaction, which it doesn't end.
+    /// Performs the change inside a transaction, without ending it.
     fn perform<S: Alter>(self, transaction: &mut Transaction<'_, S>) -> Result<(), Failure>
-        ensures { IsStep (state S.Store) (Does (state S.Store) self.entry) transaction.old.conn transaction.new.conn result }
+        ensures { IsStep (state S.Store)
+            (Does (state S.Store) self.entry) transaction.old.conn transaction.new.conn result }
     {
         match self {
             Change::MakeTables => layout::make_tables(transaction),

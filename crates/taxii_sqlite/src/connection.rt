@@ -14,12 +14,12 @@ use std::alloc::Global;
 use std::rt::HostRuntime;
 use taxii_rows::{FaultCause, StoredRow};
 
-/// What a keeper has its rows in.
+/// The database of a keeper.
 #[derive(Drop)]
 pub(crate) enum Database<D: Disk + Drop> {
-    /// None yet: each call fails.
+    /// Not open: each call fails.
     Closed,
-    /// A store without a file: its rows last in the library alone, and are held once.
+    /// A store without a file: the library alone holds the rows.
     InMemory,
     Disk(Box<Connection<FileStore<D>>>),
 }
@@ -27,8 +27,9 @@ pub(crate) enum Database<D: Disk + Drop> {
 const CLOSED: Failure = Failure::Fault(FaultCause::Closed);
 
 impl<D: Disk + Drop> Database<D> {
-    /// Ends the database. Where it is in a file, the log is copied into that, so that the file alone is the whole store, and both are
-    /// given back. Without this the two are the store together. Where there is no file it can't fail.
+    /// Closes the database. If it is a file, the log is copied into it, so that the file alone is
+    /// the whole store, and both are returned. If that fails, file and log together are still the
+    /// store. Without a file this cannot fail.
     pub(crate) fn close(self) -> Result<Option<Files<D>>, Failure>
         ensures leaves { IfOk result (Leaves self) }
         ensures fails { OnErr result (HasFile self) }
@@ -39,7 +40,7 @@ impl<D: Disk + Drop> Database<D> {
         }
     }
 
-    /// The first row that is later than the date, or none.
+    /// The first row later than the date, if any.
     pub(crate) fn next_after(
         &mut self,
         alloc: Global,
@@ -56,7 +57,7 @@ impl<D: Disk + Drop> Database<D> {
         }
     }
 
-    /// The last date ever given.
+    /// The watermark: the last date ever given.
     pub(crate) fn read_watermark(&mut self) -> Result<u64, Failure>
         ensures open { is_open self.new ≡ is_open self.old }
         ensures finds { IfOk result (FindsWatermark self.old self.new) }
@@ -69,7 +70,7 @@ impl<D: Disk + Drop> Database<D> {
         }
     }
 
-    /// Adds the rows and sets the watermark, or changes nothing.
+    /// Appends the rows and sets the watermark, or changes nothing.
     pub(crate) fn append(&mut self, rows: &[StoredRow], watermark: u64) -> Result<(), Failure>
         ensures open { is_open self.new ≡ is_open self.old }
         ensures appends { OnOk result (Appends rows.now watermark self.old self.new) }
@@ -97,9 +98,10 @@ impl<D: Disk + Drop> Database<D> {
     }
 }
 
-/// Copies the log into the file of the database, and gives both back.
+/// Copies the log into the database file, and returns both.
 fn copy_log<D: Disk + Drop>(connection: Connection<FileStore<D>>) -> Result<Files<D>, Failure>
-    ensures copied { IfOk result (λ files. AreClean D.Disk files.log files.db → IsCopied connection files) }
+    ensures copied { IfOk result (λ files. AreClean D.Disk files.log files.db
+        → IsCopied connection files) }
 {
     match connection.close_files() {
         Ok(files) => Ok(files),
@@ -110,8 +112,9 @@ fn copy_log<D: Disk + Drop>(connection: Connection<FileStore<D>>) -> Result<File
     }
 }
 
-/// Opens the database of this path, which isn't empty, and makes it ready. A file that isn't there is made, for its owner alone;
-/// its pages get sums. `S` stands for what the file held before.
+/// Opens the database at this path, which is not empty, and makes it ready. A missing file is
+/// created with permissions for its owner alone; its pages get checksums. `S` represents the
+/// earlier contents of the file.
 pub(crate) fn open<S: Start>(
     rt: &HostRuntime,
     path: &str,
@@ -133,7 +136,7 @@ pub(crate) fn open<S: Start>(
     }
 }
 
-/// Why a file that the system opens wasn't opened as a database.
+/// Why a file that the system can open is no usable database.
 fn failure_to_open(rt: &HostRuntime, path: &str, error: Error) -> Failure {
     match error {
         Error::SqliteFailure(ErrorCode::CannotOpen) if file::has_journal(rt, path) => {

@@ -8,10 +8,10 @@ use sqlite_syntax::error::ParseError;
 use std::alloc::AllocError;
 use taxii_rows::{FaultCause, KeeperRefusal};
 
-/// Why a call of the database failed. It isn't counted yet.
+/// Why a call of the database failed; not yet counted.
 #[derive(Clone, Copy)]
 pub(crate) enum Failure {
-    /// The outside failed, or gave what isn't of a store's layout.
+    /// The storage failed, or holds what no store writes.
     Fault(FaultCause),
     /// Memory ran out.
     NoMemory,
@@ -43,7 +43,7 @@ impl From<AllocError> for Failure {
     }
 }
 
-/// Whether an error of the database is want of memory: of its store, of its compiler or of its parser.
+/// Whether an error means out of memory, in the storage, the SQL compiler or its parser.
 fn is_out_of_memory(error: Error) -> bool
     ensures { result ≡ is_memory_error error }
 {
@@ -55,7 +55,7 @@ fn is_out_of_memory(error: Error) -> bool
     )
 }
 
-/// Why an error came that isn't want of memory.
+/// The cause of an error other than out of memory.
 fn cause_of(error: Error) -> FaultCause
     ensures { result ≡ cause_in error }
 {
@@ -71,7 +71,7 @@ fn cause_of(error: Error) -> FaultCause
     }
 }
 
-/// How many calls of a keeper failed, and why the last of them did.
+/// The number of failed calls of a keeper, and the cause of the last.
 #[derive(Clone, Copy)]
 pub(crate) struct Faults {
     pub(crate) count: u64,
@@ -79,7 +79,7 @@ pub(crate) struct Faults {
 }
 
 impl Faults {
-    /// The answer, with its fault counted.
+    /// Converts a result, counting a fault.
     pub(crate) fn counted<T: Drop>(
         &mut self,
         answer: Result<T, Failure>,
@@ -87,7 +87,8 @@ impl Faults {
         ensures ok { IfOk answer (λ value. result ≡ Ok value) }
         ensures err { IfErr answer (λ failure. result ≡ Err (refused failure)) }
         ensures causes { Counted (result ≡ Err KeeperRefusal.Fault) self.old.count self.new.count }
-        ensures sets_cause { IfErr answer (λ failure. self.new.cause ≡ last_cause_after self.old.cause failure) }
+        ensures sets_cause { IfErr answer
+            (λ failure. self.new.cause ≡ last_cause_after self.old.cause failure) }
         ensures stays { OnOk answer (self.new.cause ≡ self.old.cause) }
     {
         match answer {

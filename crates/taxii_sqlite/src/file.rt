@@ -1,4 +1,4 @@
-//! The file of a database, before it is opened as one.
+//! The database file before it is opened as a database.
 
 ghost use Rattle.std.specs.Prelude.{◌≡◌, Err, codes};
 
@@ -9,10 +9,12 @@ use std::os::unix::fs::OpenOptionsExt;
 use std::rt::HostRuntime;
 use taxii_rows::FaultCause;
 
-/// Makes the file where there is none, for its owner alone to read and write, which the log beside it follows. Or tells why
-/// there can't be one, of which the database's own error says less. Nothing is made under a name that the database refuses.
+/// Creates the file if it is missing, readable and writable for its owner alone, which the log
+/// inherits. If it cannot, it reports the cause more precisely than SQLite would. Names that SQLite
+/// reserves are refused, without creating anything.
 pub(crate) fn make_private(rt: &HostRuntime, path: &str) -> Result<(), Failure>
-    ensures reserved { path.now ≡ codes ":memory:" → result ≡ Err (Failure.Fault FaultCause.NoFile) }
+    ensures reserved { path.now ≡ codes ":memory:"
+        → result ≡ Err (Failure.Fault FaultCause.NoFile) }
 {
     if path == ":memory:" || path.starts_with("file:") {
         return Err(Failure::Fault(FaultCause::NoFile));
@@ -30,7 +32,7 @@ pub(crate) fn make_private(rt: &HostRuntime, path: &str) -> Result<(), Failure>
     }
 }
 
-/// Sees that the file can be read and written.
+/// Checks that the file can be opened for reading and writing.
 fn check_access(rt: &HostRuntime, path: &str) -> Result<(), Failure> {
     match OpenOptions::new().read(true).write(true).open(rt, path) {
         Ok(_) => Ok(()),
@@ -38,7 +40,7 @@ fn check_access(rt: &HostRuntime, path: &str) -> Result<(), Failure> {
     }
 }
 
-/// Why a file wasn't opened.
+/// Why a file cannot be opened.
 fn failure_of(error: io::Error) -> Failure {
     match error.kind() {
         ErrorKind::OutOfMemory => Failure::NoMemory,
@@ -51,7 +53,8 @@ fn failure_of(error: io::Error) -> Failure {
     }
 }
 
-/// Whether another program left a journal beside the file, which it alone can play back.
+/// Whether another program left a rollback journal next to the file, which only that program can
+/// replay.
 pub(crate) fn has_journal(rt: &HostRuntime, path: &str) -> bool {
     match format!(in rt.alloc(); "{path}-journal") {
         Ok(journal) => fs::symlink_metadata(rt, journal.as_str()).is_ok(),

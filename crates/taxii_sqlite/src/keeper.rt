@@ -13,8 +13,9 @@ use std::random::RandomSource;
 use std::rt::HostRuntime;
 use taxii_rows::{FaultCause, Keeper, KeeperRefusal, StoredRow};
 
-/// Rows in a database of SQLite, or nowhere. It tells no rows; contracts check access its database, whose calls are told in
-/// `specs/Databases.antt`, and its faults. `S` stands for what the file held before it is opened.
+/// Rows in an SQLite database, or nowhere. Its rows are not observable; contracts state the calls
+/// of its database (`specs/Databases.antt`) and its faults. `S` represents the contents of the file
+/// before it is opened.
 #[derive(Drop)]
 pub struct SqliteKeeper<D: Disk + Drop, S: Start> {
     rt: HostRuntime,
@@ -24,7 +25,7 @@ pub struct SqliteKeeper<D: Disk + Drop, S: Start> {
 }
 
 impl<S: Start> SqliteKeeper<FileFrom<S>, S> {
-    /// A keeper that isn't attached, and has failed in no call yet. Opens nothing and takes no memory.
+    /// A keeper that is not attached. Opens nothing and allocates nothing.
     pub fn new(rt: HostRuntime, start: S) -> SqliteKeeper<FileFrom<S>, S>
         ensures closed { result.database ≡ Closed }
         ensures faults { result.faults ≡ record { count = 0; cause = FaultCause.NotKnown } }
@@ -40,9 +41,9 @@ impl<S: Start> SqliteKeeper<FileFrom<S>, S> {
         }
     }
 
-    /// Ends the keeper: where its rows are in a file, the log beside it is copied into it, so that the file alone is the whole
-    /// store, and both are given back. A fault of that loses nothing: the two are the store together, as they are while the
-    /// keeper lives. Without a file this can't fail.
+    /// Closes the keeper. If its rows are in a file, the log is copied into it, so that the file
+    /// alone is the whole store, and both are returned. A failure loses nothing, since file and log
+    /// together are the store. Without a file this cannot fail.
     pub fn close(self) -> Result<Option<Files<FileFrom<S>>>, KeeperRefusal>
         ensures leaves { IfOk result (Leaves self.database) }
         ensures fails { OnErr result (HasFile self.database) }
@@ -51,7 +52,8 @@ impl<S: Start> SqliteKeeper<FileFrom<S>, S> {
         faults.counted(self.database.close())
     }
 
-    /// Opens the database of this path, once in a keeper's life, since what a file held is said of one file.
+    /// Opens the database at this path. It succeeds once in a keeper's life, since `S` describes
+    /// one file.
     fn open(&mut self, path: &str) -> Result<Database<FileFrom<S>>, Failure>
         ensures open { IfOk result (λ database. is_open database ≡ true) }
         ensures ready { IfOk result (IsOpenAt (image_at S.Start) path.now) }
@@ -70,13 +72,17 @@ impl<S: Start> SqliteKeeper<FileFrom<S>, S> {
 }
 
 impl<S: Start> Keeper for SqliteKeeper<FileFrom<S>, S> {
-    ghost kept = { λ keeper. record { observable = None; name = None; attached = is_open keeper.database } };
+    ghost kept = { λ keeper. record {
+      observable = None;
+      name = None;
+      attached = is_open keeper.database;
+    } };
 
     ghost faults = { λ keeper. keeper.faults.count };
 
     ghost last_cause = { λ keeper. keeper.faults.cause };
 
-    /// A number of the system's own choice, another one at each call, or 0 where the system gives none.
+    /// A random number of the system, different at each call, or 0 if the system has none.
     fn secret(&self) -> u128 {
         let mut bytes = [0; 16];
         match self.rt.fill_bytes(&mut bytes) {
@@ -91,14 +97,16 @@ impl<S: Start> Keeper for SqliteKeeper<FileFrom<S>, S> {
         self.faults.cause
     }
 
-    /// Opens the file of this path, once in a keeper's life, and makes the tables where it has none; or none where the text is empty,
-    /// which can't fail, and then keeps nothing. A file that is no store, or a store of a later version, is a fault, and isn't written to.
+    /// Opens the file at this path, once in a keeper's life, and creates missing tables. An empty
+    /// path means no file: then nothing is stored and nothing fails. A file that is no store, or a
+    /// later version's, is a fault, and is not written to.
     fn attach(&mut self, text: &str) -> Result<(), KeeperRefusal>
         ensures ok { OnOk result (is_open self.new.database ≡ true) }
         ensures ready { OnOk result (IsOpenAt (image_at S.Start) text.now self.new.database) }
         ensures kept { OnErr result (self.new.database ≡ self.old.database) }
         ensures fails { OnErr result (text.now ≢ []) }
-        ensures causes { Counted (result ≡ Err KeeperRefusal.Fault) self.old.faults.count self.new.faults.count }
+        ensures causes { Counted
+            (result ≡ Err KeeperRefusal.Fault) self.old.faults.count self.new.faults.count }
     {
         let opened = self.open(text);
         self.database = self.faults.counted(opened)?;
@@ -107,9 +115,11 @@ impl<S: Start> Keeper for SqliteKeeper<FileFrom<S>, S> {
 
     fn next_after(&mut self, date: u64) -> Result<Option<StoredRow>, KeeperRefusal>
         ensures finds { IfOk result (FindsNext date self.old.database self.new.database) }
+        // without a file nothing can fail
         ensures fails { OnErr result (CanFail self.old.database) }
         ensures attached { is_open self.new.database ≡ is_open self.old.database }
-        ensures causes { Counted (result ≡ Err KeeperRefusal.Fault) self.old.faults.count self.new.faults.count }
+        ensures causes { Counted
+            (result ≡ Err KeeperRefusal.Fault) self.old.faults.count self.new.faults.count }
     {
         let found = self.database.next_after(self.rt.alloc(), date);
         self.faults.counted(found)
@@ -119,17 +129,20 @@ impl<S: Start> Keeper for SqliteKeeper<FileFrom<S>, S> {
         ensures finds { IfOk result (FindsWatermark self.old.database self.new.database) }
         ensures fails { OnErr result (CanFail self.old.database) }
         ensures attached { is_open self.new.database ≡ is_open self.old.database }
-        ensures causes { Counted (result ≡ Err KeeperRefusal.Fault) self.old.faults.count self.new.faults.count }
+        ensures causes { Counted
+            (result ≡ Err KeeperRefusal.Fault) self.old.faults.count self.new.faults.count }
     {
         let watermark = self.database.read_watermark();
         self.faults.counted(watermark)
     }
 
     fn append(&mut self, rows: &[StoredRow], watermark: u64) -> Result<(), KeeperRefusal>
-        ensures appends { OnOk result (Appends rows.now watermark self.old.database self.new.database) }
+        ensures appends { OnOk result
+            (Appends rows.now watermark self.old.database self.new.database) }
         ensures untouched { OnErr result (StaysAs self.old.database self.new.database) }
         ensures attached { is_open self.new.database ≡ is_open self.old.database }
-        ensures causes { Counted (result ≡ Err KeeperRefusal.Fault) self.old.faults.count self.new.faults.count }
+        ensures causes { Counted
+            (result ≡ Err KeeperRefusal.Fault) self.old.faults.count self.new.faults.count }
     {
         let done = self.database.append(rows, watermark);
         self.faults.counted(done)
@@ -140,7 +153,8 @@ impl<S: Start> Keeper for SqliteKeeper<FileFrom<S>, S> {
         ensures removes { OnOk result (Removes dates.now self.old.database self.new.database) }
         ensures untouched { OnErr result (StaysAs self.old.database self.new.database) }
         ensures attached { is_open self.new.database ≡ is_open self.old.database }
-        ensures causes { Counted (result ≡ Err KeeperRefusal.Fault) self.old.faults.count self.new.faults.count }
+        ensures causes { Counted
+            (result ≡ Err KeeperRefusal.Fault) self.old.faults.count self.new.faults.count }
     {
         let done = self.database.remove(dates);
         self.faults.counted(done)

@@ -1,4 +1,4 @@
-//! What follows from the definitions: the contracts are the laws, and the functions do nothing.
+//! Theorems about the definitions. Each `ensures` states one; the functions have no effect.
 
 ghost use Rattle.std.specs.Prelude.{ℕ, List, Option};
 ghost use Rattle.taxii_rows.specs.declared.stored_row.StoredRow.{StoredRow as Row};
@@ -7,10 +7,15 @@ ghost use Rattle.taxii_sqlite.specs.Databases.{FindsNext, FindsWatermark, Append
 
 use sqlite_disk::Disk;
 
-/// A file that a failure of the disk has closed by disk answers no call of a keeper: none is done, and no row or watermark is told.
+/// A file that a disk failure has closed answers no call: nothing is changed, and no row or
+/// watermark is returned.
 pub fn closed_by_disk_answers_nothing<D: Disk + Drop>()
-    ensures next { (before after : Held D D.Disk) (date : ℕ) (found : Option Row) → IsClosedByDisk before → IsClean after → ¬ FindsNext date before after found }
-    ensures watermark { (before after : Held D D.Disk) (watermark : ℕ) → IsClosedByDisk before → IsClean after → ¬ FindsWatermark before after watermark }
-    ensures added { (before after : Held D D.Disk) (rows : List Row) (watermark : ℕ) → IsClosedByDisk before → IsClean after → ¬ Appends rows watermark before after }
-    ensures removed { (before after : Held D D.Disk) (dates : List ℕ) → IsClosedByDisk before → IsClean after → ¬ Removes dates before after }
+    ensures next { (before after : Held D D.Disk) (date : ℕ) (found : Option Row)
+        → IsClosedByDisk before → IsClean after → ¬ FindsNext date before after found }
+    ensures watermark { (before after : Held D D.Disk) (watermark : ℕ) → IsClosedByDisk before
+        → IsClean after → ¬ FindsWatermark before after watermark }
+    ensures added { (before after : Held D D.Disk) (rows : List Row) (watermark : ℕ)
+        → IsClosedByDisk before → IsClean after → ¬ Appends rows watermark before after }
+    ensures removed { (before after : Held D D.Disk) (dates : List ℕ) → IsClosedByDisk before
+        → IsClean after → ¬ Removes dates before after }
 {}

@@ -1,4 +1,4 @@
-//! What layout a database has: what tables it has, and which version of a store they are.
+//! The layout of a database: which tables it has, and which version of a store they are.
 
 ghost use Rattle.std.specs.Prelude.{◌≡◌, ◌<ℤ◌, Err, IfOk, OnOk};
 ghost use Rattle.sqlite.specs.Held.{state};
@@ -16,24 +16,27 @@ use crate::statements::execute;
 use sqlite::{Alter, Connection, Transaction, params};
 use taxii_rows::FaultCause;
 
-/// What tables a database has.
+/// Which tables a database has.
 #[derive(Clone, Copy)]
 pub(crate) enum Layout {
-    /// None: it is new.
+    /// No tables: a new database.
     Blank,
-    /// Those of a store that doesn't name its layout, since it was made before forms had names.
+    /// The tables of a store without a layout version, from before layouts had versions.
     Unnamed,
-    /// Those of a store that names its layout.
+    /// The tables of a store with a layout version.
     Named,
-    /// Others.
+    /// Any others.
     Other,
 }
 
-/// Sees that the database is a store of this version, and makes one of it where it has no tables, doesn't name its layout, or is of
-/// the version before. Nothing is written to any other.
+/// Makes sure that the database is a store of this version. Creates the tables of an empty
+/// database, records a missing layout version, and migrates the previous version. Nothing is
+/// written to any other database.
 pub(crate) fn take<S: Alter>(connection: &mut Connection<S>) -> Result<(), Failure>
-    ensures taken { HasCleanDisk (state S.Store connection.new) → OnOk result (IsTaken (state S.Store) connection.old connection.new) }
-    ensures clean { HasCleanDisk (state S.Store connection.new) → HasCleanDisk (state S.Store connection.old) }
+    ensures taken { HasCleanDisk (state S.Store connection.new)
+        → OnOk result (IsTaken (state S.Store) connection.old connection.new) }
+    ensures clean { HasCleanDisk (state S.Store connection.new)
+        → HasCleanDisk (state S.Store connection.old) }
 {
     let layout = read_layout(connection)?;
     complete(connection, layout)?;
@@ -42,10 +45,13 @@ pub(crate) fn take<S: Alter>(connection: &mut Connection<S>) -> Result<(), Failu
     Ok(())
 }
 
-/// What tables the database has.
+/// Reads which tables the database has.
 fn read_layout<S: Alter>(connection: &mut Connection<S>) -> Result<Layout, Failure>
-    ensures asks { HasCleanDisk (state S.Store connection.new) → IfOk result (AnswersLayout (state S.Store connection.old) (state S.Store connection.new)) }
-    ensures clean { HasCleanDisk (state S.Store connection.new) → HasCleanDisk (state S.Store connection.old) }
+    ensures asks { HasCleanDisk (state S.Store connection.new)
+        → IfOk result (AnswersLayout (state S.Store connection.old)
+        (state S.Store connection.new)) }
+    ensures clean { HasCleanDisk (state S.Store connection.new)
+        → HasCleanDisk (state S.Store connection.old) }
 {
     let columns = connection.query_row(
         COUNT_TABLES,
@@ -58,7 +64,8 @@ fn read_layout<S: Alter>(connection: &mut Connection<S>) -> Result<Layout, Failu
 }
 
 impl Layout {
-    /// The layout of a database with so many tables, so many of which are those of rows and watermark, and of the form's name.
+    /// The layout of a database with `all` tables, of which `rows` are those of rows and watermark,
+    /// and `names` that of the layout version.
     fn of(all: i64, rows: i64, names: i64) -> Layout
         ensures { IsLayoutOf all rows names result }
     {
@@ -71,11 +78,15 @@ impl Layout {
     }
 }
 
-/// Makes the tables that a store of that layout lacks.
+/// Creates the tables that a store of this layout lacks.
 fn complete<S: Alter>(connection: &mut Connection<S>, layout: Layout) -> Result<(), Failure>
-    ensures completes { HasCleanDisk (state S.Store connection.new) → OnOk result (Completes (state S.Store) layout connection.old connection.new) }
-    ensures other { layout ≡ Layout.Other → (result ≡ Err (Failure.Fault FaultCause.OtherLayout)) × (connection.new ≡ connection.old) }
-    ensures clean { HasCleanDisk (state S.Store connection.new) → HasCleanDisk (state S.Store connection.old) }
+    ensures completes { HasCleanDisk (state S.Store connection.new)
+        → OnOk result (Completes (state S.Store) layout connection.old connection.new) }
+    ensures other { layout ≡ Layout.Other
+        → (result ≡ Err (Failure.Fault FaultCause.OtherLayout))
+        × (connection.new ≡ connection.old) }
+    ensures clean { HasCleanDisk (state S.Store connection.new)
+        → HasCleanDisk (state S.Store connection.old) }
 {
     match layout {
         Layout::Blank => Change::MakeTables.commit(connection),
@@ -85,9 +96,10 @@ fn complete<S: Alter>(connection: &mut Connection<S>, layout: Layout) -> Result<
     }
 }
 
-/// Makes all tables, and names the layout.
+/// Creates all tables, and records the layout version.
 pub(crate) fn make_tables<S: Alter>(transaction: &mut Transaction<'_, S>) -> Result<(), Failure>
-    ensures { IsStep (state S.Store) (MakesTables (state S.Store)) transaction.old.conn transaction.new.conn result }
+    ensures { IsStep (state S.Store)
+        (MakesTables (state S.Store)) transaction.old.conn transaction.new.conn result }
 {
     make_rows(transaction)?;
     name(transaction)?;
@@ -95,7 +107,8 @@ pub(crate) fn make_tables<S: Alter>(transaction: &mut Transaction<'_, S>) -> Res
 }
 
 fn make_rows<S: Alter>(transaction: &mut Transaction<'_, S>) -> Result<(), Failure>
-    ensures { IsStep (state S.Store) (MakesRows (state S.Store)) transaction.old.conn transaction.new.conn result }
+    ensures { IsStep (state S.Store)
+        (MakesRows (state S.Store)) transaction.old.conn transaction.new.conn result }
 {
     execute(transaction, ROW_TABLE, &[])?;
     execute(transaction, WATERMARK_TABLE, &[])?;
@@ -103,30 +116,40 @@ fn make_rows<S: Alter>(transaction: &mut Transaction<'_, S>) -> Result<(), Failu
     Ok(())
 }
 
-/// Names the layout.
+/// Records the layout version.
 pub(crate) fn name<S: Alter>(transaction: &mut Transaction<'_, S>) -> Result<(), Failure>
-    ensures { IsStep (state S.Store) (NamesLayout (state S.Store)) transaction.old.conn transaction.new.conn result }
+    ensures { IsStep (state S.Store)
+        (NamesLayout (state S.Store)) transaction.old.conn transaction.new.conn result }
 {
     execute(transaction, LAYOUT_TABLE, &[])?;
     execute(transaction, NAME_LAYOUT, &[])?;
     Ok(())
 }
 
-/// The version of the layout.
+/// Reads the layout version.
 fn read_version<S: Alter>(connection: &mut Connection<S>) -> Result<i64, Failure>
-    ensures asks { HasCleanDisk (state S.Store connection.new) → IfOk result (AnswersVersion (state S.Store connection.old) (state S.Store connection.new)) }
-    ensures clean { HasCleanDisk (state S.Store connection.new) → HasCleanDisk (state S.Store connection.old) }
+    ensures asks { HasCleanDisk (state S.Store connection.new)
+        → IfOk result (AnswersVersion (state S.Store connection.old)
+        (state S.Store connection.new)) }
+    ensures clean { HasCleanDisk (state S.Store connection.new)
+        → HasCleanDisk (state S.Store connection.old) }
 {
     let columns = connection.query_row(READ_VERSION, &[])?;
     Ok(columns.get(0)?)
 }
 
-/// Makes this version of the one before. Nothing is written to any other.
+/// Migrates the previous version to this one. Nothing is written to any other.
 fn migrate<S: Alter>(connection: &mut Connection<S>, version: i64) -> Result<(), Failure>
-    ensures migrates { HasCleanDisk (state S.Store connection.new) → OnOk result (Migrates (state S.Store) version connection.old connection.new) }
-    ensures later { VERSION <ℤ version → (result ≡ Err (Failure.Fault FaultCause.LaterLayout)) × (connection.new ≡ connection.old) }
-    ensures earlier { version <ℤ VERSION_BEFORE → (result ≡ Err (Failure.Fault FaultCause.OtherLayout)) × (connection.new ≡ connection.old) }
-    ensures clean { HasCleanDisk (state S.Store connection.new) → HasCleanDisk (state S.Store connection.old) }
+    ensures migrates { HasCleanDisk (state S.Store connection.new)
+        → OnOk result (Migrates (state S.Store) version connection.old connection.new) }
+    ensures later { VERSION <ℤ version
+        → (result ≡ Err (Failure.Fault FaultCause.LaterLayout))
+        × (connection.new ≡ connection.old) }
+    ensures earlier { version <ℤ VERSION_BEFORE
+        → (result ≡ Err (Failure.Fault FaultCause.OtherLayout))
+        × (connection.new ≡ connection.old) }
+    ensures clean { HasCleanDisk (state S.Store connection.new)
+        → HasCleanDisk (state S.Store connection.old) }
 {
     if version == VERSION_BEFORE {
         Change::Migrate.commit(connection)
@@ -135,14 +158,15 @@ fn migrate<S: Alter>(connection: &mut Connection<S>, version: i64) -> Result<(),
     }
 }
 
-/// Writes this version over another one.
+/// Overwrites the layout version with this one.
 pub(crate) fn write_version<S: Alter>(transaction: &mut Transaction<'_, S>) -> Result<(), Failure>
-    ensures { IsStep (state S.Store) (WritesVersion (state S.Store)) transaction.old.conn transaction.new.conn result }
+    ensures { IsStep (state S.Store)
+        (WritesVersion (state S.Store)) transaction.old.conn transaction.new.conn result }
 {
     execute(transaction, NAME_LAYOUT, &[])
 }
 
-/// Whether the layout has this version. A later one has a cause of its own.
+/// Checks the layout version. A later one has a separate cause.
 fn check_version(version: i64) -> Result<(), Failure>
     ensures this { OnOk result (version ≡ VERSION) }
     ensures later { VERSION <ℤ version → result ≡ Err (Failure.Fault FaultCause.LaterLayout) }

@@ -1,15 +1,24 @@
-//! The rows of a TAXII 2.1 server's store in a database of SQLite, a file with its log; or nowhere but in the
-//! server's library, for a store without a file.
+//! A `taxii_rows::Keeper` over SQLite: the rows of a TAXII 2.1 server's store in a database file
+//! with its write-ahead log. With an empty path it stores nothing, and the server's library alone
+//! holds the rows.
 //!
-//! `SqliteKeeper` is a `taxii_rows::Keeper`. It doesn't tell its rows to contracts: they check access when it is
-//! attached, that it counts each fault and nothing else, and what its database was asked. Over a file
-//! that is which statements of `schema.rt` were run, in which order and with the columns of which rows,
-//! alone in a transaction that was committed, or what they answered (`specs/Statements.antt`); without a
-//! file nothing is kept, and nothing is ever found. The database is the one that the file held, whatever it held, and is a store
-//! of the layout that this crate knows (`specs/Forms.antt`). A call that answers `Ok` has committed all that
-//! it did. After a refusal the database is as it was, or the disk has closed by disk it, and then no call is answered
-//! any more (`laws::closed_by_disk_answers_nothing`). What a statement does is the crate `sqlite`'s to say: that those
-//! of `schema.rt` keep a store's rows is only tested.
+//! Contracts do not observe the rows themselves. They state which statements of `schema.rt` were
+//! executed, in which order and with which columns, each change alone in a committed transaction
+//! (`specs/Statements.antt`). They also state that exactly the faults are counted. The database may
+//! have held anything before; it becomes a store of the layout in `specs/Forms.antt`, or the call
+//! fails.
+//!
+//! After `Ok` the whole change is committed. After an error the database is unchanged, or a disk
+//! failure has closed it and no later call succeeds (see `laws`). What a statement does is
+//! specified by the crate `sqlite`. That these statements together keep a store's rows is only
+//! tested.
+//!
+//! ```text
+//! let mut keeper = SqliteKeeper::new(rt, Unknown);
+//! let library = Library::load(alloc, &mut keeper, "store.db")?;
+//! // serve requests, then copy the log into the file
+//! keeper.close()?;
+//! ```
 #![tactic(auto)]
 
 mod change;

@@ -16,10 +16,10 @@ use std::alloc::Global;
 use stix_ids::Id;
 use taxii_rows::{FaultCause, StoredRow};
 
-/// What isn't as a store writes it.
+/// The failure for contents that no store writes.
 const UNSOUND: Failure = Failure::Fault(FaultCause::Unsound);
 
-/// A date as the table has it. One past the greatest integer is a fault.
+/// A date as an SQLite integer. Past the largest integer it is a fault.
 pub(crate) fn integer_of(date: u64) -> Result<i64, Failure>
     ensures ok { IfOk result (λ integer. integer ≡ pos date) }
     ensures err { OnErr result (2 ^ 63 ≤ date) }
@@ -27,15 +27,14 @@ pub(crate) fn integer_of(date: u64) -> Result<i64, Failure>
     i64::try_from(date).map_err(|_| UNSOUND)
 }
 
-/// The bytes of a number, the most significant first.
+/// The bytes of a number in big-endian order.
 pub(crate) fn bytes_of(number: u128) -> [u8; 16]
     ensures { number ≡ from_be_bytes w128 result }
 {
     number.to_be_bytes()
 }
 
-/// The row as the columns of the table, where its date is an integer and the bytes of its two numbers
-/// lie beside it.
+/// The columns of a row, from its date as an integer and the bytes of its two UUIDs.
 pub(crate) fn columns_of<'a>(
     row: &'a StoredRow,
     date: i64,
@@ -59,10 +58,11 @@ pub(crate) fn columns_of<'a>(
     ]
 }
 
-/// The row that is in these columns. Columns that hold none are a fault.
+/// The row in these columns. Columns that hold none are a fault.
 pub(crate) fn read_row(alloc: Global, columns: &Row) -> Result<StoredRow, Failure>
     ensures ok { IfOk result (HoldsRow columns.now) }
-    ensures fault { (cause : Cause) → result ≡ Err (IsFault cause) → (row : WholeRow) → ¬ HoldsRow columns.now row }
+    ensures fault { (cause : Cause) → result ≡ Err (IsFault cause) → (row : WholeRow)
+        → ¬ HoldsRow columns.now row }
 {
     let date = date_at(columns, 0)?;
     let collection = number_at(columns, 1)?;
@@ -84,16 +84,18 @@ pub(crate) fn read_row(alloc: Global, columns: &Row) -> Result<StoredRow, Failur
 /// The date in a column.
 pub(crate) fn date_at(columns: &Row, at: usize) -> Result<u64, Failure>
     ensures ok { IfOk result (λ date. column columns.now at ≡ date_value date) }
-    ensures fault { (cause : Cause) → result ≡ Err (IsFault cause) → (date : ℕ) → column columns.now at ≢ date_value date }
+    ensures fault { (cause : Cause) → result ≡ Err (IsFault cause) → (date : ℕ)
+        → column columns.now at ≢ date_value date }
 {
     let date = columns.get(at)?;
     Ok(date)
 }
 
-/// The number in a column.
+/// The 128-bit number in a column.
 fn number_at(columns: &Row, at: usize) -> Result<u128, Failure>
     ensures ok { IfOk result (HoldsNumber (column columns.now at)) }
-    ensures fault { (cause : Cause) → result ≡ Err (IsFault cause) → (number : ℕ) → ¬ HoldsNumber (column columns.now at) number }
+    ensures fault { (cause : Cause) → result ≡ Err (IsFault cause) → (number : ℕ)
+        → ¬ HoldsNumber (column columns.now at) number }
 {
     let ValueRef::Blob(bytes) = columns.get_ref(at)? else {
         return Err(UNSOUND);
@@ -104,10 +106,11 @@ fn number_at(columns: &Row, at: usize) -> Result<u128, Failure>
     }
 }
 
-/// The truth in a column.
+/// The Boolean in a column.
 fn truth_at(columns: &Row, at: usize) -> Result<bool, Failure>
     ensures ok { IfOk result (λ truth. column columns.now at ≡ truth_value truth) }
-    ensures fault { (cause : Cause) → result ≡ Err (IsFault cause) → (truth : Bool) → column columns.now at ≢ truth_value truth }
+    ensures fault { (cause : Cause) → result ≡ Err (IsFault cause) → (truth : Bool)
+        → column columns.now at ≢ truth_value truth }
 {
     match columns.get_ref(at)? {
         ValueRef::Int(0) => Ok(false),
@@ -116,10 +119,11 @@ fn truth_at(columns: &Row, at: usize) -> Result<bool, Failure>
     }
 }
 
-/// The name in a column.
+/// The object type in a column.
 fn name_at(alloc: Global, columns: &Row, at: usize) -> Result<Name, Failure>
     ensures ok { IfOk result (HoldsText (column columns.now at)) }
-    ensures fault { (cause : Cause) → result ≡ Err (IsFault cause) → (text : List ℕ) → ¬ HoldsText (column columns.now at) text }
+    ensures fault { (cause : Cause) → result ≡ Err (IsFault cause) → (text : List ℕ)
+        → ¬ HoldsText (column columns.now at) text }
 {
     let text = text_at(columns, at)?;
     match Name::from_text(alloc, text.as_str()) {
@@ -131,7 +135,8 @@ fn name_at(alloc: Global, columns: &Row, at: usize) -> Result<Name, Failure>
 /// The text in a column.
 fn text_at(columns: &Row, at: usize) -> Result<Text, Failure>
     ensures ok { IfOk result (HoldsText (column columns.now at)) }
-    ensures fault { (cause : Cause) → result ≡ Err (IsFault cause) → (text : List ℕ) → ¬ HoldsText (column columns.now at) text }
+    ensures fault { (cause : Cause) → result ≡ Err (IsFault cause) → (text : List ℕ)
+        → ¬ HoldsText (column columns.now at) text }
 {
     let text = columns.get(at)?;
     Ok(Text::from_string(text))

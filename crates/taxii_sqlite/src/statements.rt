@@ -1,4 +1,4 @@
-//! What is asked of an open database.
+//! The statements on an open database.
 
 ghost use Rattle.std.specs.Prelude.{◌≡◌, IfOk, OnOk};
 ghost use Rattle.sqlite.specs.Held.{state};
@@ -20,11 +20,13 @@ use sqlite::{Alter, Connection, Error, Transaction, params};
 use std::alloc::Global;
 use taxii_rows::{FaultCause, StoredRow};
 
-/// Sees that the database is a store, or makes one of it where it may be (`layout::take`): it has a watermark, and no row that
-/// `next_after` would never give.
+/// Makes sure that the database is a store (`layout::take`), with a watermark and without a row
+/// that `next_after` would never return.
 pub(crate) fn make_ready<S: Alter>(connection: &mut Connection<S>) -> Result<(), Failure>
-    ensures ready { HasCleanDisk (state S.Store connection.new) → OnOk result (IsReady (state S.Store) connection.old connection.new) }
-    ensures clean { HasCleanDisk (state S.Store connection.new) → HasCleanDisk (state S.Store connection.old) }
+    ensures ready { HasCleanDisk (state S.Store connection.new)
+        → OnOk result (IsReady (state S.Store) connection.old connection.new) }
+    ensures clean { HasCleanDisk (state S.Store connection.new)
+        → HasCleanDisk (state S.Store connection.old) }
 {
     layout::take(connection)?;
     let _watermark = read_watermark(connection)?;
@@ -35,13 +37,15 @@ pub(crate) fn make_ready<S: Alter>(connection: &mut Connection<S>) -> Result<(),
     }
 }
 
-/// The first row that is later than the date, or none.
+/// The first row later than the date, if any.
 pub(crate) fn next_after<S: Alter>(
     alloc: Global,
     connection: &mut Connection<S>,
     date: u64,
 ) -> Result<Option<StoredRow>, Failure>
-    ensures asks { HasCleanDisk (state S.Store connection.new) → IfOk result (AnswersNext date (state S.Store connection.old) (state S.Store connection.new)) }
+    ensures asks { HasCleanDisk (state S.Store connection.new)
+        → IfOk result (AnswersNext date (state S.Store connection.old)
+        (state S.Store connection.new)) }
 {
     let date = integer_of(date)?;
     match connection.query_row(NEXT_ROW, params![date]) {
@@ -51,43 +55,51 @@ pub(crate) fn next_after<S: Alter>(
     }
 }
 
-/// The last date ever given.
+/// The watermark: the last date ever given.
 pub(crate) fn read_watermark<S: Alter>(connection: &mut Connection<S>) -> Result<u64, Failure>
-    ensures asks { HasCleanDisk (state S.Store connection.new) → IfOk result (AnswersWatermark (state S.Store connection.old) (state S.Store connection.new)) }
-    ensures clean { HasCleanDisk (state S.Store connection.new) → HasCleanDisk (state S.Store connection.old) }
+    ensures asks { HasCleanDisk (state S.Store connection.new)
+        → IfOk result (AnswersWatermark (state S.Store connection.old)
+        (state S.Store connection.new)) }
+    ensures clean { HasCleanDisk (state S.Store connection.new)
+        → HasCleanDisk (state S.Store connection.old) }
 {
     let columns = connection.query_row(READ_WATERMARK, &[])?;
     date_at(&columns, 0)
 }
 
-/// How many rows have dates that aren't past 0.
+/// The number of rows with dates up to 0.
 fn count_early_rows<S: Alter>(connection: &mut Connection<S>) -> Result<i64, Failure>
-    ensures asks { HasCleanDisk (state S.Store connection.new) → IfOk result (AnswersCount (state S.Store connection.old) (state S.Store connection.new)) }
-    ensures clean { HasCleanDisk (state S.Store connection.new) → HasCleanDisk (state S.Store connection.old) }
+    ensures asks { HasCleanDisk (state S.Store connection.new)
+        → IfOk result (AnswersCount (state S.Store connection.old) (state S.Store connection.new)) }
+    ensures clean { HasCleanDisk (state S.Store connection.new)
+        → HasCleanDisk (state S.Store connection.old) }
 {
     let columns = connection.query_row(COUNT_EARLY_ROWS, &[])?;
     Ok(columns.get(0)?)
 }
 
-/// Adds the rows and sets the watermark.
+/// Inserts the rows and sets the watermark.
 pub(crate) fn append<S: Alter>(
     transaction: &mut Transaction<'_, S>,
     rows: &[StoredRow],
     watermark: u64,
 ) -> Result<(), Failure>
-    ensures { IsStep (state S.Store) (Adds (state S.Store) rows.now watermark) transaction.old.conn transaction.new.conn result }
+    ensures { IsStep (state S.Store)
+        (Adds (state S.Store) rows.now watermark) transaction.old.conn transaction.new.conn result }
 {
     insert_rows(transaction, rows)?;
     set_watermark(transaction, rows, watermark)?;
     Ok(())
 }
 
-/// Removes the rows of these dates. The watermark is written first, since the last row may go.
+/// Removes the rows of these dates. The watermark is stored first, since the last row may be among
+/// them.
 pub(crate) fn remove<S: Alter>(
     transaction: &mut Transaction<'_, S>,
     dates: &[u64],
 ) -> Result<(), Failure>
-    ensures { IsStep (state S.Store) (DeletesAll (state S.Store) dates.now) transaction.old.conn transaction.new.conn result }
+    ensures { IsStep (state S.Store)
+        (DeletesAll (state S.Store) dates.now) transaction.old.conn transaction.new.conn result }
 {
     execute(transaction, KEEP_WATERMARK, &[])?;
     delete_rows(transaction, dates)?;
@@ -98,7 +110,9 @@ fn insert_rows<S: Alter>(
     transaction: &mut Transaction<'_, S>,
     rows: &[StoredRow],
 ) -> Result<(), Failure>
-    ensures { IsStep (state S.Store) (InTurn (Inserts (state S.Store)) rows.now) transaction.old.conn transaction.new.conn result }
+    ensures { IsStep (state S.Store)
+        (InTurn (Inserts (state S.Store)) rows.now) transaction.old.conn transaction.new.conn
+        result }
 {
     for row in rows {
         insert_row(transaction, row)?;
@@ -110,7 +124,8 @@ fn insert_row<S: Alter>(
     transaction: &mut Transaction<'_, S>,
     row: &StoredRow,
 ) -> Result<(), Failure>
-    ensures { IsStep (state S.Store) (Inserts (state S.Store) row.now) transaction.old.conn transaction.new.conn result }
+    ensures { IsStep (state S.Store)
+        (Inserts (state S.Store) row.now) transaction.old.conn transaction.new.conn result }
 {
     let date = integer_of(row.date)?;
     let collection = bytes_of(row.collection);
@@ -120,7 +135,9 @@ fn insert_row<S: Alter>(
 }
 
 fn delete_rows<S: Alter>(transaction: &mut Transaction<'_, S>, dates: &[u64]) -> Result<(), Failure>
-    ensures { IsStep (state S.Store) (InTurn (Deletes (state S.Store)) dates.now) transaction.old.conn transaction.new.conn result }
+    ensures { IsStep (state S.Store)
+        (InTurn (Deletes (state S.Store)) dates.now) transaction.old.conn transaction.new.conn
+        result }
 {
     for date in dates {
         delete_row(transaction, *date)?;
@@ -129,19 +146,22 @@ fn delete_rows<S: Alter>(transaction: &mut Transaction<'_, S>, dates: &[u64]) ->
 }
 
 fn delete_row<S: Alter>(transaction: &mut Transaction<'_, S>, date: u64) -> Result<(), Failure>
-    ensures { IsStep (state S.Store) (Deletes (state S.Store) date) transaction.old.conn transaction.new.conn result }
+    ensures { IsStep (state S.Store)
+        (Deletes (state S.Store) date) transaction.old.conn transaction.new.conn result }
 {
     let date = integer_of(date)?;
     execute(transaction, DELETE_ROW, params![date])
 }
 
-/// Makes a date the watermark. That of the last of the rows is it by its row.
+/// Sets the watermark. Nothing is written if it is the date of the last row.
 fn set_watermark<S: Alter>(
     transaction: &mut Transaction<'_, S>,
     rows: &[StoredRow],
     watermark: u64,
 ) -> Result<(), Failure>
-    ensures { IsStep (state S.Store) (SetsWatermark (state S.Store) rows.now watermark) transaction.old.conn transaction.new.conn result }
+    ensures { IsStep (state S.Store)
+        (SetsWatermark (state S.Store) rows.now watermark) transaction.old.conn
+        transaction.new.conn result }
 {
     if end_at(rows, watermark) {
         Ok(())
@@ -150,7 +170,7 @@ fn set_watermark<S: Alter>(
     }
 }
 
-/// Whether the last of the rows has the date.
+/// Whether the last row has this date.
 fn end_at(rows: &[StoredRow], date: u64) -> bool
     ensures { result ≡ ends_at rows.now date }
 {
@@ -164,19 +184,23 @@ fn write_watermark<S: Alter>(
     transaction: &mut Transaction<'_, S>,
     watermark: u64,
 ) -> Result<(), Failure>
-    ensures { IsStep (state S.Store) (WritesWatermark (state S.Store) watermark) transaction.old.conn transaction.new.conn result }
+    ensures { IsStep (state S.Store)
+        (WritesWatermark (state S.Store) watermark) transaction.old.conn transaction.new.conn
+        result }
 {
     let watermark = integer_of(watermark)?;
     execute(transaction, WRITE_WATERMARK, params![watermark])
 }
 
-/// Runs a statement of a transaction, which it doesn't end.
+/// Executes a statement inside a transaction, without ending it.
 pub(crate) fn execute<S: Alter>(
     transaction: &mut Transaction<'_, S>,
     statement: &str,
     columns: &[ValueRef<'_>],
 ) -> Result<(), Failure>
-    ensures { IsStep (state S.Store) (Runs (state S.Store) statement.now (bound columns.now)) transaction.old.conn transaction.new.conn result }
+    ensures { IsStep (state S.Store)
+        (Runs (state S.Store) statement.now
+        (bound columns.now)) transaction.old.conn transaction.new.conn result }
 {
     transaction.execute(statement, columns)?;
     Ok(())

@@ -46,7 +46,7 @@ adds_total collection date rows (object ∷ objects) = next (duplicate_of collec
 
 -- ---- object by object
 
--- what the objects of a draft were made, with an addition of the others behind it, is an addition of all
+-- what the objects of a draft were made, with an addition of the others after it, is an addition of all
 abbrev pub Continues : StoreState → ℕ → List Described → List AddOutcome → List StoredRow → List Described → Type 0
 Continues state collection objects outcomes new rest = (others : List AddOutcome) (more : List StoredRow)
     → Adds collection (next_date state.watermark new) (state.rows ++ new) rest others more
@@ -172,7 +172,7 @@ stays watermark shift date held = ap (λ (b : Bool). cond b (date + shift) date)
 moves : (watermark shift date : ℕ) → watermark < date → shifted_date watermark shift date ≡ date + shift
 moves watermark shift date new = ap (λ (b : Bool). cond b (date + shift) date) (lt-ltb watermark date new)
 
--- an addition behind some rows stands as well where the new rows are later
+-- an addition after some rows stands as well where the new rows are later
 pub adds_shifted : (watermark shift collection date : ℕ) (rows fresh : List StoredRow) (objects : List Described) (outcomes : List AddOutcome) (new : List StoredRow)
     → All (λ row. row.date ≤ watermark) rows → All (λ row. watermark < row.date) fresh → watermark < date
     → Adds collection date (rows ++ fresh) objects outcomes new
@@ -243,7 +243,7 @@ adds_shifted watermark shift collection date rows fresh (object ∷ objects) out
 abbrev HasRow : List StoredRow → AddOutcome → Type 0
 HasRow rows outcome = (row : StoredRow) × Contains rows row × (row.date ≡ date_in outcome)
 
--- each outcome has its row behind an addition
+-- each outcome has its row after an addition
 pub outcomes_have : (collection date : ℕ) (rows : List StoredRow) (objects : List Described) (outcomes : List AddOutcome) (new : List StoredRow)
     → Adds collection date rows objects outcomes new → All (HasRow (rows ++ new)) outcomes
 outcomes_have collection date rows [] outcomes new adds = subst (All (HasRow (rows ++ new))) (sym adds.0) (All-nil (HasRow (rows ++ new)))

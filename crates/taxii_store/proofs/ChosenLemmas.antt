@@ -1,4 +1,4 @@
--- Among which rows those stand that meet a query: behind where a page may begin, or among an object's.
+-- Among which rows those stand that meet a query: after where a page may begin, or among an object's.
 use Rattle.std.proofs.Common.{◌≡◌, ◌↔◌, ℕ, ◌+◌, ◌<◌, ◌≤◌, List, [], ◌∷◌, ◌++◌, true, length, get_or, Option, Some, IfSome, codes, inl, inr, refl, sym, subst, arith}
 use Rattle.std.specs.List.{Contains}
 use Rattle.std.specs.Cmp.Lexicographic.{bytes_decides}
@@ -25,7 +25,7 @@ ascend_behind : (passed later : List StoredRow) (least : ℕ) → AscendFrom lea
 ascend_behind [] later least ascend = ascend
 ascend_behind (row ∷ passed) later least ascend = from_earlier least (row.date + 1) later (omega (arith, ascend.0)) (ascend_behind passed later (row.date + 1) ascend.1)
 
--- behind the rows that can't meet it
+-- after the rows that can't meet it
 pub chosen_behind : (rows : List StoredRow) (collection : ℕ) (only : Option Id) (query : Query) (candidates : List StoredRow) → AscendFrom 1 (dates_of rows)
     → AreCandidates query rows candidates → AreChosen rows collection only query candidates
 chosen_behind rows collection only query candidates ascend are = record {
@@ -71,7 +71,7 @@ pub candidate_can : (query : Query) (rows candidates : List StoredRow) (i : ℕ)
     → i < length candidates → row ≡ get_or candidates i row → CanMeet query row
 candidate_can query rows candidates i row are within is = All-contains (CanMeet query) candidates row are.each (i, within, sym is)
 
--- of an object's rows those can that were added behind where the query begins
+-- of an object's rows those can that were added after where the query begins
 pub own_can : (query : Query) (after : ℕ) (rows : List StoredRow) (i : ℕ) (row : StoredRow) → AscendFrom 1 (dates_of rows) → i < length rows → row ≡ get_or rows i row
     → ((date : ℕ) → 0 < date → (after < date) ↔ IsAfter query date) → IfSome query.specs (λ specs. Contains specs (codes "2.1")) → after < row.date → CanMeet query row
 own_can query after rows i row ascend within is begins version later = record {

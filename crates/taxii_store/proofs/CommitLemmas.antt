@@ -42,7 +42,7 @@ sound_committed later added state planned sound plan same =
     let before = watermark_not_before planned.watermark planned.rows plan.ascend in
     added state planned.rows (watermark_after planned.watermark planned.rows) sound (can_commit later state planned sound plan same) plan.rows (omega (arith, before, same)) plan.last
 
--- what stands behind the first rows
+-- what stands after the first rows
 pub rows_after : (rows more first all : List StoredRow) → first ≡ rows → all ≡ rows ++ more → take (length all - length first) (drop (length first) all) ≡ more
 rows_after rows more first all first_is all_is =
     let same = ap length first_is in

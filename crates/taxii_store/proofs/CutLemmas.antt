@@ -1,4 +1,4 @@
--- What halving finds: where the rows behind a date begin.
+-- What halving finds: where the rows after a date begin.
 use Rattle.std.proofs.Common.{◌≡◌, ℕ, zero, suc, ◌+◌, ◌-◌, ◌<◌, ◌≤◌, List, [], ◌∷◌, ◌++◌, length, take, drop, get_or, true, false, leb, All, sym, subst, ◌∙◌, arith, take_all, length-drop, take-append-drop, IfSome, codes, ◌↔◌, drop_of_length-le, append-nil}
 use Rattle.std.specs.List.{AllWithin, Contains}
 use Rattle.std.specs.List.Sorted.{IsNonDecreasingBy}

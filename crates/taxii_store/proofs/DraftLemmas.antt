@@ -38,7 +38,7 @@ outcome_pushed watermark outcomes new outcome draft known =
       known = All-append Known outcomes (outcome ∷ []) draft.known (All-cons Known outcome [] known (All-nil Known));
     }
 
--- the rows of a draft begin behind the watermark, and may be shifted to the first date of so many
+-- the rows of a draft begin after the watermark, and may be shifted to the first date of so many
 pub shift_is : (watermark moment : ℕ) (new : List StoredRow) → watermark + length new ≤ LAST_DATE
     → (watermark + 1 + shift_at watermark moment new ≡ first_date watermark moment (length new)) × (watermark + length new + shift_at watermark moment new ≤ LAST_DATE)
 shift_is watermark moment new room = (omega arith, omega arith)

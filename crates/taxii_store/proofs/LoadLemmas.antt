@@ -1,4 +1,4 @@
--- Rows that are read one after the other: how far a store is read, and what is behind that.
+-- Rows that are read one after the other: how far a store is read, and what is after that.
 use Rattle.std.proofs.Common.{◌≡◌, ◌⊎◌, inl, inr, ℕ, ◌+◌, ◌<◌, ◌≤◌, List, [], ◌∷◌, ◌++◌, All, Bool, true, false, cond, Option, Some, None, IfSome, MatchOption, refl, sym, ap, subst, ◌∙◌, append_assoc, arith}
 use Rattle.std.specs.Prelude.{nat_lt, find}
 use Rattle.std.specs.List.{Contains}
@@ -50,7 +50,7 @@ good_pushed watermark after rows row good later fit =
       ends = inr (row, Contains-push rows row, refl);
     }
 
--- ---- the row behind a date
+-- ---- the row after a date
 
 none_up_to : (after : ℕ) (rows : List StoredRow) → All (λ row. row.date ≤ after) rows → row_after after rows ≡ None
 none_up_to after [] upto = refl
@@ -162,7 +162,7 @@ after_of OutOfMemory = 0
 pub one_after : (first second : ℕ) → BadRow first ≡ BadRow second → second ≡ first
 one_after first second same = sym (ap after_of same)
 
--- a told state that isn't whole makes the row behind the rows that were read bad
+-- a told state that isn't whole makes the row after the rows that were read bad
 pub bad_told : (observable : Option StoreState) (watermark after at : ℕ) (rows : List StoredRow)
     → IfSome observable (λ state. (state.watermark ≡ watermark) × AscendFrom 1 (dates_of state.rows)) → AreGood watermark after rows → IfSome observable (λ state. IsReadTo state rows after)
     → at ≡ after → IfSome observable (λ state. IsBadNext state after) → IfSome observable (λ state. IsBadAfter state at)

@@ -76,7 +76,7 @@ ascends_take n zero (x ∷ xs) p = tt
 ascends_take n (suc k) [] p = tt
 ascends_take n (suc k) (x ∷ xs) p = (p.0, ascends_take (x.date + 1) k xs p.1)
 
--- rows that are all past a date ascend from behind it
+-- rows that are all past a date ascend from after it
 pub ascends_past : (n c : ℕ) (xs : List StoredRow) → Ascends n xs → ((r : StoredRow) → Contains xs r → c < r.date) → Ascends (c + 1) xs
 ascends_past n c [] p past = tt
 ascends_past n c (x ∷ xs) p past = let first = past x (in_first x xs) in (omega (arith, first), p.1)

@@ -182,7 +182,7 @@ pub found_id : (ids : List Id) (lent set : List Key) (key : Key) (id : Id) (answ
 unfolding HasIds
 found_id = found_key numbered (λ x y same. ap (λ (parts : ℕ × List ℕ). let id : Id = record { kind = parts.1; number = parts.0 } in id) same)
 
--- one more key behind those of the first identifiers
+-- one more key after those of the first identifiers
 pub next_id : (ids : List Id) (row : List Key) (i : ℕ) (key : Key) (id : Id) → i < length ids → id ≡ get_or ids i id → parts_of key ≡ numbered id
     → map parts_of row ≡ map numbered (take i ids) → map parts_of (row ++ key ∷ []) ≡ map numbered (take (i + 1) ids)
 next_id ids row i key id within is own so_far =

@@ -1,4 +1,5 @@
--- What an addition makes of a store (TAXII 2.1, section 5.5): each object is there already, or becomes a row with a date of its own.
+-- The result of an addition (TAXII 2.1, section 5.5): each object is already present, or becomes a
+-- row with a unique date.
 use Rattle.std.specs.Prelude.{◌≡◌, ℕ, ◌+◌, ◌-◌, ◌≤◌, ◌<◌, max, min, List, [], ◌∷◌, ◌++◌, length, MatchOption}
 use Rattle.taxii_rows.specs.declared.stored_row.StoredRow.{StoredRow}
 use Rattle.taxii_rows.specs.declared.stored_row.TheConstants.{LAST_DATE}
@@ -14,8 +15,9 @@ abbrev pub date_in : AddOutcome → ℕ
 date_in (Added date) = date
 date_in (Present date) = date
 
--- objects are added in turn behind these rows, the first new one with this date. One that a row makes present has the date of the
--- first such row. Any other one becomes a row with the next date, which stands behind the others for the objects after it
+-- objects are added in order after these rows, the first new one with this date. An object made
+-- present by a row has the date of the first such row. Any other one becomes a row with the next
+-- date, after the rows before
 abbrev pub Adds : ℕ → ℕ → List StoredRow → List Described → List AddOutcome → List StoredRow → Type 0
 Adds collection date rows [] outcomes new = (outcomes ≡ []) × (new ≡ [])
 Adds collection date rows (object ∷ objects) outcomes new = MatchOption (duplicate_of collection object rows)
@@ -24,7 +26,8 @@ Adds collection date rows (object ∷ objects) outcomes new = MatchOption (dupli
     × Adds collection (date + 1) (rows ++ row_of object date collection ∷ []) objects others more)
     (λ row. (others : List AddOutcome) × (outcomes ≡ Present row.date ∷ others) × Adds collection date rows objects others new)
 
--- the date of the first of so many new rows: the moment, but past every date given, and early enough that the others have dates too
+-- the date of the first of `count` new rows: the moment, but after every date given, and early
+-- enough that the others have valid dates
 abbrev pub first_date : ℕ → ℕ → ℕ → ℕ
 first_date watermark moment count = max (watermark + 1) (min moment (LAST_DATE + 1 - count))
 

@@ -1,15 +1,16 @@
--- Histories of a store: what additions and deletions make of it, in turn. Nothing else changes it.
+-- Histories of a store: what additions and deletions make of it, in order. Nothing else changes it.
 use Rattle.std.specs.Prelude.{◌≡◌, ◌⊎◌, ℕ, ◌+◌, ◌≤◌, List, [], ◌∷◌, All}
 use Rattle.taxii_rows.specs.declared.stored_row.StoredRow.{StoredRow}
 use Rattle.taxii_rows.specs.StoreState.{StoreState, dates_of, AscendFrom}
 use Rattle.taxii_rows.specs.Keeper.{with_rows, without}
 
--- the dates ascend strictly from at least 1, and none is later than the watermark
+-- the dates ascend strictly from at least 1, and none is after the watermark
 pub record IsDated (state : StoreState) : Type 0 where
   pub ascend : AscendFrom 1 (dates_of state.rows)
   pub marked : All (λ row. row.date ≤ state.watermark) state.rows
 
--- an addition: rows stand behind the others, each later than every date that was given before, and the last date given is the watermark
+-- an addition: rows follow the others, each later than every date given before, and the last date
+-- given is the watermark
 pub record IsAddition (state after : StoreState) : Type 0 where
   pub rows : List StoredRow
   pub ascend : AscendFrom (state.watermark + 1) (dates_of rows)
@@ -17,7 +18,7 @@ pub record IsAddition (state after : StoreState) : Type 0 where
   pub watermark : state.watermark ≤ after.watermark
   pub after_is : after ≡ with_rows rows after.watermark state
 
--- a deletion: the rows of some dates are gone, and the watermark stays
+-- a deletion: the rows of some dates are removed, and the watermark stays
 pub record IsDeletion (state after : StoreState) : Type 0 where
   pub dates : List ℕ
   pub after_is : after ≡ without dates state

@@ -17,7 +17,7 @@ abbrev pub load_refusal : KeeperRefusal → LoadRefusal
 load_refusal Fault = KeeperFault
 load_refusal KeeperWants = OutOfMemory
 
--- the row is sound, and neither past the watermark nor past the last date there is
+-- the row is sound, and neither after the watermark nor after the last valid date
 pub record IsFit (watermark : ℕ) (row : StoredRow) : Type 0 where
   pub marked : row.date ≤ watermark
   pub last : row.date ≤ LAST_DATE
@@ -28,7 +28,8 @@ pub record AreFitUpTo (state : StoreState) (after : ℕ) : Type 0 where
   pub fit : (row : StoredRow) → Contains state.rows row → row.date ≤ after → IsFit state.watermark row
   pub ends : (after ≡ 0) ⊎ ((row : StoredRow) × Contains state.rows row × (row.date ≡ after))
 
--- the first row that isn't fit is the one behind that date; where no row is behind it, the watermark is past the last date there is
+-- the first row that is not acceptable is the one after this date; or no row follows it, and the
+-- watermark is after the last valid date
 pub record IsBadAfter (state : StoreState) (after : ℕ) : Type 0 where
   pub before : AreFitUpTo state after
   pub bad : MatchOption (row_after after state.rows) (LAST_DATE < state.watermark) (λ row. ¬ IsFit state.watermark row)

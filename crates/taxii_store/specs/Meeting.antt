@@ -12,8 +12,8 @@ use Rattle.taxii_routes.specs.declared.query.Query.{Query}
 abbrev pub picks_of : Query → List Pick
 picks_of query = unwrap_or query.picks (Last ∷ [])
 
--- what is asked of a row by itself: its collection, the one object of the path, when it was added, its identifier, its type, and the
--- version of the standard, which is 2.1
+-- what is asked of a row by itself: its collection, the one object of the path, when it was added,
+-- its identifier, its type, and the version of the standard, which is 2.1
 pub record IsAskedFor (collection : ℕ) (only : Option Id) (query : Query) (row : StoredRow) : Type 0 where
   pub its : row.collection ≡ collection
   pub one : IfSome only (λ id. row.id ≡ id)
@@ -23,7 +23,7 @@ pub record IsAskedFor (collection : ℕ) (only : Option Id) (query : Query) (row
   pub kinds : IfSome query.kinds (λ kinds. Contains kinds row.id.kind)
   pub specs : IfSome query.specs (λ specs. Contains specs (codes "2.1"))
 
--- the row is asked for, and it is picked among the rows of its object
+-- the row is requested, and it is picked among the rows of its object
 pub record Meets (rows : List StoredRow) (collection : ℕ) (only : Option Id) (query : Query) (row : StoredRow) : Type 0 where
   pub asked : IsAskedFor collection only query row
   pub picked : IsPicked (picks_of query) rows row

@@ -1,4 +1,4 @@
--- A set of picks, told by a list of them: what the list repeats counts once.
+-- A set of version filters, given by a list of them in which repetitions count once.
 use Rattle.std.specs.Prelude.{◌⊎◌, ℤ, List, IsTrue, ◌↔◌}
 use Rattle.std.specs.List.{Contains}
 use Rattle.std.specs.Ordering.{int_cmp}

@@ -9,7 +9,8 @@ use Rattle.taxii_rows.specs.StoreState.{dates_of, AscendFrom}
 use Rattle.taxii_store.specs.declared.add_outcome.AddOutcome.{AddOutcome}
 use Rattle.taxii_store.specs.Addition.{watermark_after}
 
--- the watermark of the store that it was planned for, what became of each object, and the new rows by date
+-- the watermark of the store that it was planned for, the outcome of each object, and the new rows
+-- by date
 pub record PlannedState : Type 0 where
   pub watermark : ℕ
   pub outcomes : List AddOutcome
@@ -19,7 +20,8 @@ pub record PlannedState : Type 0 where
 abbrev pub IsSound : Described → Type 0
 IsSound object = (date collection : ℕ) → IsSoundRow (row_of object date collection)
 
--- the new rows may be added to a sound store with that watermark, which then is sound with their last date as its watermark
+-- the new rows may be added to a sound store with this watermark, which stays sound with their last
+-- date as its watermark
 pub record IsSoundPlan (planned : PlannedState) : Type 0 where
   pub ascend : AscendFrom (planned.watermark + 1) (dates_of planned.rows)
   pub last : watermark_after planned.watermark planned.rows ≤ LAST_DATE

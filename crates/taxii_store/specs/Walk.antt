@@ -1,5 +1,5 @@
--- Walks: a client asks for a page, and then for the next one as long as there is more (TAXII 2.1, section 3.4). Between two pages
--- anything may be added and deleted.
+-- Walks: a client asks for a page, and then for the next one as long as there is more (TAXII 2.1,
+-- section 3.4). Between two pages anything may be added and deleted.
 use Rattle.std.specs.Prelude.{◌≡◌, ℕ, ◌<◌, List, [], ◌∷◌, ◌++◌, Bool, true, false, Option, Some, None, IfSome}
 use Rattle.std.specs.List.{Contains}
 use Rattle.stix_ids.specs.declared.id.Id.{Id}
@@ -11,20 +11,22 @@ use Rattle.taxii_store.specs.Meeting.{IsAskedFor, picks_of}
 use Rattle.taxii_store.specs.Page.{IsPage}
 use Rattle.taxii_store.specs.History.{IsDated, IsHistory}
 
--- where a walk stops: the store as it is there, the query, and the page with whether there is more
+-- a stop of a walk: the state of the store, the query, and its page with whether more follows
 pub record Stop : Type 0 where
   pub state : StoreState
   pub query : Query
   pub page : List StoredRow
   pub more : Bool
 
--- what a walk asks for at each stop: a collection, the one object of the path, and what the queries have in common
+-- what a walk asks for at each stop: a collection, the one object of the path, and what the queries
+-- have in common
 pub record Wanted : Type 0 where
   pub collection : ℕ
   pub only : Option Id
   pub query : Query
 
--- the query asks for all versions, and for what the others of the walk ask; its limit may be another
+-- the query asks for all versions, and for what the others of the walk ask; its limit may be
+-- another
 pub record AsksAlike (wanted query : Query) : Type 0 where
   pub all : Contains (picks_of query) All
   pub added_after : query.added_after ≡ wanted.added_after
@@ -33,7 +35,7 @@ pub record AsksAlike (wanted query : Query) : Type 0 where
   pub specs : query.specs ≡ wanted.specs
   pub limit : IfSome query.limit (λ limit. 0 < limit)
 
--- the page of a query that goes on after a date
+-- the page of a query that continues after a date
 pub record IsStop (wanted : Wanted) (next : Option ℕ) (stop : Stop) : Type 0 where
   pub dated : IsDated stop.state
   pub alike : AsksAlike wanted.query stop.query
@@ -46,7 +48,8 @@ last_date [] = None
 last_date (row ∷ []) = Some row.date
 last_date (row ∷ other ∷ rows) = last_date (other ∷ rows)
 
--- the stops of a walk in turn, after that date: there is more at each but the last, and the one after it goes on behind its page
+-- the stops of a walk in order, from that date on: more follows at each but the last, and the next
+-- one continues after its page
 abbrev pub GoesFrom : Wanted → Option ℕ → Stop → List Stop → Type 0
 GoesFrom wanted next stop [] = IsStop wanted next stop × (stop.more ≡ false)
 GoesFrom wanted next stop (other ∷ stops) =

@@ -1,12 +1,12 @@
-/// What became of an object that was to be added to a store.
+/// The outcome of an addition for one object.
 #[derive(Clone, Copy, Debug, PartialEq, Eq)]
 pub enum AddOutcome {
-    /// It is a new row, of this date.
+    /// It became a new row with this date.
     Added {
         /// In microseconds since 1970.
         date: u64,
     },
-    /// It was there already, as the row of this date.
+    /// It was already present, as the row with this date.
     Present {
         /// In microseconds since 1970.
         date: u64,

@@ -16,7 +16,7 @@ use stix_ids::{Id, Pick};
 use taxii_routes::Query;
 use taxii_rows::StoredRow;
 
-/// What a request asks of a row, prepared once: lists are sets.
+/// The filters of a request, compiled once into sets.
 #[derive(Drop)]
 pub(crate) struct RowFilter<'a> {
     collection: u128,
@@ -27,7 +27,7 @@ pub(crate) struct RowFilter<'a> {
 }
 
 impl<'a> RowFilter<'a> {
-    /// What a query asks of a collection, and of that object only where one is named.
+    /// The filters of a query on a collection, and on one object if `only` names it.
     pub(crate) fn of(
         alloc: Global,
         collection: u128,
@@ -48,13 +48,17 @@ impl<'a> RowFilter<'a> {
         })
     }
 
-    /// Whether a row of the library, at that place among its rows, meets the query, where it can by when
-    /// it was added. What costs no look-up is asked first.
+    /// Whether the row at this position of the library matches, if its date does. Cheap conditions
+    /// are tested before those that need a lookup.
     pub(crate) fn meets(&mut self, library: &Library, place: usize, row: &'a StoredRow) -> bool
         requires there { Contains library.now.rows row.now }
-        ensures meets { (collection : ℕ) (only : Option Identifier) (query : Wanted) → Asks collection only query self.old
-            → CanMeet query row.now → IsTrue result ↔ Meets library.now.rows collection only query row.now }
-        ensures same { (collection : ℕ) (only : Option Identifier) (query : Wanted) → Asks collection only query self.old
+        // the date and the spec version (`CanMeet`) are tested by the caller
+        ensures meets { (collection : ℕ) (only : Option Identifier) (query : Wanted)
+            → Asks collection only query self.old
+            → CanMeet query row.now
+            → IsTrue result ↔ Meets library.now.rows collection only query row.now }
+        ensures same { (collection : ℕ) (only : Option Identifier) (query : Wanted)
+            → Asks collection only query self.old
             → Asks collection only query self.new }
     {
         self.picks.may_select(library, place, row) && self.is_match(library, row)
@@ -62,19 +66,24 @@ impl<'a> RowFilter<'a> {
 
     fn is_match(&mut self, library: &Library, row: &'a StoredRow) -> bool
         requires there { Contains library.now.rows row.now }
-        ensures meets { (collection : ℕ) (only : Option Identifier) (query : Wanted) → Asks collection only query self.old
-            → CanMeet query row.now → IsTrue result ↔ Meets library.now.rows collection only query row.now }
-        ensures same { (collection : ℕ) (only : Option Identifier) (query : Wanted) → Asks collection only query self.old
+        ensures meets { (collection : ℕ) (only : Option Identifier) (query : Wanted)
+            → Asks collection only query self.old
+            → CanMeet query row.now
+            → IsTrue result ↔ Meets library.now.rows collection only query row.now }
+        ensures same { (collection : ℕ) (only : Option Identifier) (query : Wanted)
+            → Asks collection only query self.old
             → Asks collection only query self.new }
     {
         self.asks_for(row) && self.picks.selects(library, row)
     }
 
-    /// Whether the row by itself is what is asked for, where it can be by when it was added.
+    /// Whether the row matches all conditions that need no other row.
     fn asks_for(&mut self, row: &'a StoredRow) -> bool
-        ensures asked { (collection : ℕ) (only : Option Identifier) (query : Wanted) → Asks collection only query self.old
+        ensures asked { (collection : ℕ) (only : Option Identifier) (query : Wanted)
+            → Asks collection only query self.old
             → CanMeet query row.now → IsTrue result ↔ IsAskedFor collection only query row.now }
-        ensures same { (collection : ℕ) (only : Option Identifier) (query : Wanted) → Asks collection only query self.old
+        ensures same { (collection : ℕ) (only : Option Identifier) (query : Wanted)
+            → Asks collection only query self.old
             → Asks collection only query self.new }
     {
         row.collection == self.collection
@@ -84,7 +93,7 @@ impl<'a> RowFilter<'a> {
     }
 }
 
-/// The kinds that are named, where some are.
+/// The set of the types named by `match[type]`, if any.
 fn kind_set<'a>(
     alloc: Global,
     kinds: &'a Option<Items<Text>>,
@@ -97,7 +106,7 @@ fn kind_set<'a>(
     }
 }
 
-/// The identifiers that are named, where some are.
+/// The set of the identifiers named by `match[id]`, if any.
 fn id_set<'a>(alloc: Global, ids: &'a Option<Items<Id>>) -> Result<Option<IdSet<'a>>, NoMemory>
     ensures { IfOk result (HasIdsWhere ids.now) }
 {
@@ -107,7 +116,7 @@ fn id_set<'a>(alloc: Global, ids: &'a Option<Items<Id>>) -> Result<Option<IdSet<
     }
 }
 
-/// The query's picks, or where it has none, the last version.
+/// The version filters of a query; the default is the last version (section 3.4).
 fn pick_set(alloc: Global, query: &Query) -> Result<PickSet, NoMemory>
     ensures { IfOk result (HasPicks (picks_of query.now)) }
 {
@@ -117,7 +126,7 @@ fn pick_set(alloc: Global, query: &Query) -> Result<PickSet, NoMemory>
     }
 }
 
-/// Whether it is the identifier, where one is asked for.
+/// Whether the identifier equals `only`, if given.
 fn is_object(only: Option<&Id>, id: &Id) -> bool
     ensures { IsTrue result ↔ IfSome (option_map (λ id. id.now) only.entry) (λ one. id.now ≡ one) }
 {
@@ -127,10 +136,12 @@ fn is_object(only: Option<&Id>, id: &Id) -> bool
     }
 }
 
-/// Whether the kind is one of those that are named, where some are.
+/// Whether the set has the type; without a set, any type matches.
 fn has_kind<'a>(kinds: &mut Option<TextSet<'a>>, kind: &'a str) -> bool
-    ensures has { (texts : Option (List (List ℕ))) → HasTextsWhere texts kinds.old → IsTrue result ↔ IfSome texts (λ texts. Contains texts kind.now) }
-    ensures same { (texts : Option (List (List ℕ))) → HasTextsWhere texts kinds.old → HasTextsWhere texts kinds.new }
+    ensures has { (texts : Option (List (List ℕ))) → HasTextsWhere texts kinds.old
+        → IsTrue result ↔ IfSome texts (λ texts. Contains texts kind.now) }
+    ensures same { (texts : Option (List (List ℕ))) → HasTextsWhere texts kinds.old
+        → HasTextsWhere texts kinds.new }
 {
     match kinds {
         Some(kinds) => kinds.has(kind),
@@ -138,9 +149,10 @@ fn has_kind<'a>(kinds: &mut Option<TextSet<'a>>, kind: &'a str) -> bool
     }
 }
 
-/// Whether the identifier is one of those that are named, where some are.
+/// Whether the set has the identifier; without a set, any identifier matches.
 fn has_id<'a>(ids: &Option<IdSet<'a>>, id: &'a Id) -> bool
-    ensures { (named : Option (List Identifier)) → HasIdsWhere named ids.now → IsTrue result ↔ IfSome named (λ named. Contains named id.now) }
+    ensures { (named : Option (List Identifier)) → HasIdsWhere named ids.now
+        → IsTrue result ↔ IfSome named (λ named. Contains named id.now) }
 {
     match ids {
         Some(ids) => ids.has(id),

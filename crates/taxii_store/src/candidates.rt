@@ -9,8 +9,8 @@ use flow_values::{Items, Text};
 use taxii_routes::Query;
 use taxii_rows::StoredRow;
 
-/// The rows that can meet the query by when they were added, found by halving, and none where it doesn't
-/// ask for the version of the standard that all rows have.
+/// The rows whose date can match the query, found by binary search; none if `match[spec_version]`
+/// excludes 2.1, the version of all rows.
 pub(crate) fn candidates<'a>(library: &'a Library, query: &Query) -> &'a [StoredRow]
     ensures ascend { AscendFrom 1 (dates_of library.now.rows) }
     ensures candidates { AreCandidates query.now library.now.rows result.now }
@@ -23,14 +23,14 @@ pub(crate) fn candidates<'a>(library: &'a Library, query: &Query) -> &'a [Stored
     }
 }
 
-/// Whether the query takes the version of the standard that all rows have.
+/// Whether `match[spec_version]` allows 2.1.
 pub(crate) fn asks_for_version(query: &Query) -> bool
     ensures { IsTrue result ↔ IfSome query.now.specs (λ specs. Contains specs (codes "2.1")) }
 {
     names_text(&query.specs, "2.1")
 }
 
-/// The rows that were added later than the date.
+/// The rows added later than the date. Binary search.
 fn rows_after(rows: &[StoredRow], date: u64) -> &[StoredRow]
     requires { AscendFrom 1 (dates_of rows.now) }
     ensures { IsCutAt date rows.now result.now }
@@ -39,7 +39,7 @@ fn rows_after(rows: &[StoredRow], date: u64) -> &[StoredRow]
     &rows[first..]
 }
 
-/// Whether the text is among those asked for, where some are.
+/// Whether the list contains the text; without a list, any text matches.
 fn names_text(texts: &Option<Items<Text>>, text: &str) -> bool
     ensures { IsTrue result ↔ IfSome texts.now (λ texts. Contains texts text.now) }
 {

@@ -4,7 +4,8 @@ ghost use Rattle.taxii_store.specs.inner.Candidates.{IsAfter};
 use stix_times::{Instant, nanos};
 use taxii_routes::Query;
 
-/// The date, in microseconds since 1970, behind which a row must have been added.
+/// The cursor of a query: the later of `added_after` and `next`, in microseconds since 1970. A row
+/// matches only if it was added after it.
 pub(crate) fn cursor(query: &Query) -> u64
     ensures { (date : ℕ) → 0 < date → (result < date) ↔ IsAfter query.now date }
 {
@@ -15,7 +16,7 @@ pub(crate) fn cursor(query: &Query) -> u64
     added.max(query.next.unwrap_or(0))
 }
 
-/// The whole microseconds since 1970 up to the instant, and 0 where it is earlier.
+/// Microseconds since 1970, rounded towards the past, or 0 if earlier.
 fn micros(instant: Instant) -> u64
     ensures { (date : ℕ) → 0 < date → (result < date) ↔ (instant <ℤ pos (1000 * date)) }
 {

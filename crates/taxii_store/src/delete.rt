@@ -16,8 +16,8 @@ use taxii_rows::laws::sound_states;
 use taxii_rows::{Keeper, KeeperRefusal, StoredRow};
 
 impl Library {
-    /// The dates of the rows of an object in a collection that the picks select, ascending. Nothing changes. It takes as many
-    /// look-ups as the object has rows, and no pass over all.
+    /// Plans a deletion: the dates, ascending, of the rows of an object in a collection that the
+    /// version filters select. Changes nothing. O(k log n) for the object's k rows.
     pub fn plan_delete(
         &self,
         collection: u128,
@@ -37,16 +37,19 @@ impl Library {
         Ok(dates)
     }
 
-    /// Whether one of the picks selects the row. What costs no look-up among its versions is asked first.
+    /// Whether one of the version filters selects the row. The test without a lookup comes first.
     fn is_selected(&self, row: &StoredRow, set: &PickSet) -> bool
         requires { Contains self.now.rows row.now }
-        ensures { (picks : List Picked) → HasPicks picks set.now → IsTrue result ↔ IsPicked picks self.now.rows row.now }
+        ensures { (picks : List Picked) → HasPicks picks set.now
+            → IsTrue result ↔ IsPicked picks self.now.rows row.now }
     {
         set.may_select(self, self.position_of(row.date), row) && set.selects(self, row)
     }
 
-    /// Removes the rows of these dates, which ascend, from the keeper and then from the library. Where there
-    /// is none the keeper isn't called. The last date ever given stays.
+    /// Commits a deletion: removes the rows of these dates, which ascend, from the keeper and then
+    /// from the library. With no dates the keeper is not called. The watermark stays. After an
+    /// error nothing has changed: `Fault` if the keeper failed (and counted it), `NoMemory` if it
+    /// ran out of memory.
     pub fn commit_delete<K: Keeper>(
         &mut self,
         keeper: &mut K,
@@ -55,11 +58,13 @@ impl Library {
         requires agrees { Agrees (K.kept keeper.old) self.old }
         requires ascend { AscendFrom 0 dates.now }
         ensures agrees { Agrees (K.kept keeper.new) self.new }
+        // the name and the attachment of the keeper stay
         ensures keeper { without_rows (K.kept keeper.new) ≡ without_rows (K.kept keeper.old) }
         ensures ok { OnOk result (self.new ≡ without dates.now self.old) }
         ensures err { OnErr result (self.new ≡ self.old) }
         ensures nothing { dates.now ≡ [] → IsOk result × (keeper.new ≡ keeper.old) }
-        ensures causes { Counted (result ≡ Err KeeperRefusal.Fault) (K.faults keeper.old) (K.faults keeper.new) }
+        ensures causes { Counted (result ≡ Err KeeperRefusal.Fault) (K.faults keeper.old)
+            (K.faults keeper.new) }
     {
         if dates.is_empty() {
             return Ok(());

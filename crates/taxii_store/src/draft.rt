@@ -14,7 +14,8 @@ use std::alloc::Global;
 use taxii_index::{HintedRows, IndexedRows};
 use taxii_rows::{Described, LAST_DATE};
 
-/// An addition whose new rows have the dates behind the watermark, while it isn't known how many they are.
+/// An addition in progress. Its new rows have consecutive dates after the watermark, since their
+/// final dates depend on how many they are.
 #[derive(Drop)]
 pub(crate) struct Draft {
     outcomes: Items<AddOutcome>,
@@ -22,16 +23,20 @@ pub(crate) struct Draft {
 }
 
 impl Draft {
-    /// The objects in turn.
+    /// Adds the objects in order.
     pub(crate) fn of(
         library: &Library,
         collection: u128,
         objects: Vec<Described>,
     ) -> Result<Draft, PlanRefusal>
         requires { All IsSound objects.items }
-        ensures ok { IfOk result (λ draft. Adds collection (library.now.watermark + 1) library.now.rows objects.items draft.outcomes draft.added) }
-        ensures draft { IfOk result (λ draft. IsDraft library.now.watermark draft.outcomes draft.added) }
-        ensures err { IfErr result (λ refusal. refusal ≡ UsedUp → UsesUpDates library.now collection objects.items) }
+        ensures ok { IfOk result
+            (λ draft. Adds collection
+            (library.now.watermark + 1) library.now.rows objects.items draft.outcomes draft.added) }
+        ensures draft { IfOk result
+            (λ draft. IsDraft library.now.watermark draft.outcomes draft.added) }
+        ensures err { IfErr result (λ refusal. refusal ≡ UsedUp
+            → UsesUpDates library.now collection objects.items) }
     {
         let mut draft = Draft::empty(library.alloc, library.secret, objects.len())?;
         for object in objects {
@@ -40,8 +45,8 @@ impl Draft {
         Ok(draft)
     }
 
-    /// The plan at a moment, in microseconds since 1970: its new rows begin there where that is past the
-    /// watermark, and where the last of them still has a date.
+    /// The plan at a moment, in microseconds since 1970. The new rows' dates start at the moment if
+    /// it is after the watermark, but early enough that the last row still has a valid date.
     pub(crate) fn planned_at(self, watermark: u64, moment: u64) -> Planned
         requires draft { IsDraft watermark self.outcomes self.added }
         ensures { result ≡ plan_of watermark moment self.outcomes self.added }
@@ -61,7 +66,7 @@ impl Draft {
         }
     }
 
-    /// A draft without objects, and room for so many outcomes.
+    /// An empty draft with capacity for `count` outcomes.
     fn empty(alloc: Global, secret: u128, count: usize) -> Result<Draft, NoMemory>
         ensures { IfOk result (λ draft. (draft.outcomes ≡ []) × (draft.added ≡ [])) }
     {
@@ -72,7 +77,7 @@ impl Draft {
         })
     }
 
-    /// One more object.
+    /// Adds an object: it is present already, or becomes a new row.
     fn place(
         &mut self,
         library: &Library,
@@ -81,9 +86,13 @@ impl Draft {
     ) -> Result<(), PlanRefusal>
         requires draft { IsDraft library.now.watermark self.old.outcomes self.old.added }
         requires sound { IsSound object }
-        ensures ok { OnOk result (Places library.now collection object self.old.outcomes self.old.added self.new.outcomes self.new.added) }
-        ensures draft { OnOk result (IsDraft library.now.watermark self.new.outcomes self.new.added) }
-        ensures err { IfErr result (λ refusal. refusal ≡ UsedUp → LacksDate library.now collection object self.old.added) }
+        ensures ok { OnOk result
+            (Places library.now collection object self.old.outcomes self.old.added
+            self.new.outcomes self.new.added) }
+        ensures draft { OnOk result
+            (IsDraft library.now.watermark self.new.outcomes self.new.added) }
+        ensures err { IfErr result (λ refusal. refusal ≡ UsedUp
+            → LacksDate library.now collection object self.old.added) }
     {
         let outcome = match self.date_of_duplicate(library, collection, &object) {
             Some(date) => AddOutcome::Present { date },
@@ -93,7 +102,7 @@ impl Draft {
         Ok(())
     }
 
-    /// The date of the first row that makes the object present.
+    /// The date of the first row, stored or new, that makes the object present.
     fn date_of_duplicate(
         &self,
         library: &Library,
@@ -101,7 +110,9 @@ impl Draft {
         object: &Described,
     ) -> Option<u64>
         requires { IsDraft library.now.watermark self.now.outcomes self.now.added }
-        ensures date { result ≡ option_map (λ row. row.date) (duplicate_of collection object.now (library.now.rows ++ self.now.added)) }
+        ensures date { result
+            ≡ option_map (λ row. row.date)
+            (duplicate_of collection object.now (library.now.rows ++ self.now.added)) }
         ensures known { IfSome result (λ date. date ≤ last_date) }
     {
         let held = date_held(&library.rows, collection, object);
@@ -111,7 +122,7 @@ impl Draft {
         }
     }
 
-    /// A new row of the object, with the next date.
+    /// Adds a row for the object, with the next date.
     fn add(
         &mut self,
         watermark: u64,
@@ -120,12 +131,16 @@ impl Draft {
     ) -> Result<AddOutcome, PlanRefusal>
         requires draft { IsDraft watermark self.old.outcomes self.old.added }
         requires sound { IsSound object }
-        ensures outcome { IfOk result (λ outcome. outcome ≡ AddOutcome.Added (watermark + 1 + length self.old.added)) }
+        ensures outcome { IfOk result
+            (λ outcome. outcome ≡ AddOutcome.Added (watermark + 1 + length self.old.added)) }
         ensures known { IfOk result (λ outcome. date_in outcome ≤ last_date) }
-        ensures row { OnOk result (self.new.added ≡ self.old.added ++ row_of object (watermark + 1 + length self.old.added) collection ∷ []) }
+        ensures row { OnOk result
+            (self.new.added ≡ self.old.added
+            ++ row_of object (watermark + 1 + length self.old.added) collection ∷ []) }
         ensures draft { OnOk result (IsDraft watermark self.new.outcomes self.new.added) }
         ensures outcomes { self.new.outcomes ≡ self.old.outcomes }
-        ensures err { IfErr result (λ refusal. refusal ≡ UsedUp → last_date < watermark + 1 + length self.old.added) }
+        ensures err { IfErr result (λ refusal. refusal ≡ UsedUp
+            → last_date < watermark + 1 + length self.old.added) }
     {
         let date = watermark + 1 + self.added.as_slice().len() as u64;
         if date > LAST_DATE {
@@ -136,7 +151,7 @@ impl Draft {
     }
 }
 
-/// The date of the first of the rows of a library that makes the object present.
+/// The date of the first stored row that makes the object present.
 fn date_held(rows: &HintedRows, collection: u128, object: &Described) -> Option<u64>
     ensures { result ≡ option_map (λ row. row.date) (duplicate_of collection object.now rows.now) }
 {
@@ -144,7 +159,7 @@ fn date_held(rows: &HintedRows, collection: u128, object: &Described) -> Option<
     Some(row.date)
 }
 
-/// The date of the first of the new rows that makes the object present.
+/// The date of the first new row that makes the object present.
 fn date_added(rows: &IndexedRows, collection: u128, object: &Described) -> Option<u64>
     ensures { result ≡ option_map (λ row. row.date) (duplicate_of collection object.now rows.now) }
 {

@@ -7,14 +7,14 @@ use flow_values::NoMemory;
 use std::alloc::Global;
 use stix_ids::Id;
 
-/// Some identifiers in the order of their numbers and kinds, for look-ups as those of `TextSet`.
+/// A set of identifiers as a sorted vector, for lookups by binary search, as `TextSet`.
 #[derive(Drop)]
 pub(crate) struct IdSet<'a> {
     ids: Vec<(u128, &'a str)>,
 }
 
 impl<'a> IdSet<'a> {
-    /// The identifiers of a list.
+    /// The set of the identifiers of a list.
     pub(crate) fn of(alloc: Global, ids: &'a [Id]) -> Result<IdSet<'a>, NoMemory>
         ensures { IfOk result (λ set. HasIds ids.now set.ids.items) }
     {
@@ -27,9 +27,10 @@ impl<'a> IdSet<'a> {
         Ok(IdSet { ids: row })
     }
 
-    /// Whether the identifier is one of them. Takes no memory.
+    /// Whether the set contains the identifier. O(log n); allocates nothing.
     pub(crate) fn has(&self, id: &Id) -> bool
-        ensures { (ids : List Identifier) → HasIds ids self.now.ids.items → IsTrue result ↔ Contains ids id.now }
+        ensures { (ids : List Identifier) → HasIds ids self.now.ids.items
+            → IsTrue result ↔ Contains ids id.now }
     {
         self.ids
             .binary_search(&(id.number, id.kind.as_str()))

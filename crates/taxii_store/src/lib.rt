@@ -1,16 +1,19 @@
-//! The store of a TAXII 2.1 server: the rows of a keeper in memory, and what additions and deletions
-//! make of them (sections 3.4 and 5.5).
+//! The store of a TAXII 2.1 server: all rows of a keeper in memory, with additions, deletions and
+//! pages (sections 3.4 and 5.5).
 //!
-//! A change is planned first, which takes the memory that it needs, and then done by the keeper and by
-//! the library together. After a refusal both are as they were.
+//! A change is planned first, which allocates all memory, and then committed to the keeper and the
+//! library together. After an error both are unchanged.
 //!
-//! Pages of a TAXII 2.1 server's store, and walks over them (section 3.4): which rows meet a query, what
-//! a page of them is, and the law that a walk that follows `next` skips no row and gives none twice,
-//! whatever is added and deleted between its pages.
+//! Pagination is by cursor: `next` is the date of the last row of the page before. Dates are
+//! unique, ascend and are never reused. So a client that follows `next` receives each row once,
+//! whatever is added or deleted meanwhile (`walk_laws`). A page copies no row.
 //!
-//! Pages of a TAXII 2.1 server's rows (section 3.4): the first rows, by date, of those that meet a query,
-//! and whether there are more. The rows before the one where a page may begin are not walked, and no row
-//! is copied.
+//! ```text
+//! let mut library = Library::load(alloc, &mut keeper, "store.db")?;
+//! let planned = library.plan_add(collection, now_micros, objects)?;
+//! library.commit_add(&mut keeper, planned)?;
+//! let page = page_of(alloc, &library, collection, None, &query)?; // page.rows, page.more
+//! ```
 #![tactic(auto)]
 
 mod add_outcome;

@@ -19,7 +19,7 @@ use taxii_index::HintedRows;
 use taxii_rows::laws::{later_rows, sound_states};
 use taxii_rows::{Keeper, KeeperRefusal, StoredRow, row_after, row_at};
 
-/// The rows of a keeper in memory, with the last date ever given.
+/// The rows of a keeper in memory, with the watermark (the last date ever given).
 #[derive(Drop)]
 pub struct Library {
     pub(crate) alloc: Global,
@@ -36,11 +36,12 @@ impl Model for Library {
 
     ghost view = { λ library. record { rows = library.rows; watermark = library.watermark } };
 
-    ghost invariant = { λ library. IsSoundState (record { rows = library.rows; watermark = library.watermark }) };
+    ghost invariant = { λ library.
+        IsSoundState (record { rows = library.rows; watermark = library.watermark }) };
 }
 
 impl Library {
-    /// The rows, by date. Takes no memory, as the calls below but for `rows_of` and `commit_add`.
+    /// The rows, by date. Allocates nothing, as all calls below but `rows_of` and `commit_add`.
     pub fn rows(&self) -> &[StoredRow]
         ensures rows { result.now ≡ self.now.rows }
         ensures sound { IsSoundState self.now }
@@ -48,40 +49,43 @@ impl Library {
         self.rows.as_slice()
     }
 
-    /// The row of that date.
+    /// The row of this date, if any.
     pub fn row(&self, date: u64) -> Option<&StoredRow>
         ensures { option_map (λ row. row.now) result ≡ first_then date self.now.rows }
     {
         row_at(self.rows.as_slice(), date)
     }
 
-    /// The first row that was added later than the date.
+    /// The first row added later than the date, if any.
     pub fn row_after(&self, date: u64) -> Option<&StoredRow>
         ensures { option_map (λ row. row.now) result ≡ first_later date self.now.rows }
     {
         row_after(self.rows.as_slice(), date)
     }
 
-    /// Whether one of the rows is of the object that has that number and kind, in the collection.
+    /// Whether the collection has a row of the object with this UUID and type.
     pub fn has_object(&self, collection: u128, number: u128, kind: &str) -> bool
         ensures { IsTrue result ↔ HasRowOf self.now.rows collection (id_of number kind.now) }
     {
         self.rows.has_object(collection, number, kind)
     }
 
-    /// The rows of the object in the collection, by date: as many look-ups as it has, and no pass over all rows.
+    /// The rows of the object in the collection, by date. O(k log n) for k rows, without a scan.
     pub fn rows_of(&self, collection: u128, id: &Id) -> Result<Vec<&StoredRow>, NoMemory>
-        ensures { IfOk result (λ found. AreRowsOf collection id.now self.now.rows (map (λ row. row.now) found.items)) }
+        ensures { IfOk result
+            (λ found. AreRowsOf collection id.now self.now.rows
+            (map (λ row. row.now) found.items)) }
     {
         self.rows.rows_of(collection, id)
     }
 
-    /// Where the row of a date stands among the rows, if there is one. It only hints.
+    /// The position of the row of a date, if there is one. It is a hint: no clause states it.
     pub fn position_of(&self, date: u64) -> usize {
         self.rows.position_of(date)
     }
 
-    /// Whether one of the picks selects a row of the library, among the rows of its object.
+    /// Whether one of the version filters selects a row of the library among the rows of its
+    /// object.
     pub fn is_picked(&self, row: &StoredRow, picks: &[Pick]) -> bool
         requires { Contains self.now.rows row.now }
         ensures { IsTrue result ↔ IsPicked picks.now self.now.rows row.now }
@@ -89,8 +93,8 @@ impl Library {
         self.rows.is_picked(row, picks)
     }
 
-    /// Whether a row of the library may be the last version of its object, where it stands at that place
-    /// among the rows: each that is the last may be. Costs no look-up, as the call below.
+    /// Whether a row, at this position of the library, may be the last version of its object. No
+    /// last version is missed. O(1), without a lookup, as the call below.
     pub fn may_be_last(&self, place: usize, row: &StoredRow) -> bool
         requires { Contains self.now.rows row.now }
         ensures { IsPickedBy LastOne self.now.rows row.now → result ≡ true }
@@ -98,7 +102,7 @@ impl Library {
         self.rows.may_be_last(place, row)
     }
 
-    /// Whether a row of the library may be the first version of its object, as above.
+    /// Whether a row may be the first version of its object, likewise.
     pub fn may_be_first(&self, place: usize, row: &StoredRow) -> bool
         requires { Contains self.now.rows row.now }
         ensures { IsPickedBy FirstOne self.now.rows row.now → result ≡ true }
@@ -106,21 +110,26 @@ impl Library {
         self.rows.may_be_first(place, row)
     }
 
-    /// Adds the rows of a plan to the keeper and to the library. Where there is none the keeper isn't
-    /// called. Memory is taken before the keeper is called, and nothing can fail after its `Ok`.
+    /// Commits an addition: adds its rows to the keeper and the library. With no rows the keeper is
+    /// not called. All memory is allocated before the keeper is called, and nothing fails after its
+    /// `Ok`. After an error nothing has changed: `Fault` if the keeper failed (and counted it).
     pub fn commit_add<K: Keeper>(
         &mut self,
         keeper: &mut K,
         planned: Planned,
     ) -> Result<(), KeeperRefusal>
         requires agrees { Agrees (K.kept keeper.old) self.old }
+        // nothing was committed since the plan was made
         requires watermark { planned.watermark ≡ self.old.watermark }
         ensures agrees { Agrees (K.kept keeper.new) self.new }
         ensures keeper { without_rows (K.kept keeper.new) ≡ without_rows (K.kept keeper.old) }
-        ensures ok { OnOk result (self.new ≡ with_rows planned.rows (watermark_after planned.watermark planned.rows) self.old) }
+        ensures ok { OnOk result
+            (self.new ≡ with_rows planned.rows
+            (watermark_after planned.watermark planned.rows) self.old) }
         ensures err { OnErr result (self.new ≡ self.old) }
         ensures nothing { planned.rows ≡ [] → IsOk result × (keeper.new ≡ keeper.old) }
-        ensures causes { Counted (result ≡ Err KeeperRefusal.Fault) (K.faults keeper.old) (K.faults keeper.new) }
+        ensures causes { Counted (result ≡ Err KeeperRefusal.Fault) (K.faults keeper.old)
+            (K.faults keeper.new) }
     {
         if planned.rows.is_empty() {
             return Ok(());

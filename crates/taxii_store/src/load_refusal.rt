@@ -2,17 +2,17 @@ use flow_values::NoMemory;
 use taxii_rows::KeeperRefusal;
 use thiserror::Error;
 
-/// Why the rows of a keeper aren't loaded. The keeper's rows and its watermark are as they were.
+/// Why the rows of a keeper cannot be loaded. The keeper's rows and its watermark are unchanged.
 #[derive(Clone, Copy, Debug, PartialEq, Eq, Error)]
 pub enum LoadRefusal {
-    /// A call of the keeper failed, and it has counted it.
+    /// A call of the keeper failed; the keeper has counted it.
     #[error("the keeper of the rows failed")]
     KeeperFault,
-    /// The row behind this date isn't what its body gives, or its date is past the watermark; or no row is behind
-    /// it, and the watermark is past the last date there is.
+    /// The row after this date does not agree with its body, or its date is after the watermark. Or
+    /// there is no such row, and the watermark is after the last valid date.
     #[error("bad row after {after}")]
     BadRow {
-        /// In microseconds since 1970; 0 where it is the first row.
+        /// In microseconds since 1970; 0 for the first row.
         after: u64,
     },
     /// Memory ran out.

@@ -1,3 +1,6 @@
+//! Cursor pagination: a page starts after the date in `next`, found by binary search, and scans
+//! until it is full.
+
 ghost use Rattle.std.specs.Prelude.{◌≡◌, map, IfOk, option_map, Some};
 ghost use Rattle.taxii_store.specs.Page.{page_size as size_of, IsPage};
 
@@ -16,17 +19,18 @@ use taxii_rows::StoredRow;
 pub struct Page<'a> {
     /// The rows, by date.
     pub rows: Vec<&'a StoredRow>,
-    /// Whether other rows that meet the query come behind them.
+    /// Whether more matching rows follow.
     pub more: bool,
 }
 
-/// The most rows that a page has.
+/// The maximum number of rows of a page.
 const MOST_ROWS: u64 = 100;
 
-/// The first rows, by date, of those in a collection that meet the query, and of that object only where
-/// one is named: at most 100 of them, or as many as the query's limit says where that is less. The first page of one
-/// object takes as many look-ups as it has rows. Another passes over the rows from where it may begin until it is
-/// full, so that all pages of a walk together pass over each row once.
+/// The page of a query: the first matching rows of a collection, by date, and of one object only if
+/// `only` names it. It has at most 100 rows, or the query's `limit` if that is less.
+///
+/// The first page of one object takes O(k log n) for its k rows. Any other page scans from its
+/// cursor until it is full, so all pages of a walk together scan each row once.
 pub fn page_of<'a>(
     alloc: Global,
     library: &'a Library,
@@ -34,7 +38,10 @@ pub fn page_of<'a>(
     only: Option<&'a Id>,
     query: &'a Query,
 ) -> Result<Page<'a>, NoMemory>
-    ensures { IfOk result (λ page. IsPage library.now.rows collection (option_map (λ id. id.now) only.entry) query.now (map (λ row. row.now) page.rows.items) page.more) }
+    ensures { IfOk result
+        (λ page. IsPage library.now.rows collection
+        (option_map (λ id. id.now) only.entry) query.now
+        (map (λ row. row.now) page.rows.items) page.more) }
 {
     match (only, query.next) {
         (Some(id), None) => page_of_object(alloc, library, collection, id, query),
@@ -42,7 +49,7 @@ pub fn page_of<'a>(
     }
 }
 
-/// The page, by a pass over the rows from where it may begin until it is full.
+/// The page, by a scan from the cursor until it is full.
 fn page_of_all<'a>(
     alloc: Global,
     library: &'a Library,
@@ -50,7 +57,10 @@ fn page_of_all<'a>(
     only: Option<&'a Id>,
     query: &'a Query,
 ) -> Result<Page<'a>, NoMemory>
-    ensures { IfOk result (λ page. IsPage library.now.rows collection (option_map (λ id. id.now) only.entry) query.now (map (λ row. row.now) page.rows.items) page.more) }
+    ensures { IfOk result
+        (λ page. IsPage library.now.rows collection
+        (option_map (λ id. id.now) only.entry) query.now
+        (map (λ row. row.now) page.rows.items) page.more) }
 {
     let size = page_size(query);
     let mut asked = RowFilter::of(alloc, collection, only, query)?;
@@ -69,7 +79,7 @@ fn page_of_all<'a>(
     Ok(Page { rows, more: false })
 }
 
-/// The page of one object, whose rows are found by its keys.
+/// The page of one object, whose rows the index finds.
 fn page_of_object<'a>(
     alloc: Global,
     library: &'a Library,
@@ -77,7 +87,9 @@ fn page_of_object<'a>(
     id: &'a Id,
     query: &'a Query,
 ) -> Result<Page<'a>, NoMemory>
-    ensures { IfOk result (λ page. IsPage library.now.rows collection (Some id.now) query.now (map (λ row. row.now) page.rows.items) page.more) }
+    ensures { IfOk result
+        (λ page. IsPage library.now.rows collection (Some id.now) query.now
+        (map (λ row. row.now) page.rows.items) page.more) }
 {
     let mut rows = Vec::new(alloc);
     if !asks_for_version(query) {
@@ -98,7 +110,7 @@ fn page_of_object<'a>(
     Ok(Page { rows, more: false })
 }
 
-/// The most rows that a page of the query has.
+/// The maximum number of rows of the query's page.
 fn page_size(query: &Query) -> usize
     ensures { result ≡ size_of query.now }
 {

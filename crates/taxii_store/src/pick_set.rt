@@ -12,7 +12,7 @@ use std::collections::BTreeSet;
 use stix_ids::Pick;
 use taxii_rows::StoredRow;
 
-/// Which versions of an object are asked for, each once.
+/// A set of version filters (`match[version]`).
 #[derive(Drop)]
 pub struct PickSet {
     all: bool,
@@ -22,7 +22,7 @@ pub struct PickSet {
 }
 
 impl PickSet {
-    /// The picks of a list.
+    /// The set of a list of filters.
     pub fn of(alloc: Global, picks: &[Pick]) -> Result<PickSet, NoMemory>
         ensures { IfOk result (HasPicks picks.now) }
     {
@@ -33,7 +33,7 @@ impl PickSet {
         Ok(set)
     }
 
-    /// No picks.
+    /// The empty set.
     fn empty(alloc: Global) -> PickSet
         ensures { HasPicks [] result }
     {
@@ -45,9 +45,10 @@ impl PickSet {
         }
     }
 
-    /// Adds a pick.
+    /// Adds a filter.
     fn insert(&mut self, pick: Pick) -> Result<(), NoMemory>
-        ensures { (picks : List Picked) → HasPicks picks self.old → OnOk result (HasPicks (picks ++ pick ∷ []) self.new) }
+        ensures { (picks : List Picked) → HasPicks picks self.old
+            → OnOk result (HasPicks (picks ++ pick ∷ []) self.new) }
     {
         match pick {
             Pick::All => self.all = true,
@@ -59,26 +60,29 @@ impl PickSet {
     }
 
     fn insert_version(&mut self, version: i64) -> Result<(), NoMemory>
-        ensures { (picks : List Picked) → HasPicks picks self.old → OnOk result (HasPicks (picks ++ At version ∷ []) self.new) }
+        ensures { (picks : List Picked) → HasPicks picks self.old
+            → OnOk result (HasPicks (picks ++ At version ∷ []) self.new) }
     {
         self.versions.insert(version)?;
         Ok(())
     }
 
-    /// Whether one of the picks selects a row of the library, among the rows of its object. Takes no
-    /// memory, as all below.
+    /// Whether one of the filters selects a row of the library among the rows of its object.
+    /// Allocates nothing; nor do the calls below.
     pub fn selects(&self, library: &Library, row: &StoredRow) -> bool
         requires { Contains library.now.rows row.now }
-        ensures { (picks : List Picked) → HasPicks picks self.now → IsTrue result ↔ IsPicked picks library.now.rows row.now }
+        ensures { (picks : List Picked) → HasPicks picks self.now
+            → IsTrue result ↔ IsPicked picks library.now.rows row.now }
     {
         self.selects_one(library, row)
     }
 
-    /// Whether one of the picks may select the row that stands at a place of the library: each that is
-    /// selected may be. Costs no look-up among the rows.
+    /// Whether one of the filters may select the row at this position of the library. No selected
+    /// row is missed. O(1), without a lookup among the rows.
     pub fn may_select(&self, library: &Library, place: usize, row: &StoredRow) -> bool
         requires { Contains library.now.rows row.now }
-        ensures { (picks : List Picked) → HasPicks picks self.now → IsPicked picks library.now.rows row.now → IsTrue result }
+        ensures { (picks : List Picked) → HasPicks picks self.now
+            → IsPicked picks library.now.rows row.now → IsTrue result }
     {
         self.may_select_one(library, place, row)
     }

@@ -11,20 +11,25 @@ use crate::{Library, PlanRefusal, Planned};
 use taxii_rows::{Described, LAST_DATE};
 
 impl Library {
-    /// Plans an addition of objects to a collection at a moment, in microseconds since 1970. Nothing
-    /// changes. An object is present where a row of the collection tells its version, or has its text
-    /// where it tells none; so is one that comes twice. `DatesUsedUp` where fewer dates are left than
-    /// there are new rows.
+    /// Plans an addition of objects to a collection at a moment, in microseconds since 1970.
+    /// Changes nothing. An object is present if a row of the collection has its version, or its
+    /// text if it is undated. This includes earlier objects of the same addition. `DatesUsedUp` if
+    /// fewer dates are left than there are new rows.
     pub fn plan_add(
         &self,
         collection: u128,
         moment: u64,
         objects: Vec<Described>,
     ) -> Result<Planned, PlanRefusal>
+        // `describe` returns such objects
         requires sound { All IsSound objects.items }
         ensures watermark { IfOk result (λ planned. planned.watermark ≡ self.now.watermark) }
-        ensures ok { IfOk result (λ planned. IsAddition self.now collection moment objects.items planned.outcomes planned.rows) }
-        ensures err { IfErr result (λ refusal. refusal ≡ UsedUp → UsesUpDates self.now collection objects.items) }
+        ensures ok { IfOk result
+            (λ planned. IsAddition self.now collection moment objects.items planned.outcomes
+            planned.rows) }
+        // `UsedUp` only if that is so; out of memory needs no reason
+        ensures err { IfErr result (λ refusal. refusal ≡ UsedUp
+            → UsesUpDates self.now collection objects.items) }
     {
         let draft = Draft::of(self, collection, objects)?;
         Ok(draft.planned_at(self.watermark, moment))

@@ -1,10 +1,10 @@
 use flow_values::NoMemory;
 use thiserror::Error;
 
-/// Why an addition isn't planned. Nothing has changed.
+/// Why an addition cannot be planned. Nothing has changed.
 #[derive(Clone, Copy, Debug, PartialEq, Eq, Error)]
 pub enum PlanRefusal {
-    /// There are fewer dates left than new rows.
+    /// Fewer dates are left than there are new rows.
     #[error("the dates of rows are used up")]
     DatesUsedUp,
     /// Memory ran out.

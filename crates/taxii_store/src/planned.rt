@@ -5,7 +5,7 @@ use crate::AddOutcome;
 use std::marker::Model;
 use taxii_rows::StoredRow;
 
-/// An addition that was planned: what becomes of each object, and the new rows.
+/// A planned addition: the outcome of each object, and the new rows.
 #[derive(Drop)]
 pub struct Planned {
     pub(crate) watermark: u64,
@@ -22,21 +22,23 @@ impl Model for Planned {
 
     ghost Value = { PlannedState };
 
-    ghost view = { λ planned. planned_of planned.watermark planned.outcomes.items planned.rows.items };
+    ghost view = { λ planned.
+        planned_of planned.watermark planned.outcomes.items planned.rows.items };
 
-    ghost invariant = { λ planned. IsSoundPlan (planned_of planned.watermark planned.outcomes.items planned.rows.items)
+    ghost invariant = { λ planned.
+        IsSoundPlan (planned_of planned.watermark planned.outcomes.items planned.rows.items)
         × (planned.last ≡ watermark_after planned.watermark planned.rows.items) };
 }
 
 impl Planned {
-    /// What becomes of each object, in their order. Takes no memory, as the one below.
+    /// The outcome of each object, in their order. Allocates nothing; nor does the call below.
     pub fn outcomes(&self) -> &[AddOutcome]
         ensures { result.now ≡ self.now.outcomes }
     {
         self.outcomes.as_slice()
     }
 
-    /// The new rows, by date, which is past the watermark.
+    /// The new rows, by date; all dates are after the watermark.
     pub fn rows(&self) -> &[StoredRow]
         ensures rows { result.now ≡ self.now.rows }
         ensures sound { IsSoundPlan self.now }

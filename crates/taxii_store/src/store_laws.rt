@@ -1,4 +1,4 @@
-//! What follows from the definitions: the contracts are the laws, and the functions do nothing.
+//! Theorems about the definitions. Each `ensures` states one; the functions have no effect.
 
 ghost use Rattle.std.specs.Prelude.{◌≡◌, ◌++◌, ℕ, List, All};
 ghost use Rattle.std.specs.List.{Contains};
@@ -8,9 +8,11 @@ ghost use Rattle.taxii_rows.specs.StoreState.{StoreState};
 ghost use Rattle.taxii_store.specs.declared.add_outcome.AddOutcome.{AddOutcome};
 ghost use Rattle.taxii_store.specs.Addition.{IsAddition, date_in};
 
-/// The date in an outcome is that of a row: one that the store had, or a new one.
+/// The date in an outcome is that of a row, stored or new.
 pub fn outcomes_have_rows()
-    ensures { (state : StoreState) (collection moment : ℕ) (objects : List Described) (outcomes : List AddOutcome) (new : List StoredRow)
+    ensures { (state : StoreState) (collection moment : ℕ) (objects : List Described)
+        (outcomes : List AddOutcome) (new : List StoredRow)
         → IsAddition state collection moment objects outcomes new
-        → All (λ outcome. (row : StoredRow) × Contains (state.rows ++ new) row × (row.date ≡ date_in outcome)) outcomes }
+        → All (λ outcome. (row : StoredRow) × Contains (state.rows ++ new) row
+        × (row.date ≡ date_in outcome)) outcomes }
 {}

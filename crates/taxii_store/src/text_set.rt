@@ -5,20 +5,20 @@ ghost use Rattle.taxii_store.specs.inner.Asking.{IsSetOf};
 use flow_values::{NoMemory, Text};
 use std::alloc::Global;
 
-/// Some texts by their length, and those of one length in their order. A text of another length is missed by its length
-/// alone, without a look at its bytes, and of its own length a look-up compares few: a B-tree would compare up to a whole
-/// node's at each level, and a stranger's texts may be long and alike to their end.
+/// A set of texts as a vector sorted by length, then by bytes, for lookups by binary search. Most
+/// texts that are not in the set are rejected by their length alone. A B-tree would compare a whole
+/// node's texts per level, and untrusted texts may be long with a long common prefix.
 #[derive(Drop)]
 pub(crate) struct TextSet<'a> {
-    /// Each with its length before it.
+    /// Each text with its length.
     texts: Vec<(usize, &'a str)>,
-    /// The last text that was asked for and isn't one of them, though one of them is as long, if there is one: of many
-    /// rows of a kind the next ones are often of the same.
+    /// The last text that was looked up and is missing, though a text of its length is next to its
+    /// place. Consecutive rows often have the same type.
     missed: Option<&'a str>,
 }
 
 impl<'a> TextSet<'a> {
-    /// The texts of a list.
+    /// The set of the texts of a list.
     pub(crate) fn of(alloc: Global, texts: &'a [Text]) -> Result<TextSet<'a>, NoMemory>
         ensures { IfOk result (IsSetOf texts.now) }
     {
@@ -34,9 +34,10 @@ impl<'a> TextSet<'a> {
         })
     }
 
-    /// Whether the text is one of them. Takes no memory.
+    /// Whether the set contains the text. O(log n); allocates nothing.
     pub(crate) fn has(&mut self, text: &'a str) -> bool
-        ensures has { (texts : List (List ℕ)) → IsSetOf texts self.old → IsTrue result ↔ Contains texts text.now }
+        ensures has { (texts : List (List ℕ)) → IsSetOf texts self.old
+            → IsTrue result ↔ Contains texts text.now }
         ensures same { (texts : List (List ℕ)) → IsSetOf texts self.old → IsSetOf texts self.new }
     {
         if self.has_missed(text) {
@@ -53,9 +54,10 @@ impl<'a> TextSet<'a> {
         }
     }
 
-    /// Whether it is the text that was missed last.
+    /// Whether this is the text that was missing at the last lookup.
     fn has_missed(&self, text: &str) -> bool
-        ensures { (texts : List (List ℕ)) → IsSetOf texts self.now → IsTrue result → ¬ (Contains texts text.now) }
+        ensures { (texts : List (List ℕ)) → IsSetOf texts self.now → IsTrue result
+            → ¬ (Contains texts text.now) }
     {
         match self.missed {
             Some(missed) => missed == text,
@@ -63,13 +65,13 @@ impl<'a> TextSet<'a> {
         }
     }
 
-    /// Whether the one at the place, or right before it, is of that length. Else a text that belongs there was missed by
-    /// its length alone, and isn't remembered: to compare the next one with it would touch that one's bytes.
+    /// Whether the text at the position, or right before it, has this length. Otherwise a missing
+    /// text was rejected by its length alone, and is not worth caching.
     fn is_near(&self, at: usize, length: usize) -> bool {
         self.is_at(at, length) || (at > 0 && self.is_at(at - 1, length))
     }
 
-    /// Whether the one at the place, if there is one, is of that length.
+    /// Whether the text at the position, if any, has this length.
     fn is_at(&self, place: usize, length: usize) -> bool {
         match self.texts.get(place) {
             Some(text) => text.0 == length,

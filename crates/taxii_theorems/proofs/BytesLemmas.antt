@@ -21,7 +21,7 @@ passes test (b ∷ bytes) all = by_test (test b) refl all (passes test bytes)
     by_test true is rest later = All-cons (λ x. IsTrue (test x)) b bytes is (later rest)
     by_test false is rest later = absurd (cc)
 
--- bytes from one on, and none behind `~`
+-- bytes from one on, and none after `~`
 abbrev pub AreFrom : ℕ → List ℕ → Type 0
 AreFrom least [] = ⊤
 AreFrom least (b ∷ bytes) = (least ≤ b) × (b < 127) × AreFrom least bytes

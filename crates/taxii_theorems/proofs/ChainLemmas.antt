@@ -81,7 +81,7 @@ after_exchange laws config e goes ordered = record {
 abbrev round_of : Config → Exchange → Round
 round_of config e = record { config = config; exchange = e }
 
--- the exchanges of a run, and then the rounds of the runs behind it
+-- the exchanges of a run, and then the rounds of the runs after it
 run_chain : Histories → (config : Config) (before after : State) (exchanges : List Exchange) (rest : List Round)
     → All (IsExchange config) exchanges → Follow before exchanges after → IsOrdered before.library → (IsOrdered after.library → Chain after.library rest)
     → Chain before.library (map (round_of config) exchanges ++ rest)

@@ -46,7 +46,7 @@ black_stays : (bytes : List ℕ) → AllPass is_black bytes → skip_ows bytes �
 black_stays [] are = refl
 black_stays (b ∷ bytes) are = rw (not_true (is_ows b) (All-head (λ x. IsTrue (is_black x)) b bytes are)) refl
 
--- a number behind a space, without the spaces around it
+-- a number after a space, without the spaces around it
 pub trimmed_digits : (bytes : List ℕ) → AllDigits 10 bytes → trim_ows (32 ∷ bytes) ≡ bytes
 trimmed_digits bytes are =
     let black = digits_black bytes are in

@@ -21,7 +21,7 @@ use Rattle.taxii_theorems.proofs.ChainLemmas.{IsOrdered}
 apart : (more none : List ℕ) → codes "{\"more\":false" ++ none ≡ codes "{\"more\":true,\"next\":\"" ++ more → ⊥
 apart more none same = let letter : 102 ≡ 116 = ap (λ (text : List ℕ). get_or text 8 0) same in omega (arith, letter)
 
--- sixteen letters behind the same beginning are the same
+-- sixteen letters after the same beginning are the same
 same_letters : (first second rest other : List ℕ) → length first ≡ 16 → length second ≡ 16 → first ++ rest ≡ second ++ other → first ≡ second
 same_letters first second rest other long also same =
     sym (take_at first rest 16 long) ∙ ap (take 16) same ∙ take_at second other 16 also
@@ -56,7 +56,7 @@ last_same : (rows : List StoredRow) → last_or None (dates_of rows) ≡ last_da
 last_same [] = refl
 last_same (row ∷ rows) = last_from row rows
 
--- where the next page begins, there is more, and it is behind the last row
+-- where the next page begins, there is more, and it is after the last row
 pub next_is_last : (rows : List StoredRow) (more : Bool) (date : ℕ) → next_of rows more ≡ Some date → (more ≡ true) × (last_date rows ≡ Some date)
 next_is_last rows true date same = (refl, sym (last_same rows) ∙ same)
 next_is_last rows false date same = absurd (cc same)

@@ -162,7 +162,7 @@ module _ (L : Type 0) (view : L → LinkView) (target : Target) (instant : Optio
     ap (λ (a : Answer). a.body) its.answer_is ∙ ap (λ (next : Option ℕ). Some (head_text next ++ tail_of its.rows)) is,
   )
 
-  -- nothing was asked for behind the last page, and so none was told
+  -- nothing was asked for after the last page, and so none was told
   ends : (page : Page L) (round : Round) (its : Answered page round) → cursor_after page.envelope ≡ Over → EndsPaging round.exchange.answer
   ends page round its over = by_next (next_of its.rows its.more) refl
     where
@@ -170,7 +170,7 @@ module _ (L : Type 0) (view : L → LinkView) (target : Target) (instant : Optio
       by_next None is = told_last page round its is
       by_next (Some date) is = let clash : Resume (next_text date) ≡ Over = sym (cursor_is its.rows its.more page.envelope (Some date) its.read is) ∙ over in absurd (cc)
 
-  -- what was asked for behind a page is what it told
+  -- what was asked for after a page is what it told
   continues : (page : Page L) (round : Round) (its : Answered page round) (asked : Option (List ℕ)) → Asks (cursor_after page.envelope) asked
       → (told : List ℕ) × GivesNext round.exchange.answer told × (asked ≡ Some told) × IsVisibleToken (Some told)
   continues page round its asked asks = by_next (next_of its.rows its.more) refl

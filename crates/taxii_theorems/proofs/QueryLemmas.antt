@@ -62,7 +62,7 @@ digits_kept (b ∷ bytes) (digit, are) =
     (unchanged_digit b range.0 range.1)
     ∙ ap (λ (rest : List ℕ). b ∷ rest) (digits_kept bytes are)
 
--- behind what is there already stands an `&`
+-- after what is there already stands an `&`
 joined : (form : List ℕ) → 0 < length form → separator form ≡ 38 ∷ []
 joined form some = cond-true _ _ _ (lt-ltb 0 _ some)
 
@@ -103,7 +103,7 @@ both_are limit few =
     ap (λ (form : List ℕ). append_pair form (codes "match[version]") (codes "all")) (first_is limit few)
     ∙ one_more (front_for limit) (codes "match[version]") (codes "all") (codes "match%5Bversion%5D=all") (some_front limit) version_pair
 
--- behind those two stands one more pair
+-- after those two stands one more pair
 one_behind : (limit : ℕ) (name value pair : List ℕ) → limit < 2 ^ 64 → serialize_pair (name, value) ≡ pair
     → (front_for limit ++ codes "&match%5Bversion%5D=all") ++ (38 ∷ pair)
     ≡ append_pair (append_pair (extend_pairs [] ((codes "limit", decimal limit) ∷ [])) (codes "match[version]") (codes "all")) name value

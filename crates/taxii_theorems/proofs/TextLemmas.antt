@@ -61,7 +61,7 @@ mutual
 text_tokens : (d : Data) → HasNumbers (outline d) → tokens (compact_text d) ≡ json_tokens (outline d)
 text_tokens d numbers = ap tokens (sym (print-outline d)) ∙ tokens-print (json_tokens (outline d)) (ArePrintable-json_tokens (outline d) numbers)
 
--- tokens that are a tree's are no other tree's, with others behind
+-- tokens that are a tree's are no other tree's, with others after
 one_tree : (j k : json.Json) (rest : List Token) → json_tokens j ≡ json_tokens k ++ rest → j ≡ k
 one_tree j k rest same =
     let most = depth j + depth k in

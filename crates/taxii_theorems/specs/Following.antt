@@ -1,5 +1,6 @@
--- A client that follows `next` (TAXII 2.1, section 3.4): it asks for a page of objects and, as long as the answer says that there is
--- more, for the next one, with the `next` that the answer gave. Whatever others ask stands between, and so may the server's restarts.
+-- A client that follows `next` (TAXII 2.1, section 3.4). It requests a page of objects and, as long
+-- as the response says that more follow, the next one, with the `next` of the response. Other
+-- requests and restarts of the server may occur in between.
 use Rattle.std.specs.Prelude.{◌≡◌, ◌⊎◌, ⊤, ℕ, List, [], ◌∷◌, ◌++◌, All, map, codes, length, Option, Some, None, unwrap_or}
 use Rattle.std.specs.List.{Contains}
 use Rattle.http_messages.specs.declared.status.Status.TheVariants.{Okay}
@@ -14,20 +15,20 @@ use Rattle.taxii_store.specs.Walk.{Stop, Wanted, AsksAlike, IsWalk, IsWanted, ro
 use Rattle.taxii_service.specs.Visits.{Asks, answer_at}
 use Rattle.taxii_theorems.specs.Runs.{Round}
 
--- the body says that there is more, and this is its `next`, of sixteen letters
+-- the body says that more follow, with this cursor of 16 characters
 abbrev pub GivesNext : Answer → List ℕ → Type 0
 GivesNext answer next = (length next ≡ 16) × (rest : List ℕ) × (answer.body ≡ Some (codes "{\"more\":true,\"next\":\"" ++ (next ++ rest)))
 
--- the body says that there is no more
+-- the body says that no more follow
 abbrev pub EndsPaging : Answer → Type 0
 EndsPaging answer = (rest : List ℕ) × (answer.body ≡ Some (codes "{\"more\":false" ++ rest))
 
--- the values of `next` that a client sends: what it was told, and none at first
+-- the values of `next` that a client sends: the one it received, and none at first
 abbrev pub sent : Option (List ℕ) → List (List ℕ)
 sent None = []
 sent (Some next) = next ∷ []
 
--- a round in which the client asked for what it wants, with that `next`, and was answered with 200
+-- a round in which the client requested what it wants, with this `next`, and got a 200
 pub record IsFetch (wanted : Wanted) (next : Option (List ℕ)) (round : Round) : Type 0 where
   pub okay : round.exchange.answer.status ≡ Okay
   pub query : Query
@@ -35,7 +36,8 @@ pub record IsFetch (wanted : Wanted) (next : Option (List ℕ)) (round : Round) 
   pub alike : AsksAlike wanted.query query
   pub next_sent : values_of (name_of Next) (pairs_of (unwrap_or asks.text [])) ≡ sent next
 
--- the rounds are fetches, the first with that `next`, each other one with what the answer before it told; the last is told of no more
+-- the rounds are fetches, the first with this `next`, each other one with the `next` of the
+-- response before; the last response says that no more follow
 abbrev pub FetchFrom : Wanted → Option (List ℕ) → Round → List Round → Type 0
 FetchFrom wanted next round [] = IsFetch wanted next round × EndsPaging round.exchange.answer
 FetchFrom wanted next round (other ∷ rounds) =
@@ -53,8 +55,9 @@ pub record HasFollowed (wanted : Wanted) (rounds : List Round) (first : Round) (
   pub start : wanted.query.next ≡ None
   pub fetches : FetchFrom wanted None first others
 
--- what it understood: its answers have the pages of a walk, each of the store as it was there. These give each row once, in the order of
--- dates, give only what was wanted, and give every row that was wanted and was still stored at the last page
+-- what the client received: the pages of a walk, each of the store at that time. They give each row
+-- once, in the order of dates. They give only requested rows, and every requested row that is still
+-- stored at the last page
 pub record ReceivesEachRow (wanted : Wanted) (fetches : List Round) : Type 0 where
   pub first : Stop
   pub others : List Stop

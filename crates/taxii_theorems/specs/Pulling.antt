@@ -1,5 +1,6 @@
--- A client that pulls a collection from a server, page by page over links of their own: each page is a round that the server
--- answered (TAXII 2.1, sections 3.4 and 5.4). Whatever others ask stands between, and so may the server's restarts.
+-- A client that pulls a collection from a server, with a new connection per page: each page is a
+-- round that the server answered (TAXII 2.1, sections 3.4 and 5.4). Other requests and restarts of
+-- the server may occur in between.
 use Rattle.std.specs.Prelude.{◌≡◌, ⊤, ℕ, ◌<◌, ◌^◌, Bool, List, [], ◌∷◌, ◌++◌, All, map, length, Option, Some, None}
 use Rattle.std.specs.List.{Contains}
 use Rattle.taxii_exchange.specs.Answers.{IsAnswerText}
@@ -18,7 +19,8 @@ use Rattle.taxii_client.specs.declared.cursor.Cursor.TheVariants.{First}
 use Rattle.taxii_theorems.specs.Asking.{IsServersOwn, IsAnswered}
 use Rattle.taxii_theorems.specs.Reading.{lines_of}
 
--- the round answers what the client writes with this `next`, and the link began with that answer, of a size that memory can have
+-- the round answers what the client writes with this `next`, and the link began with that answer,
+-- of a size that memory can have
 pub record IsServed {L : Type 0} (view : L → LinkView) (target : Target) (next : Option (List ℕ)) (page : Page L) (round : Round) : Type 0 where
   pub answered : IsAnswered target next round
   pub close : Bool
@@ -28,7 +30,7 @@ pub record IsServed {L : Type 0} (view : L → LinkView) (target : Target) (next
   pub later : List ℕ
   pub bytes : (view page.link.given).left ≡ Some (text ++ later)
 
--- page by page, each asked for with the `next` that the page before it told the client
+-- page by page, each requested with the `next` of the page before
 abbrev pub ServeFrom : {L : Type 0} → (L → LinkView) → Target → Cursor → List (Page L) → List Round → Type 0
 ServeFrom view target cursor [] [] = ⊤
 ServeFrom view target cursor [] (round ∷ rounds) = ⊥
@@ -36,16 +38,17 @@ ServeFrom view target cursor (page ∷ pages) [] = ⊥
 ServeFrom view target cursor (page ∷ pages) (round ∷ rounds) = (next : Option (List ℕ)) × Asks cursor next × IsServed view target next page round
     × ServeFrom view target (cursor_after page.envelope) pages rounds
 
--- the pages are these rounds of a server, each of which found a sound store, as every library is; the first asked for the first page
+-- the pages are these rounds of a server, each of which found a sound store, as every library is;
+-- the first asked for the first page
 pub record AreServed {L : Type 0} (view : L → LinkView) (target : Target) (pages : List (Page L)) (all : List Round) (rounds : List Round) : Type 0 where
   pub own : IsServersOwn target
   pub among : Among rounds all
   pub serve : ServeFrom view target First pages rounds
   pub sound : All (λ round. IsSoundState round.exchange.before.library) rounds
 
--- what the client writes of the pages: a line for each row of a walk over the store as it was at each page, and no entry is bad. The
--- walk gives each row once, in the order of dates, gives only what was wanted, and gives every row that was wanted and was still
--- stored at the last page
+-- what the client writes: a line for each row of a walk over the store as it was at each page, and
+-- no entry is invalid. The walk gives each row once, in the order of dates. It gives only requested
+-- rows, and every requested row that is still stored at the last page
 pub record WritesEachRow {L : Type 0} (wanted : Wanted) (pages : List (Page L)) (rounds : List Round) : Type 0 where
   pub first : Stop
   pub others : List Stop

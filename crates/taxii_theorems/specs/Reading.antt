@@ -9,8 +9,8 @@ use Rattle.taxii_client.specs.Telling.{told_of, bad_in}
 abbrev pub lines_of : List StoredRow → List ℕ
 lines_of rows = flat_map (λ row. row.body ++ codes "\n") rows
 
--- the page is read as what it was made of: its entries are good, and what is told of them are the rows' stored texts; there is more
--- where a next page was told, and that is what asks for it
+-- the page is parsed as what it was made of: its entries are valid, and their texts are the rows'
+-- stored texts; `more` is set if a next page was announced, and `next` is its cursor
 pub record IsReadAs (rows : List StoredRow) (more : Bool) (envelope : Envelope) : Type 0 where
   pub lines : told_of envelope.entries ≡ lines_of rows
   pub none_bad : bad_in envelope.entries ≡ 0

@@ -1,4 +1,5 @@
--- Runs of a server over one store: a server ends, and another is started on what it left, maybe with another configuration.
+-- Runs of a server over one store: a server ends, and another starts from what it left, perhaps
+-- with another configuration.
 use Rattle.std.specs.Prelude.{◌≡◌, List, [], ◌∷◌, ◌++◌, map}
 use Rattle.taxii_rows.specs.StoreState.{StoreState}
 use Rattle.taxii_exchange.specs.declared.config.Config.{Config}
@@ -27,7 +28,7 @@ pub record Round : Type 0 where
   pub config : Config
   pub exchange : Exchange
 
--- the exchanges of all runs, in turn
+-- the exchanges of all runs, in order
 abbrev pub rounds_of : List Run → List Round
 rounds_of [] = []
 rounds_of (run ∷ runs) = map (λ e. record { config = run.config; exchange = e }) run.exchanges ++ rounds_of runs

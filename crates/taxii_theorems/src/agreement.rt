@@ -1,4 +1,4 @@
-//! What follows from the definitions: the contracts are the laws, and the functions do next to nothing.
+//! Theorems about the definitions. Each `ensures` states one; the functions have no effect.
 
 ghost use Rattle.std.specs.Prelude.{◌≡◌, ◌≤◌, ◌<◌, ◌^◌, ◌++◌, ℕ, ℤ, Bool, List, Option, Some, None, All, length};
 ghost use Rattle.http_messages.specs.declared.status.Status.TheVariants.{Okay};
@@ -32,13 +32,17 @@ use taxii_routes::laws::{one_route, one_target};
 use taxii_service::history_laws::{answered_requests_were_done, gets_are_paged};
 use taxii_store::page_laws::rows_of_pages;
 
-/// Where bytes begin with a server's answer of 200 and with a reply to a client, the reply's body is the answer's.
+/// If a byte string begins with a server's 200 response and with a response that a client accepts,
+/// both have the same body.
 pub fn answers_are_replies()
-    ensures { (answer : Answer) (close : Bool) (text later reply body own rest : List ℕ) → answer.status ≡ Okay → answer.body ≡ Some own
-        → IsAnswerText answer close text → length text < 2 ^ 64 → IsReply reply body → text ++ later ≡ reply ++ rest → body ≡ own }
+    ensures { (answer : Answer) (close : Bool) (text later reply body own rest : List ℕ)
+        → answer.status ≡ Okay → answer.body ≡ Some own
+        → IsAnswerText answer close text → length text < 2 ^ 64 → IsReply reply body
+        → text ++ later ≡ reply ++ rest → body ≡ own }
 {}
 
-/// A page of sound rows is read as their objects, each good, and as what tells of the next page.
+/// A client reads a page of sound rows as their objects, all valid, and as the cursor of the next
+/// page.
 pub fn pages_are_read_back()
     ensures { (rows : List StoredRow) (more : Bool) (envelope : Envelope) → All IsSoundRow rows
         → IsEnvelopeOf (envelope_text rows more) envelope → IsReadAs rows more envelope }
@@ -46,10 +50,11 @@ pub fn pages_are_read_back()
     envelopes_are_json();
 }
 
-/// A round that answers with 200 the request which a server reads in what a client writes is a fetch of the objects of the
-/// collection, in all versions, with the `next` that the client sends: of what was added after the target's time, where it has one.
+/// If a server answers a client's request with 200, it parsed the request as intended. That is a
+/// fetch of all versions in the collection, with the client's `next` and its `added_after`.
 pub fn requests_are_understood()
-    ensures { (target : Target) (next : Option (List ℕ)) (round : Round) → IsServersOwn target → IsVisibleToken next → IsAnswered target next round
+    ensures { (target : Target) (next : Option (List ℕ)) (round : Round) → IsServersOwn target
+        → IsVisibleToken next → IsAnswered target next round
         → IsExchange round.config round.exchange → IsUnderstood target next round }
 {
     one_target();
@@ -58,12 +63,16 @@ pub fn requests_are_understood()
     answered_requests_were_done();
 }
 
-/// A client that pulls a collection to the end, over links on which a server answers, misses nothing: it writes the stored text of
-/// each row that it wants (all, or those that were added after its time) and that is still stored at the last page, once each, in
-/// the order of dates, whatever others add and delete between two pages, and over restarts.
+/// A client that pulls a collection to the end misses nothing. It writes the stored text of each
+/// row that it requested (all, or those added after its time) and that is still stored at the last
+/// page. It writes each once, in the order of dates, whatever others add and delete between two
+/// pages, and over restarts.
 pub fn pulls_skip_no_row<D: Dial>()
-    ensures { (view : D.Link → LinkView) (target : Target) (instant : Option ℤ) (pages : List (Page D.Link)) (store after : StoreState) (runs : List Run) (rounds : List Round)
-        → IsDated store → store.watermark ≤ LAST_DATE → Continue store runs after → IsPull view target pages Over
+    ensures { (view : D.Link
+        → LinkView) (target : Target) (instant : Option ℤ) (pages : List (Page D.Link))
+        (store after : StoreState) (runs : List Run) (rounds : List Round)
+        → IsDated store → store.watermark ≤ LAST_DATE → Continue store runs after
+        → IsPull view target pages Over
         → AreServed view target pages (rounds_of runs) rounds → IsInstantOf target.since instant
         → WritesEachRow (wanted_after target instant) pages rounds }
 {

@@ -1,11 +1,13 @@
-//! That a request of a TAXII 2.1 server has one answer: what it is, and what the server has after it, is
-//! decided by the configuration, by what the server had, by the moment and by the request.
+//! End-to-end theorems about the TAXII 2.1 server and client (TAXII 2.1, sections 3.4 and 5.4).
+//! None of these functions does anything: each `ensures` is a theorem over the definitions of both
+//! sides.
 //!
-//! Runs of a TAXII 2.1 server over one store, each with a configuration of its own, and the law that a
-//! client that sends as `next` what the answer before gave hears of every row, over restarts too.
-//!
-//! That a client and a server agree: what the one writes the other reads, so that a client that pulls a collection writes
-//! every row of a walk over it (TAXII 2.1, sections 3.4 and 5.4). The laws stand over the definitions of both.
+//! - `unique_answer`: a request has one response and one next state, determined by the
+//! configuration, the state, the time and the request.
+//! - `runs`: a client that follows `next` receives every row it requested, over several runs of the
+//! server and with changing configurations.
+//! - `agreement`: each side parses what the other writes, so a complete pull writes every row of a
+//! walk.
 #![tactic(auto)]
 
 pub mod agreement;

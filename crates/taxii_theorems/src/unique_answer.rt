@@ -1,4 +1,4 @@
-//! What follows from the definitions: the contracts are the laws, and the functions do next to nothing.
+//! Theorems about the definitions. Each `ensures` states one; the functions have no effect.
 
 ghost use Rattle.std.specs.Prelude.{◌≡◌, ◌≢◌, ℕ};
 ghost use Rattle.http_messages.specs.declared.method.Method.TheVariants as method;
@@ -17,14 +17,18 @@ use taxii_rows::laws::one_version;
 use taxii_service::history_laws::requests_make_history;
 use taxii_store::walk_laws::one_page;
 
-/// From one state, at one moment, a request has one step: one answer (`answer`), and one state after it
-/// (`state`). Want of memory and the keeper's fault, which change nothing, are no steps.
+/// From one state, at one moment, a request has one successful step: one response (`answer`) and
+/// one next state (`state`). Out of memory and keeper faults change nothing, and are not steps.
 pub fn one_step()
-    ensures answer { (config : Config) (before first second : State) (moment : ℕ) (request : Request) (answer other : Answer)
-        → IsDated before.library → Step config before moment request answer first → Step config before moment request other second
+    ensures answer { (config : Config) (before first second : State) (moment : ℕ)
+        (request : Request) (answer other : Answer)
+        → IsDated before.library → Step config before moment request answer first
+        → Step config before moment request other second
         → answer ≡ other }
-    ensures state { (config : Config) (before first second : State) (moment : ℕ) (request : Request) (answer other : Answer)
-        → IsDated before.library → Step config before moment request answer first → Step config before moment request other second
+    ensures state { (config : Config) (before first second : State) (moment : ℕ)
+        (request : Request) (answer other : Answer)
+        → IsDated before.library → Step config before moment request answer first
+        → Step config before moment request other second
         → first ≡ second }
 {
     one_target();
@@ -42,14 +46,18 @@ pub fn one_step()
     requests_make_history();
 }
 
-/// A request that is neither a POST nor a DELETE has the same answer whenever it is made (`answer`), and
-/// leaves what the server has as it was (`state`).
+/// A request other than POST and DELETE has the same response whenever it is made (`answer`), and
+/// leaves the state unchanged (`state`).
 pub fn readings_change_nothing()
-    ensures answer { (config : Config) (before first second : State) (moment later : ℕ) (request : Request) (answer other : Answer)
-        → request.method ≢ method.Post → request.method ≢ method.Delete → Step config before moment request answer first
+    ensures answer { (config : Config) (before first second : State) (moment later : ℕ)
+        (request : Request) (answer other : Answer)
+        → request.method ≢ method.Post → request.method ≢ method.Delete
+        → Step config before moment request answer first
         → Step config before later request other second → answer ≡ other }
-    ensures state { (config : Config) (before after : State) (moment : ℕ) (request : Request) (answer : Answer)
-        → request.method ≢ method.Post → request.method ≢ method.Delete → Step config before moment request answer after
+    ensures state { (config : Config) (before after : State) (moment : ℕ) (request : Request)
+        (answer : Answer)
+        → request.method ≢ method.Post → request.method ≢ method.Delete
+        → Step config before moment request answer after
         → after ≡ before }
 {
     one_target();

@@ -1,4 +1,4 @@
-//! The calls that no command reaches, on one pattern and log.
+//! Calls of the binding engine that no command reaches, on one pattern and log.
 
 ghost use Rattle.std.specs.Prelude.{◌≡◌, IfOk};
 ghost use Rattle.pattern_types.specs.Leaves.{leaves};
@@ -21,7 +21,7 @@ fn both(alloc: Global) -> Result<Pattern, NoMemory>
     Ok(Pattern::Both(Box::new(alloc, left)?, Box::new(alloc, right)?))
 }
 
-/// That both brackets hold.
+/// The truth values of both brackets.
 fn both_hold(alloc: Global) -> Result<Items<bool>, NoMemory> {
     let mut truths = Items::new(alloc);
     truths.push(true)?;
@@ -45,7 +45,7 @@ fn listed(alloc: Global, log: &Log) -> Result<Items<Bind>, NoMemory> {
     binds
 }
 
-/// How many windows the stores of the pattern have.
+/// The number of windows that the pattern's stores have.
 fn window_count(alloc: Global) -> Result<usize, NoMemory> {
     let pattern = both(alloc)?;
     let windows = windows(alloc, &pattern);

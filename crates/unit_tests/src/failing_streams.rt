@@ -1,4 +1,4 @@
-//! A log matched while each read of it, and each write of its bindings, fails in turn.
+//! A log matched while each read of it, and each write of its bindings, fails in order.
 
 ghost use Rattle.std.specs.Prelude.{ℕ, List};
 ghost use Rattle.pattern_reader.specs.Read.{IsReadAs};
@@ -15,7 +15,7 @@ use std::test::Fail;
 const LOGIN: &str =
     "{\"type\":\"bundle\",\"id\":\"bundle--00000000-0000-4000-8000-000000000001\",\"objects\":[{\"type\":\"observed-data\",\"spec_version\":\"2.1\",\"id\":\"observed-data--00000000-0000-4000-8000-000000000001\",\"created\":\"2021-06-10T00:00:00.000Z\",\"modified\":\"2021-06-10T00:00:00.000Z\",\"first_observed\":\"2021-06-10T00:00:00Z\",\"last_observed\":\"2021-06-10T00:00:00Z\",\"number_observed\":1,\"object_refs\":[\"user-account--00000000-0000-4000-8000-000000000001\"]},{\"type\":\"user-account\",\"id\":\"user-account--00000000-0000-4000-8000-000000000001\",\"account_login\":\"a\"}]}\n";
 
-/// How a match ended, what it wrote, and how many rows it keeps.
+/// How a match ended, what it wrote, and how many rows it retains.
 #[derive(Drop)]
 struct Outcome {
     end: MatchEnd,
@@ -23,8 +23,8 @@ struct Outcome {
     kept: usize,
 }
 
-/// The line twice, matched with a pattern that holds for it, read by pieces of 100 bytes, while the read and the write of
-/// these numbers fail.
+/// Matches the line twice with a pattern that holds for it. Reads return at most 100 bytes, and the
+/// read and the write with these numbers fail.
 fn match_with_faults(alloc: Global, read: u64, write: u64) -> Result<Outcome, Fail> {
     let pattern = read_pattern(alloc, "[user-account:account_login = 'a']")?;
     let outcome = match_pattern(alloc, &pattern, read, write);
@@ -32,7 +32,7 @@ fn match_with_faults(alloc: Global, read: u64, write: u64) -> Result<Outcome, Fa
     outcome
 }
 
-/// The same, of a pattern.
+/// Matches a parsed pattern.
 fn match_pattern(alloc: Global, pattern: &Pattern, read: u64, write: u64) -> Result<Outcome, Fail>
     requires { (text : List ℕ) × IsReadAs text pattern.now }
 {

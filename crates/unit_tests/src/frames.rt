@@ -1,4 +1,4 @@
-//! Requests out of bytes, however they are cut.
+//! Requests are independent of how their bytes are split.
 
 use http_messages::{Frame, Method, Request, Session};
 use std::alloc::Global;
@@ -11,7 +11,7 @@ fn session(rt: &impl Abort, alloc: Global, max_body: u64) -> Session {
 const TWO_REQUESTS: &[u8] =
     b"\r\nPOST /x?y HTTP/1.1\r\nHost: a\r\nAccept: b\r\nContent-Type: d\r\naccept: c\r\nConnection: x , CLOSE\r\nContent-Length: 3\r\n\r\nabcDELETE / HTTP/1.0\r\n\r\n";
 
-/// Feeds the piece, and counts the requests that come.
+/// Feeds some bytes, and counts the requests that are complete.
 fn count(rt: &impl Abort, session: &mut Session, piece: &[u8]) -> u64 {
     session.feed(piece).expect(rt, "room");
     let mut requests = 0u64;

@@ -1,5 +1,5 @@
-//! The unit tests of the crates: public calls that no command of the program reaches, each once; streams that fail in
-//! turn, under a whole match. They stand in a crate of their own, since a crate with tests is proved twice.
+//! Unit tests of all crates: public calls that no command reaches, and whole matches whose streams
+//! fail at each call. They have a separate crate, since a crate with tests is proved twice.
 #![tactic(auto)]
 
 #[cfg(test)]

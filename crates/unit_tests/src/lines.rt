@@ -10,7 +10,7 @@ use std::test::Fail;
 
 #[test]
 fn repeats_a_fault_without_reading(rt: HostRuntime) -> Result<(), Fail> {
-    // By pieces of two bytes: "ab", "\nc", "d\n", and the end.
+    // Reads of two bytes: "ab", "\nc", "d\n", and the end.
     for (failing, given, left) in [(1, 0, 6), (2, 0, 4), (3, 1, 2), (4, 2, 0)] {
         let bytes = listed(rt.alloc(), b"ab\ncd\n")?;
         let mut source = MemorySource::new(bytes, 2, listed(rt.alloc(), &[failing])?);

@@ -1,4 +1,4 @@
-//! Streams of the system whose time passes, by a clock that is set by hand.
+//! Streams with deadlines, by a clock that is set by hand.
 
 use flow_edges::{Sink, Source};
 use flow_links::{Deadline, DeadlineStream, TcpLink, TimedStream};
@@ -26,7 +26,7 @@ impl Clock for HandClock {
     }
 }
 
-/// A stream that gives and takes each byte that is asked for, and shows how long it may wait for them.
+/// A stream that fills each read and accepts each write, and records the timeout set.
 #[derive(Drop)]
 struct Steady<'w> {
     wait: &'w Cell<Option<Duration>>,
@@ -96,7 +96,7 @@ fn a_caller_keeps_its_pace(rt: HostRuntime) -> Result<(), Fail> {
     clock.seconds.set(129);
     assert_eq!(rt; link.read(&mut buffer), Ok(10_000));
     assert_eq!(rt; wait.get(), Some(Duration::from_secs(1)));
-    // More bytes than a head has came, so it has 60.
+    // More bytes than a head may have arrived, so the request has 60.
     clock.seconds.set(150);
     assert_eq!(rt; link.read(&mut buffer), Ok(10_000));
     assert_eq!(rt; wait.get(), Some(Duration::from_secs(10)));
@@ -108,7 +108,7 @@ fn a_caller_keeps_its_pace(rt: HostRuntime) -> Result<(), Fail> {
     assert_eq!(rt; wait.get(), Some(Duration::from_secs(1)));
     clock.seconds.set(210);
     assert_eq!(rt; link.write(b"a"), Err(Fault));
-    // The next request is waited for anew, and then has no more than 30 either.
+    // The next request has a new deadline, again 30 seconds.
     assert_eq!(rt; link.read(&mut buffer), Ok(10_000));
     assert_eq!(rt; wait.get(), Some(Duration::from_secs(5)));
     clock.seconds.set(240);

@@ -1,4 +1,4 @@
--- For private clauses: what who reports the alerts says of some observations.
+-- For private clauses: the effect of some observations on the alert generator.
 use Rattle.std.specs.Prelude.{◌≡◌, ℕ, ◌+◌, Bool, List, [], ◌∷◌, ◌++◌, length, Option}
 use Rattle.serde_json.specs.Data.{Data}
 use Rattle.flow_edges.specs.Flow.{WritesPrefix}
@@ -16,17 +16,17 @@ use Rattle.match_run.specs.Buffered.{IsBuffered}
 use Rattle.command_alerts.specs.Alerts.{ReportsRows}
 use Rattle.command_alerts.specs.Tasks.{IsOneLeaf}
 
--- who reports the alerts, without where it lies in memory
+-- the alert generator, as a value without references
 pub record AlerterState : Type 0 where
   pub pattern : Pattern
   pub watch : WatchState
 
--- a watch stands for a log, whose rows are in order
+-- a watch represents a log, whose rows are in order
 pub record IsBehind (watch : WatchState) (log : List LogEntry) : Type 0 where
   pub represents : Represents watch log
   pub order : IsInOrder log
 
--- the pattern is one pair of brackets, and the watch stands for some log
+-- the pattern is one observation expression, and the watch represents some log
 pub record IsReady (alerter : AlerterState) : Type 0 where
   pub sound : IsSoundPattern (plain_pattern alerter.pattern)
   pub one : IsOneLeaf alerter.pattern
@@ -36,12 +36,12 @@ pub record IsReady (alerter : AlerterState) : Type 0 where
 abbrev pub row_of : Observation → Bool → LogEntry
 row_of o holds = record { first = o.first; last = o.last; truths = holds ∷ [] }
 
--- behind a log some rows came, of which this text is reported
+-- these rows followed a log, and this text was reported for them
 pub record ReportsBehind (n x : ℕ) (log rows : List LogEntry) (watch : WatchState) (text : List ℕ) : Type 0 where
   pub behind : IsBehind watch (log ++ rows)
   pub reports : ReportsRows (IsAlert n x (log ++ rows)) (length log + 1) rows text
 
--- behind whatever log
+-- after any log
 pub record TakesRows (rows : List LogEntry) (before after : AlerterState) (text : List ℕ) : Type 0 where
   pub pattern_is : after.pattern ≡ before.pattern
   pub n_is : after.watch.n ≡ before.watch.n
@@ -70,7 +70,7 @@ pub record SeesFirst (objects : List Data) (observations : List Observation) (be
 abbrev pub BeginsBundle : AlerterState → BundleOf → List ℕ → Type 0
 BeginsBundle before bundle text = SeesFirst bundle.objects bundle.observations before text
 
--- of what is reported of them so much is written, and the rest is pending
+-- of the text reported for them a part is written, and the rest is pending
 pub record SeesSoFar (objects : List Data) (observations : List Observation) (before after : AlerterState) (pending : List ℕ)
     (written written_now : Option (List ℕ)) : Type 0 where
   pub text : List ℕ

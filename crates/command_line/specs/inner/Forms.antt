@@ -1,4 +1,4 @@
--- What each command takes, and the program with its commands as `clap` has it.
+-- The grammar of each command, and the program as a `clap` command.
 use Rattle.std.specs.Prelude.{◌≡◌, ℕ, List, [], ◌∷◌, ◌++◌, map, Bool, true, false, Some, codes}
 use Rattle.clap.specs.Words.{App, Rule, app_of, new_app, new_rule, rule_of, with_subcommand}
 use Rattle.clap.specs.declared.builder.arg.Arg.{Arg}
@@ -10,33 +10,33 @@ use Rattle.command_line.specs.Parts.{Options}
 use Rattle.command_line.specs.CommandLines.{match_options, no_options, serve_options}
 use Rattle.command_line.specs.declared.serve.TheConstants.{COLLECTION_NAMES}
 
--- a command: its name, its options, its positions, and whether none of those may be missing
+-- a command: its name, its options, its positional arguments, and whether these are required
 pub record Form : Type 0 where
   pub name : List ℕ
   pub options : Options
   pub positions : List (List ℕ)
   pub needs_all : Bool
 
--- an option that stands alone
+-- a flag
 abbrev pub flag_rule : List ℕ → Rule
 flag_rule name = record (new_rule name) { long = Some name; action = Some SetTrue }
 
--- an option that takes a value
+-- an option with a value
 abbrev pub option_rule : List ℕ → Rule
 option_rule name = record (new_rule name) { long = Some name }
 
--- a position, and whether it may not be missing
+-- a positional argument, and whether it is required
 abbrev pub position_rule : Bool → List ℕ → Rule
 position_rule needed name = record (new_rule name) { required = needed }
 
--- positions that may be missing
+-- optional positional arguments
 abbrev pub free_rules : List (List ℕ) → List Rule
 free_rules names = map (position_rule false) names
 
 abbrev pub rules_of_form : Form → List Rule
 rules_of_form form = map flag_rule form.options.flags ++ (map option_rule form.options.valued ++ map (position_rule form.needs_all) form.positions)
 
--- a command of that name and these rules
+-- a command with this name and these rules
 abbrev pub app_with : List ℕ → List Rule → App
 app_with name rules = record { top = record (new_shape name) { rules = rules }; subs = [] }
 
@@ -44,15 +44,15 @@ app_with name rules = record { top = record (new_shape name) { rules = rules }; 
 abbrev pub command_of : Form → App
 command_of form = app_with form.name (rules_of_form form)
 
--- the option or position has the rule, for its own command alone
+-- the option or positional argument has the rule, and is not global
 abbrev pub HasRule : Arg → Rule → Type 0
 HasRule arg rule = (rule_of arg ≡ rule) × (arg.global ≡ false)
 
--- the command is this one, and nothing of it is for others
+-- the command is this one, and none of its options is global
 abbrev pub IsCommandOf : Command → App → Type 0
 IsCommandOf command app = (app_of command ≡ app) × ((fields_of command).has_globals ≡ false)
 
--- no help, no version, no name of the program among the arguments, and no arguments without a command
+-- no help, no version, no program name among the arguments, and a command is required
 abbrev pub without_extras : Shape → Shape
 without_extras shape = record shape {
   no_binary_name = true;
@@ -74,7 +74,7 @@ show_form = record { name = codes "show"; options = no_options; positions = code
 abbrev pub make_form : Form
 make_form = record { name = codes "make"; options = no_options; positions = codes "seed" ∷ codes "count" ∷ []; needs_all = true }
 
--- the positions of `serve`: a collection each
+-- the positional arguments of `serve`: a collection each
 abbrev pub collection_names : List (List ℕ)
 collection_names = map (λ name. name.now) COLLECTION_NAMES
 

@@ -16,7 +16,7 @@ rows_in matches = rows_of (found_of matches)
 abbrev pub IsFlagText : Option (List ℕ) → Bool → Type 0
 IsFlagText text given = (text ≡ Some (codes "true") → given ≡ true) × (text ≡ Some (codes "false") → given ≡ false)
 
--- the retained limit that is named, or the usual one
+-- the limit that `--cap` gives, or the default
 abbrev pub IsRetainedLimitText : Option (List ℕ) → ℕ → Type 0
 IsRetainedLimitText None retained_limit = retained_limit ≡ DEFAULT_RETAINED_LIMIT
 IsRetainedLimitText (Some text) retained_limit = IsNumberIn 1 MAX_RETAINED_LIMIT text retained_limit
@@ -35,17 +35,17 @@ pub record IsMakeIn (rows : List Row) (seed count : ℕ) : Type 0 where
   pub seed_is : IsNumberText 0 MAX_SEED (first_of (codes "seed") rows) seed
   pub count_is : IsNumberText 1 MAX_COUNT (first_of (codes "count") rows) count
 
--- a text of that form that is there, or none
+-- a well-formed text, or none
 abbrev pub IsTextOrNone : (List ℕ → Type 0) → Option (List ℕ) → Option (List ℕ) → Type 0
 IsTextOrNone IsForm None given = given ≡ None
 IsTextOrNone IsForm (Some text) given = (given ≡ Some text) × IsForm text
 
--- the argument, if there is one, and then the arguments
+-- the argument, if present, and then the others
 abbrev pub with_argument : Option (List ℕ) → List (List ℕ) → List (List ℕ)
 with_argument None arguments = arguments
 with_argument (Some argument) arguments = argument ∷ arguments
 
--- the arguments at the positions of those names, in turn
+-- the values of these positional arguments, in order
 abbrev pub arguments_at : List (List ℕ) → List Row → List (List ℕ)
 arguments_at [] rows = []
 arguments_at (name ∷ names) rows = with_argument (first_of name rows) (arguments_at names rows)

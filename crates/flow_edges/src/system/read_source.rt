@@ -8,8 +8,8 @@ use flow_values::Fault;
 use std::io::Read;
 use std::marker::Model;
 
-/// A reader of the system as a source. It tells no content, and counts each error. Contracts see what
-/// the reader has left, where it tells that, and the count.
+/// A `std::io::Read` as a `Source`. The bytes left are not observable, and each I/O error is
+/// counted. The value in contracts is the reader's own remaining bytes, if known, and the count.
 #[derive(Drop)]
 pub struct ReadSource<R: Read> {
     reader: R,
@@ -21,11 +21,12 @@ impl<R: Read> Model for ReadSource<R> {
 
     ghost Value = { ReaderState };
 
-    ghost view = { λ source. record { remaining = R.remaining source.reader; faults = source.faults } };
+    ghost view = { λ source.
+        record { remaining = R.remaining source.reader; faults = source.faults } };
 }
 
 impl<R: Read> ReadSource<R> {
-    /// A source over this reader, which has failed in no call yet.
+    /// A source over this reader, with no faults yet.
     pub fn new(reader: R) -> ReadSource<R>
         ensures { result ≡ record { remaining = R.remaining reader; faults = 0 } }
     {
@@ -38,7 +39,7 @@ impl<R: Read> Source for ReadSource<R> {
 
     ghost faults = { λ source. source.faults };
 
-    /// One read of the reader, whose answer is handed on; an error is a `Fault`.
+    /// Reads once from the reader. An I/O error is a `Fault`.
     fn read(&mut self, buffer: &mut [u8]) -> Result<usize, Fault>
         ensures within { IfOk result (λ n. n ≤ length buffer.old) }
         ensures causes { Counted (IsErr result) self.old.faults self.new.faults }

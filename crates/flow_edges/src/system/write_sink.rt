@@ -8,8 +8,9 @@ use flow_values::Fault;
 use std::io::Write;
 use std::marker::Model;
 
-/// A writer of the system as a sink. It tells no content, and counts each error. A write that takes
-/// nothing of a piece is one. Contracts see what the writer holds, where it tells that, and the count.
+/// A `std::io::Write` as a `Sink`. The bytes written are not observable, and each I/O error is
+/// counted. A write of 0 bytes counts as an error. The value in contracts is the writer's own
+/// contents, if known, and the count.
 #[derive(Drop)]
 pub struct WriteSink<W: Write> {
     writer: W,
@@ -25,7 +26,7 @@ impl<W: Write> Model for WriteSink<W> {
 }
 
 impl<W: Write> WriteSink<W> {
-    /// A sink over this writer, which has failed in no call yet.
+    /// A sink over this writer, with no faults yet.
     pub fn new(writer: W) -> WriteSink<W>
         ensures { result ≡ record { contents = W.contents writer; faults = 0 } }
     {
@@ -38,7 +39,8 @@ impl<W: Write> Sink for WriteSink<W> {
 
     ghost faults = { λ sink. sink.faults };
 
-    /// One write of the writer, whose answer is handed on; an error, and a write of nothing, is a `Fault`.
+    /// Writes once to the writer. An I/O error is a `Fault`, and so is a write of 0 bytes from a
+    /// non-empty slice.
     fn write(&mut self, piece: &[u8]) -> Result<usize, Fault>
         ensures within { IfOk result (λ n. n ≤ length piece.now) }
         ensures some { IfOk result (λ n. 0 < length piece.now → 0 < n) }

@@ -1,4 +1,4 @@
--- What the private parts of a reader of lines do: its read buffer of bytes, the line that it reads, and its cursor. No public contract cites these.
+-- For private clauses: the buffer of a reader of lines, the line it reads, and its cursor.
 use Rattle.std.specs.Prelude.{Bool, true, ◌≡◌, ◌<◌, ◌≤◌, ⊤, ℕ, ◌+◌, length, List, [], ◌∷◌, ◌++◌, true, false, Option, Some, None, option_map, IfSome, MatchBool}
 use Rattle.flow_edges.specs.declared.source.TheConstants.{MAX_READ}
 use Rattle.flow_lines.specs.declared.refusal.TheConstants.{MAX_LINE, MAX_INPUT}
@@ -7,7 +7,7 @@ use Rattle.flow_lines.specs.declared.refusal.LineRefusal.{LineRefusal}
 use Rattle.flow_lines.specs.declared.refusal.LineRefusal.TheVariants.{Fault, LineTooLong, InputTooLong, NoMemory}
 use Rattle.flow_edges.specs.Flow.{IsAtEnd, IsNextOf, left_after as left_behind}
 
--- so many bytes were read, which are the next ones of the source
+-- this many bytes were read, the next ones of the source
 pub record Fills (count : ℕ) (read_buffer : List ℕ) (left left_after : Option (List ℕ)) : Type 0 where
   pub count_is : count ≡ length read_buffer
   pub given : IsNextOf read_buffer left
@@ -26,7 +26,7 @@ pub record TakesAll (read_buffer_old read_buffer_new line_old line_new : List �
   pub read_buffer : read_buffer_new ≡ []
   pub line : line_new ≡ line_old ++ read_buffer_old
 
--- the bytes that aren't given yet: of the line, of the read buffer, and those left in the source
+-- the bytes not returned yet: of the line, of the buffer, and those left in the source
 abbrev pub bytes_remaining : List ℕ → List ℕ → Option (List ℕ) → Option (List ℕ)
 bytes_remaining line read_buffer left = option_map (λ bytes. line ++ (read_buffer ++ bytes)) left
 
@@ -44,23 +44,24 @@ pub record ReadsLast (number offset : ℕ) (all left : Option (List ℕ)) (line 
   pub drained : read_buffer ≡ []
   pub fits : refusal_of number offset (record { bytes = line; terminated = false }) ≡ None
 
--- the read buffer held the whole line
+-- the buffer contained the complete line
 pub record IsBuffered (read_buffer_old read_buffer_new line : List ℕ) (terminated : Bool) : Type 0 where
   pub whole : terminated ≡ true
   pub cut : read_buffer_old ≡ line ++ 10 ∷ read_buffer_new
 
--- of all bytes these were left when what was taken held no whole line
+-- these bytes were left when the bytes consumed contained no complete line
 abbrev pub IsWithinLine : Option (List ℕ) → List ℕ → Type 0
 IsWithinLine all bytes = (taken : List ℕ) × NoLineFeed taken × (all ≡ Some (taken ++ bytes))
 
--- the source failed: no byte is lost, and there is no whole line among those taken, which aren't refused
+-- the source failed: no byte is lost, and there is no complete line among those consumed, which
+-- aren't refused
 pub record ReadsPart (number offset : ℕ) (all left : Option (List ℕ)) (line read_buffer : List ℕ) : Type 0 where
   pub plain : NoLineFeed line
   pub fits : length_refusal number offset (length line) false ≡ None
   pub bytes : all ≡ bytes_remaining line [] left
   pub drained : read_buffer ≡ []
 
--- so many bytes are taken, at most a line and one read
+-- some bytes are consumed, at most those of a line and one read
 pub record TakesPart (all left : Option (List ℕ)) : Type 0 where
   pub taken : List ℕ
   pub few : length taken ≤ MAX_LINE + MAX_READ
@@ -80,8 +81,8 @@ IsForLength (LineTooLong number) = ⊤
 IsForLength (InputTooLong number) = ⊤
 IsForLength NoMemory = ⊥
 
--- a line isn't read to its end, for this refusal: it is that of the line's length, or of the input's, or a fault that lost no
--- byte, and no more is taken than such a line may have and one read gives
+-- reading a line stopped for this refusal: for the line's length, or for the input's, or a fault
+-- that lost no byte; and no more bytes are consumed than those of the longest line and one read
 pub record BreaksOffLine (number offset : ℕ) (all left : Option (List ℕ)) (line read_buffer : List ℕ) (refusal : LineRefusal) : Type 0 where
   pub length : IsForLength refusal → IfSome all (IsFirstRefused number offset refusal)
   pub fault : refusal ≡ Fault → ReadsPart number offset all left line read_buffer
@@ -95,11 +96,11 @@ pub record IsBetweenLines (line read_buffer : List ℕ) (count given : ℕ) : Ty
   pub numbered : count ≤ given
   pub within : given ≤ MAX_INPUT
 
--- what contracts see of such a reader
+-- the value of such a reader in contracts
 abbrev pub lines_state : List ℕ → List ℕ → ℕ → ℕ → LinesState
 lines_state line read_buffer count given = record { held = line ++ read_buffer; count = count; given = given; refusal = None }
 
--- the next line was read, and is the first of those that came yet, unless it is blank
+-- the next line was read: it is the first of the remaining ones, unless it is blank
 pub record ReadsNext (read_buffer_old read_buffer_new : List ℕ) (count_old count_new given_old given_new : ℕ) (bytes : List ℕ) (left left_after : Option (List ℕ)) : Type 0 where
   pub ahead : lines_remaining (lines_state [] read_buffer_old count_old given_old) left
       ≡ option_map (λ later. unless_blank count_new bytes later) (lines_remaining (lines_state [] read_buffer_new count_new given_new) left_after)
@@ -108,7 +109,7 @@ pub record ReadsNext (read_buffer_old read_buffer_new : List ℕ) (count_old cou
   pub numbered : count_new ≤ given_new
   pub within : given_new ≤ MAX_INPUT
 
--- it read the next line, or found that there is none: what went by is accounted for
+-- it read the next line, or found the end: the consumed bytes are accounted for
 pub record ReadsOrEnds (line_old read_buffer_old line_new read_buffer_new : List ℕ) (count_old count_new given_old given_new : ℕ) (left left_after : Option (List ℕ)) (found : Bool) : Type 0 where
   pub next : MatchBool found
       (ReadsNext read_buffer_old read_buffer_new count_old count_new given_old given_new line_new left left_after)

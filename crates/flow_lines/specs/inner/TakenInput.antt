@@ -1,8 +1,8 @@
--- For private clauses: the bytes taken so far from a source that is read whole.
+-- For private clauses: the bytes read so far from a source that is read to its end.
 use Rattle.std.specs.Prelude.{◌≡◌, ◌≤◌, ℕ, List, ◌++◌, length, Option, option_map}
 use Rattle.flow_lines.specs.declared.whole_input.TheConstants.{MAX_WHOLE_INPUT}
 
--- what a source had before these bytes were taken
+-- the bytes left in a source before these were read
 abbrev pub before : List ℕ → Option (List ℕ) → Option (List ℕ)
 before bytes left = option_map (λ rest. bytes ++ rest) left
 

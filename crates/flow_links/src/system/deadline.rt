@@ -7,8 +7,8 @@ use std::io::ErrorKind;
 use std::marker::Model;
 use std::time::{Clock as Timer, Duration, Instant};
 
-/// When something must be done, by a clock that nobody sets. Contracts see how many nanoseconds after the
-/// clock's start that is.
+/// A point in time on the monotonic clock. Its value in contracts is in nanoseconds since the
+/// clock's start.
 #[derive(Drop)]
 pub struct Deadline<'r, C: Timer> {
     clock: &'r C,
@@ -25,7 +25,7 @@ impl<'r, C: Timer> Model for Deadline<'r, C> {
 }
 
 impl<'r, C: Timer> Deadline<'r, C> {
-    /// So much time from now.
+    /// The deadline this long from now. An error if the sum overflows.
     pub fn after(clock: &'r C, time: Duration) -> io::Result<Deadline<'r, C>>
         ensures { IfOk result (λ deadline. as_nanos time ≤ deadline) }
     {
@@ -35,7 +35,7 @@ impl<'r, C: Timer> Deadline<'r, C> {
         }
     }
 
-    /// How much time is left at this moment, if any.
+    /// The time left at `now`, or `None` once the deadline has passed.
     pub fn left_at(&self, now: Instant) -> Option<Duration>
         ensures some { IsSome result ↔ (instant_nanos now < self.now) }
         ensures time { IfSome result (λ time. instant_nanos now + as_nanos time ≡ self.now) }
@@ -44,7 +44,7 @@ impl<'r, C: Timer> Deadline<'r, C> {
         if time.is_zero() { None } else { Some(time) }
     }
 
-    /// How much time is left now; an error where none is.
+    /// The time left now. The error `TimedOut` once the deadline has passed.
     pub fn left(&self) -> io::Result<Duration>
         ensures { IfOk result (λ time. (0 < as_nanos time) × (as_nanos time ≤ self.now)) }
     {

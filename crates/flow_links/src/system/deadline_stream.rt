@@ -9,9 +9,9 @@ use std::marker::Model;
 use std::net::OpenStream;
 use std::time::{Clock as Timer, Duration};
 
-/// A stream of the system with a deadline for all that is done on it: a read or a write waits for the
-/// peer no longer than until then, nor longer than 30 seconds. Once it has passed, each is an error.
-/// Contracts see what the stream has left and holds, where it tells that, and the deadline.
+/// A stream whose reads and writes time out: each call waits at most 30 seconds, and never past the
+/// deadline. After the deadline every call is an error. The value in contracts is the stream's
+/// observable bytes and the deadline.
 #[derive(Drop)]
 pub struct DeadlineStream<'r, S: Read + Write + OpenStream, C: Timer> {
     stream: S,
@@ -33,12 +33,16 @@ impl<'r, S: Read + Write + OpenStream, C: Timer> Model for DeadlineStream<'r, S,
 impl<'r, S: Read + Write + OpenStream, C: Timer> DeadlineStream<'r, S, C> {
     /// This stream until this deadline.
     pub fn new(stream: S, deadline: Deadline<'r, C>) -> DeadlineStream<'r, S, C>
-        ensures { result ≡ record { remaining = S.remaining stream; contents = S.contents stream; deadline = deadline.entry } }
+        ensures { result ≡ record {
+          remaining = S.remaining stream;
+          contents = S.contents stream;
+          deadline = deadline.entry;
+        } }
     {
         DeadlineStream { stream, deadline }
     }
 
-    /// How long a call may wait that begins now; an error where no time is left.
+    /// The timeout of a call that begins now. An error if no time is left.
     fn call_timeout(&self) -> io::Result<Option<Duration>> {
         let left = self.deadline.left()?;
         Ok(Some(left.min(Duration::from_secs(CALL_TIMEOUT))))

@@ -1,3 +1,7 @@
+//! A finite state machine for timeouts. Each read and write moves it as `after_read` and
+//! `after_write` of specs/Phase.antt say, and its contracts state the timeout of each state
+//! exactly.
+
 ghost use Rattle.std.specs.Prelude.{◌≡◌, ◌<◌, ◌↔◌, IsOk, IfOk};
 ghost use Rattle.std.specs.Duration.{as_nanos};
 ghost use Rattle.flow_links.specs.Phase.{left_of, request_time, read_time, write_time, after_read, after_write};
@@ -6,36 +10,39 @@ use std::io;
 use std::io::ErrorKind;
 use std::time::{Duration, Instant};
 
-/// How many seconds a caller has until it begins a request.
+/// Seconds until an idle client must begin a request.
 const IDLE_TIME: u64 = 5;
 
-/// How many seconds it has to send one, where no more bytes come than a head has.
+/// Seconds to send a request no longer than a head.
 const HEAD_TIME: u64 = 30;
 
-/// How many seconds where more come, which are with a body.
+/// Seconds to send a longer request, which has a body.
 const BODY_TIME: u64 = 60;
 
-/// How many seconds it has to take an answer.
+/// Seconds to receive a response.
 const ANSWER_TIME: u64 = 60;
 
-/// The most bytes that a head has.
+/// The greatest length of a head, in bytes.
 const MAX_HEAD: u64 = 16_384;
 
-/// What a caller is at, and since when. A stream that is read and written shows no requests: so one begins
-/// with the first byte that comes behind a write, and an answer with the first write behind a read.
+/// A state machine with the timeouts of a client's connection. A byte stream doesn't show where a
+/// request ends. So the first byte read after a write begins a request, and the first write after a
+/// read begins a response.
 #[derive(Clone, Copy)]
 pub enum Phase {
-    /// Nothing came since the last write, or since the caller was taken. A read waits 5 seconds.
+    /// Nothing was read since the last write, or since the connection was accepted. A read waits 5
+    /// seconds.
     Waiting,
-    /// So many bytes came, the first of them then. All reads together have 30 seconds, and 60 once more than
-    /// 16,384 bytes came.
+    /// A request is coming: `bytes` of it were read, the first at `since`. All its reads together
+    /// have 30 seconds, or 60 seconds past 16,384 bytes.
     Receiving { since: Instant, bytes: u64 },
-    /// The first write began then. All writes together have 60 seconds.
+    /// A response is going out: its first write began at `since`. All its writes together have 60
+    /// seconds.
     Answering { since: Instant },
 }
 
 impl Phase {
-    /// How long a read may wait that begins now; an error where no time is left.
+    /// The timeout of a read that begins now. The error `TimedOut` if no time is left.
     pub fn time_to_read(self, now: Instant) -> io::Result<Duration>
         ensures some { IsOk result ↔ (0 < read_time self now) }
         ensures time { IfOk result (λ time. as_nanos time ≡ read_time self now) }
@@ -46,7 +53,7 @@ impl Phase {
         }
     }
 
-    /// How long a write may wait that begins now; an error where no time is left.
+    /// The timeout of a write that begins now. The error `TimedOut` if no time is left.
     pub fn time_to_write(self, now: Instant) -> io::Result<Duration>
         ensures some { IsOk result ↔ (0 < write_time self now) }
         ensures time { IfOk result (λ time. as_nanos time ≡ write_time self now) }
@@ -58,7 +65,7 @@ impl Phase {
         }
     }
 
-    /// The phase after a read that ended now and gave so many bytes.
+    /// The phase after a read of `count` bytes that ended now.
     pub fn after_read(self, now: Instant, count: u64) -> Phase
         ensures { result ≡ after_read self now count }
     {
@@ -86,7 +93,7 @@ impl Phase {
     }
 }
 
-/// The time of a request of which so many bytes came.
+/// The time limit of a request, by the number of its bytes so far.
 fn request_time(bytes: u64) -> Duration
     ensures { as_nanos result ≡ request_time bytes }
 {
@@ -97,7 +104,7 @@ fn request_time(bytes: u64) -> Duration
     }
 }
 
-/// What is left of a time, if any is.
+/// The rest of a time limit that began at `since`. The error `TimedOut` if nothing is left.
 fn left_of(time: Duration, since: Instant, now: Instant) -> io::Result<Duration>
     ensures some { IsOk result ↔ (0 < left_of (as_nanos time) since now) }
     ensures time { IfOk result (λ left. as_nanos left ≡ left_of (as_nanos time) since now) }

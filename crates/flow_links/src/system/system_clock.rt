@@ -5,8 +5,8 @@ use crate::Clock;
 use std::marker::Model;
 use std::time::{Clock as Timer, SystemTime, UNIX_EPOCH};
 
-/// The system's clock. Where it tells no time it gives the last moment again, or 0 at first. Contracts see
-/// the last moment that it gave.
+/// The operating system's clock. If the system gives no time, `now` repeats the last one, or
+/// returns 0 at first. The value in contracts is the last time returned.
 #[derive(Drop)]
 pub struct SystemClock<'r, R: Timer> {
     rt: &'r R,

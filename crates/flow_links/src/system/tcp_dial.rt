@@ -14,19 +14,19 @@ use std::marker::Model;
 use std::net::{HostAddrs, Net, OpenStream, TcpStream, ToSocketAddrs};
 use std::time::{Clock as Timer, Duration};
 
-/// How many seconds a dial may wait until a peer answers.
+/// Seconds to connect to a peer.
 const DIAL_TIME: u64 = 30;
 
-/// How many seconds after the dial a link's bytes must have come and gone.
+/// Seconds from the call of `dial` until the link's reads and writes fail.
 const LINK_TIME: u64 = 600;
 
-/// The system's network, by name or address. It tells no links, and counts each error of its calls;
-/// contracts see the count. What is written to a link is sent at once, and its reads and writes fail
-/// after 30 seconds, and from 10 minutes after the dial on.
+/// Opens TCP connections, by host name or address. Links are not observable; the value in contracts
+/// is the count of faults. `TCP_NODELAY` is set. Each read and write times out after 30 seconds,
+/// and all of them fail from 10 minutes after the call of `dial`.
 ///
-/// A dial tries each address of the name (32 at most) in turn, and gives each its share of what is left
-/// of 30 seconds. How long the system looks a name up can't be limited; that time is taken from the 30
-/// seconds and from the 10 minutes.
+/// `dial` tries each address of the name in turn, 32 at most. Each gets an equal share of what is
+/// left of 30 seconds. Name resolution has no timeout of its system call, but its time counts
+/// against the 30 seconds and the 10 minutes.
 #[derive(Drop)]
 pub struct TcpDial<'r, R: Net + Timer> {
     rt: &'r R,
@@ -42,14 +42,14 @@ impl<'r, R: Net + Timer> Model for TcpDial<'r, R> {
 }
 
 impl<'r, R: Net + Timer> TcpDial<'r, R> {
-    /// A dial that has failed in no call yet.
+    /// A dial with no faults yet.
     pub fn new(rt: &'r R) -> TcpDial<'r, R>
         ensures { result ≡ 0 }
     {
         TcpDial { rt, faults: 0 }
     }
 
-    /// A stream to this host and port, with its limits set.
+    /// Connects a stream to this host and port, and sets its timeouts.
     fn connect(&self, host: &str, port: u16) -> io::Result<DeadlineStream<'r, R::Stream, R>> {
         let connect_deadline = Deadline::after(self.rt, Duration::from_secs(DIAL_TIME))?;
         let deadline = Deadline::after(self.rt, Duration::from_secs(LINK_TIME))?;
@@ -59,7 +59,7 @@ impl<'r, R: Net + Timer> TcpDial<'r, R> {
         Ok(DeadlineStream::new(stream, deadline))
     }
 
-    /// A stream to the first of these addresses that answers in its share of the time.
+    /// The stream to the first address that accepts within its share of the time.
     fn first_to_connect(
         &self,
         addresses: HostAddrs,

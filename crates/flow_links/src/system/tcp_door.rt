@@ -14,26 +14,26 @@ use std::net::{Ipv4Addr, Net, OpenListener, OpenStream, SocketAddr, SocketAddrV4
 use std::time::{Clock as Timer, Duration};
 use std::{io, thread};
 
-/// How many callers in a row may be lost; then the door is.
+/// The number of failed accepts in a row that is a `Fault`.
 const MAX_LOST: u64 = 100;
 
-/// How many milliseconds pass after a caller that was lost.
+/// Milliseconds to wait after a failed accept.
 const LOST_PAUSE: u64 = 100;
 
-/// A listener of the system, and where the system says that it listens.
+/// A listening socket and its local address.
 #[derive(Drop)]
 struct Port<L: OpenListener> {
     listener: L,
     address: SocketAddrV4,
 }
 
-/// A port of the system as a door, for callers of this machine. It tells no links, and counts each
-/// error of its calls; contracts see the count. What is written to a link is sent at once, and a caller
-/// keeps a `Phase`.
+/// A TCP listener on the loopback interface. Links are not observable; the value in contracts is
+/// the address, and the counts of lost clients and of faults. `TCP_NODELAY` is set, and each
+/// connection has the timeouts of `Phase`.
 ///
-/// A caller that can't be taken, since it has gone or since descriptors or memory are wanting, is lost and
-/// counted, and a tenth of a second later the next one is taken. Where a hundred are lost in a row, that
-/// is a `Fault`.
+/// A client is lost if accepting it fails, for example if it has gone or file descriptors run out.
+/// The loss is counted, and the next accept follows a tenth of a second later. A hundred losses in
+/// a row are a `Fault`.
 #[derive(Drop)]
 pub struct TcpDoor<'r, R: Net + Timer> {
     rt: &'r R,
@@ -56,7 +56,7 @@ impl<'r, R: Net + Timer> Model for TcpDoor<'r, R> {
 }
 
 impl<'r, R: Net + Timer> TcpDoor<'r, R> {
-    /// A door that is still shut, has lost nobody and has failed in no call yet.
+    /// A door that doesn't listen yet, with no losses and no faults.
     pub fn new(rt: &'r R) -> TcpDoor<'r, R>
         ensures { result ≡ record { address = None; lost = 0; faults = 0 } }
     {
@@ -68,7 +68,7 @@ impl<'r, R: Net + Timer> TcpDoor<'r, R> {
         }
     }
 
-    /// This port of this machine, opened.
+    /// Binds and listens at this port of the loopback interface.
     fn open(&self, port: u16) -> io::Result<Port<R::Listener>>
         ensures { IfOk result (λ opened. address_of opened.address ≡ loopback port) }
     {
@@ -81,7 +81,7 @@ impl<'r, R: Net + Timer> TcpDoor<'r, R> {
     }
 }
 
-/// The next caller.
+/// Accepts the next client.
 fn accept<'r, R: Net + Timer>(
     rt: &'r R,
     listener: &R::Listener,
@@ -91,7 +91,8 @@ fn accept<'r, R: Net + Timer>(
     Ok(TimedStream::new(stream, rt))
 }
 
-/// The next caller that can be taken, behind so many that are lost; a fault where those are too many.
+/// Accepts the next client and returns the number of failed accepts before it. A `Fault` after
+/// `MAX_LOST` failed ones.
 fn accept_client<'r, R: Net + Timer>(
     rt: &'r R,
     listener: &R::Listener,
@@ -139,6 +140,7 @@ impl<'r, R: Net + Timer> Door for TcpDoor<'r, R> {
         ensures err { OnErr result (Stays {L = StreamState} None None) }
         ensures causes { Counted (IsErr result) self.old.faults self.new.faults }
 
+        // A listening port never runs out of clients.
         ensures some { IfOk result (λ link. IsSome self.old.address → IsSome link) }
         ensures address { self.new.address ≡ self.old.address }
         ensures lost { LosesCallers result self.old.lost self.new.lost }
@@ -158,8 +160,9 @@ impl<'r, R: Net + Timer> Door for TcpDoor<'r, R> {
         }
     }
 
-    /// Closes the link. Where no call of it failed, the caller is told first that no more comes, and what it
-    /// still sends is dropped for 2 seconds and 16,777,216 bytes at most, so that what was written reaches it.
+    /// Closes the link. If no call on it failed, it first shuts down writing, then drops input for
+    /// at most 2 seconds and 16,777,216 bytes. So a response that the client hasn't read yet still
+    /// reaches it.
     fn finish(&mut self, link: TcpLink<TimedStream<'r, R::Stream, R>>)
         ensures back { Finishes {L = StreamState} link.entry None None }
         ensures quiet { self.new ≡ self.old }

@@ -8,9 +8,9 @@ use flow_values::Fault;
 use std::io::{Read, Write};
 use std::marker::Model;
 
-/// A stream of the system as a link. It tells no content, and counts each error of a read and of a
-/// write. A write that takes nothing of a piece is one. Contracts see what the stream has left and holds,
-/// where it tells that, and the counts.
+/// A stream as a `Link`. Its bytes are not observable, and errors of reads and of writes are
+/// counted separately. A write of 0 bytes counts as an error. The value in contracts is the
+/// stream's own bytes, if known, and the counts.
 #[derive(Drop)]
 pub struct TcpLink<S: Read + Write> {
     stream: S,
@@ -32,9 +32,14 @@ impl<S: Read + Write> Model for TcpLink<S> {
 }
 
 impl<S: Read + Write> TcpLink<S> {
-    /// A link over this stream, which has failed in no call yet.
+    /// A link over this stream, with no faults yet.
     pub fn new(stream: S) -> TcpLink<S>
-        ensures { result ≡ record { remaining = S.remaining stream; contents = S.contents stream; read_faults = 0; write_faults = 0 } }
+        ensures { result ≡ record {
+          remaining = S.remaining stream;
+          contents = S.contents stream;
+          read_faults = 0;
+          write_faults = 0;
+        } }
     {
         TcpLink {
             stream,
@@ -43,12 +48,13 @@ impl<S: Read + Write> TcpLink<S> {
         }
     }
 
-    /// The stream as it stands, where no call failed.
+    /// The stream, if no read and no write failed.
     pub fn into_faultless(self) -> Option<S>
     where
         S: Drop,
         ensures some { IsSome result ↔ ((self.read_faults ≡ 0) × (self.write_faults ≡ 0)) }
-        ensures stream { IfSome result (λ stream. (S.remaining stream ≡ self.remaining) × (S.contents stream ≡ self.contents)) }
+        ensures stream { IfSome result (λ stream. (S.remaining stream ≡ self.remaining)
+            × (S.contents stream ≡ self.contents)) }
     {
         if self.read_faults == 0 && self.write_faults == 0 {
             Some(self.stream)
@@ -65,7 +71,7 @@ impl<S: Read + Write> Source for TcpLink<S> {
 
     ghost other = { λ link. record { written = None; faults = link.write_faults } };
 
-    /// One read of the stream, whose answer is handed on; an error is a `Fault`.
+    /// Reads once from the stream. An I/O error is a `Fault`.
     fn read(&mut self, buffer: &mut [u8]) -> Result<usize, Fault>
         ensures within { IfOk result (λ n. n ≤ length buffer.old) }
         ensures causes { Counted (IsErr result) self.old.read_faults self.new.read_faults }
@@ -86,7 +92,8 @@ impl<S: Read + Write> Sink for TcpLink<S> {
 
     ghost other = { λ link. record { left = None; began = None; faults = link.read_faults } };
 
-    /// One write of the stream, whose answer is handed on; an error, and a write of nothing, is a `Fault`.
+    /// Writes once to the stream. An I/O error is a `Fault`, and so is a write of 0 bytes from a
+    /// non-empty slice.
     fn write(&mut self, piece: &[u8]) -> Result<usize, Fault>
         ensures within { IfOk result (λ n. n ≤ length piece.now) }
         ensures some { IfOk result (λ n. 0 < length piece.now → 0 < n) }

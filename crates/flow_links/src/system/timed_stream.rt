@@ -12,15 +12,14 @@ use std::marker::Model;
 use std::net::{OpenStream, Shutdown};
 use std::time::{Clock as Timer, Duration, Instant};
 
-/// How many seconds the bytes of a caller are dropped for at the end.
+/// Seconds for which `close` drops input.
 const CLOSING_TIME: u64 = 2;
 
-/// The most bytes that are dropped then: twice the largest body that a server takes.
+/// The most bytes of input that `close` drops: twice the greatest body of a request.
 const CLOSING_BYTES: u64 = 16_777_216;
 
-/// A stream of the system whose caller has to keep a phase: a read or a write waits no longer than its `Phase`
-/// leaves time, and is an error where it leaves none. Contracts see what the stream has left and holds,
-/// where it tells that, and the phase.
+/// A client's stream with the timeouts of its `Phase`. A call with no time left is an error. The
+/// value in contracts is the stream's observable bytes and the phase.
 #[derive(Drop)]
 pub struct TimedStream<'r, S: Read + Write + OpenStream, C: Timer> {
     stream: S,
@@ -41,9 +40,13 @@ impl<'r, S: Read + Write + OpenStream, C: Timer> Model for TimedStream<'r, S, C>
 }
 
 impl<'r, S: Read + Write + OpenStream + Drop, C: Timer> TimedStream<'r, S, C> {
-    /// This stream, whose caller has sent nothing yet.
+    /// This stream, before its first byte.
     pub fn new(stream: S, clock: &'r C) -> TimedStream<'r, S, C>
-        ensures { result ≡ record { remaining = S.remaining stream; contents = S.contents stream; phase = Waiting } }
+        ensures { result ≡ record {
+          remaining = S.remaining stream;
+          contents = S.contents stream;
+          phase = Waiting;
+        } }
     {
         TimedStream {
             stream,
@@ -52,8 +55,8 @@ impl<'r, S: Read + Write + OpenStream + Drop, C: Timer> TimedStream<'r, S, C> {
         }
     }
 
-    /// Ends what is written, and drops what still comes, for 2 seconds and 16,777,216 bytes at most. A system
-    /// that closes a stream before takes back what the caller hasn't read yet.
+    /// Shuts down writing, then drops input for at most 2 seconds and 16,777,216 bytes. Closing a
+    /// TCP socket with unread input would reset the connection and lose the end of the response.
     pub(super) fn close(self) -> io::Result<()> {
         self.stream.shutdown(Shutdown::Write)?;
         let deadline = Deadline::after(self.clock, Duration::from_secs(CLOSING_TIME))?;
@@ -70,7 +73,8 @@ impl<'r, S: Read + Write + OpenStream, C: Timer> Read for TimedStream<'r, S, C> 
         ensures bound { ReadsAtMost result buf.new }
         ensures bytes { ReadConsumes self.old.remaining self.new.remaining result buf.new }
 
-        ensures ok { IfOk result (λ count. (now : Moment) × (self.new.phase ≡ after_read self.old.phase now count)) }
+        ensures ok { IfOk result (λ count. (now : Moment)
+            × (self.new.phase ≡ after_read self.old.phase now count)) }
         ensures err { OnErr result (self.new.phase ≡ self.old.phase) }
     {
         let begun = Instant::now(self.clock)?;
@@ -90,7 +94,8 @@ impl<'r, S: Read + Write + OpenStream, C: Timer> Write for TimedStream<'r, S, C>
         ensures bound { WritesAtMost result buf.now }
         ensures bytes { WriteAppends self.old.contents self.new.contents result buf.now }
 
-        ensures ok { IfOk result (λ _. (now : Moment) × (self.new.phase ≡ after_write self.old.phase now)) }
+        ensures ok { IfOk result (λ _. (now : Moment)
+            × (self.new.phase ≡ after_write self.old.phase now)) }
         ensures err { OnErr result (self.new.phase ≡ self.old.phase) }
     {
         let begun = Instant::now(self.clock)?;

@@ -1,4 +1,4 @@
--- What the parts of a read give. No public contract cites these.
+-- The partial results of reading a response. No public contract cites these.
 use Rattle.std.specs.Prelude.{◌≡◌, ◌≤◌, ◌<◌, ℕ, List, length, take, Option, Some, None, Result, Ok, Err}
 use Rattle.flow_edges.specs.Flow.{IsAtEnd}
 use Rattle.http_messages.specs.declared.frame.TheConstants.{MAX_HEAD}
@@ -10,7 +10,7 @@ use Rattle.http_messages.specs.declared.reply_checking.Checked.{Checked}
 use Rattle.http_messages.specs.ReplyHeads.{IsHead, HeadParts, body_length, refusal_of}
 use Rattle.http_messages.specs.Replies.{Announces, IsRefusedHead, IsLong, LacksHead, Takes}
 
--- what was taken of a head, by the answer
+-- the bytes taken while reading a head, by the result
 abbrev pub IsHeadTaken : List ℕ → List ℕ → Option (List ℕ) → Result ℕ ReplyEnd → Type 0
 IsHeadTaken buffer taken now (Ok end) = IsHead taken × (length taken ≤ MAX_HEAD) × (taken ≡ take end buffer) × (end ≡ length taken)
 IsHeadTaken buffer taken now (Err Fault) = LacksHead taken
@@ -24,7 +24,7 @@ pub record ReadsHead (buffer : List ℕ) (left now : Option (List ℕ)) (answer 
   pub takes : Takes taken left now
   pub answers : IsHeadTaken buffer taken now answer
 
--- what was taken of a body of so many bytes, by the answer
+-- the bytes taken while reading a body of `count` bytes, by the result
 abbrev pub IsBodyTaken : ℕ → List ℕ → Option (List ℕ) → Result (List ℕ) ReplyEnd → Type 0
 IsBodyTaken count taken now (Ok body) = (taken ≡ body) × (length body ≡ count)
 IsBodyTaken count taken now (Err Fault) = length taken < count
@@ -38,7 +38,7 @@ pub record ReadsBody (count : ℕ) (left now : Option (List ℕ)) (answer : Resu
   pub takes : Takes taken left now
   pub answers : IsBodyTaken count taken now answer
 
--- what a head is found to be by its parts
+-- the result of checking a head, from its refusal and its length
 abbrev pub checked_by : Option HeadRefusal → ℕ → Checked
 checked_by (Some refusal) count = Checked.Refused refusal
 checked_by None count = Checked.Announces count
@@ -46,7 +46,7 @@ checked_by None count = Checked.Announces count
 abbrev pub refusal_or_length : HeadParts → Checked
 refusal_or_length h = checked_by (refusal_of h) (body_length h)
 
--- what was checked of a head
+-- the result of checking a head is correct
 abbrev pub ChecksHead : List ℕ → Checked → Type 0
 ChecksHead head (Checked.Announces count) = Announces head count
 ChecksHead head (Checked.Refused refusal) = IsRefusedHead head refusal

@@ -1,4 +1,5 @@
--- Where httparse says that the parts of a head stand, and what was checked of it. No public contract cites these.
+-- The spans that httparse returns for a response head, and the result of checking it. No public
+-- contract cites these.
 use Rattle.std.specs.Prelude.{ℕ, List, []}
 use Rattle.httparse.specs.declared.spans.HeaderSpan.{HeaderSpan}
 use Rattle.httparse.specs.declared.spans.ResponseSpans.{ResponseSpans}

@@ -1,4 +1,4 @@
--- Where httparse says that the parts of a head stand. No public contract cites these.
+-- The spans that httparse returns for a request head. No public contract cites these.
 use Rattle.std.specs.Prelude.{ℕ, List, []}
 use Rattle.httparse.specs.declared.spans.HeaderSpan.{HeaderSpan}
 use Rattle.httparse.specs.declared.spans.RequestSpans.{RequestSpans}

@@ -1,4 +1,4 @@
--- What the search for the end of a head keeps, and what it finds. No public contract cites these.
+-- The invariant and the result of the search for the end of a head. No public contract cites these.
 use Rattle.std.specs.Prelude.{◌≡◌, ℕ, ◌+◌, ◌<◌, ◌≤◌, ◌⊎◌, true, false, List, ◌++◌, length, drop, slice_index, slice_range}
 use Rattle.http_messages.specs.declared.search.HeadSearch.{HeadSearch}
 use Rattle.http_messages.specs.declared.request_checking.Found.{Found}
@@ -27,11 +27,11 @@ pub record SkipsTo (bytes : List ℕ) (from offset : ℕ) : Type 0 where
 abbrev pub HasNoHead : List ℕ → Type 0
 HasNoHead bytes = (start end : ℕ) → IsHeadAt bytes start end → ⊥
 
--- more is needed
+-- more bytes are needed
 abbrev pub IsMore : ℕ → List ℕ → Type 0
 IsMore greatest bytes = NeedsHead bytes ⊎ NeedsBody greatest bytes
 
--- more is needed until so many bytes have come
+-- more bytes are needed as long as fewer than `needed` have arrived
 abbrev pub Needs : ℕ → List ℕ → ℕ → Type 0
 Needs greatest bytes needed = (more : List ℕ) → length (bytes ++ more) < needed → IsMore greatest (bytes ++ more)
 
@@ -39,7 +39,7 @@ Needs greatest bytes needed = (more : List ℕ) → length (bytes ++ more) < nee
 abbrev pub with_body : Request → List ℕ → Request
 with_body request body = record request { body = body }
 
--- what the bytes begin with
+-- the first frame of the bytes
 abbrev pub IsFound : ℕ → List ℕ → Found → Type 0
 IsFound greatest bytes (More needed) = IsMore greatest bytes × Needs greatest bytes needed
 IsFound greatest bytes (Given request start end) =

@@ -1,4 +1,4 @@
--- What a session keeps. No public contract cites these.
+-- The invariant of a session. No public contract cites these.
 use Rattle.std.specs.Prelude.{ℕ, ◌≤◌, List, length}
 use Rattle.httparse.specs.declared.spans.HeaderSpan.{HeaderSpan}
 use Rattle.http_messages.specs.declared.request_grammar.TheConstants.{MAX_FIELDS}

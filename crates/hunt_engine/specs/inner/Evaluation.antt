@@ -4,10 +4,7 @@ use Rattle.serde_json.specs.Data.{Data}
 use Rattle.pattern_types.specs.PlainLeaf.{PlainLeaf}
 use Rattle.match_comparisons.specs.Tests.{HoldsAt, LeafHolds}
 use Rattle.hunt_engine.specs.EngineAnswer.{NeverFalls}
-
--- strictly ascending
-abbrev pub IsAscending : List ℕ → Type 0
-IsAscending numbers = (j k m n : ℕ) → j < k → slice_get numbers j ≡ Some m → slice_get numbers k ≡ Some n → m < n
+use Rattle.hunt_feed.specs.Indicators.{IsAscending}
 
 -- no bracket is marked
 abbrev pub AreClear : List Bool → Type 0

@@ -5,8 +5,3 @@ use Rattle.hunt_feed.specs.declared.refusal_text.Reason.{Reason}
 
 abbrev pub reason_text : Reason → List ℕ
 reason_text reason = at_path (reason.name.now ++ reason.rule.now) reason.path.now
-
--- ` at ` before a path, and nothing before an empty one
-abbrev pub path_lead : List ℕ → List ℕ
-path_lead [] = []
-path_lead (c ∷ path) = codes " at "

@@ -23,6 +23,7 @@ use Rattle.match_run.specs.Listing.{listing_text}
 use Rattle.match_run.specs.Matching.{ReadsInput, BeganInTime}
 use Rattle.match_run.specs.inner.Rows.{IsAfter}
 use Rattle.match_run.specs.declared.tally.Tally.{Tally}
+use Rattle.match_run.specs.Reading.{ReadsOn}
 
 -- the state of the reader, by the mode: in Mode::Whole the input is one bundle
 abbrev pub IsStageOf : Mode → Stage → List BundleOf → Option (List ℕ) → Option (List ℕ) → Type 0
@@ -45,10 +46,6 @@ turns_left (stage.Lines lines) = MAX_INPUT - lines.given
 turns_left stage.Whole = 1
 turns_left stage.AtEnd = 0
 turns_left stage.Ended = 0
-
--- the reading of what remains
-abbrev pub ReadsOn : ReaderState → Option (List ℕ) → List BundleOf → InputEnd → Type 0
-ReadsOn reader left bundles end = IfSome (ahead reader.stage left) (λ lines. Reads reader.last (next_number reader) lines bundles end)
 
 -- these bundles, followed by what remains
 abbrev pub IsRest : ReaderState → Option (List ℕ) → List BundleOf → List BundleOf → InputEnd → Type 0

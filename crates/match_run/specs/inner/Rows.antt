@@ -76,13 +76,6 @@ IsAtSome run = (log : List LogEntry) × (answers : List (List BindTree)) × IsAt
 
 -- ---- observations
 
--- these may come next: none ends before it begins, they have the numbers from `next` on, and their
--- last times don't decrease
-abbrev pub MayFollow : Option ℤ → ℕ → List Observation → Type 0
-MayFollow last next [] = ⊤
-MayFollow last next (o ∷ observations) = (o.first ≤ℤ o.last) × (o.number ≡ next) × (¬ (Falls last o.last))
-    × MayFollow (Some o.last) (next + 1) observations
-
 abbrev pub row_of : Observation → List Bool → LogEntry
 row_of o truths = record { first = o.first; last = o.last; truths = truths }
 
@@ -186,10 +179,6 @@ EndsInBundle p retained_limit objects observations log answers state written wri
 EndsInBundle p retained_limit objects observations log answers state written written_after (OverLimit number named) =
     (text : List ℕ) × StopsAmong p retained_limit objects observations log answers state text number named × (written_after ≡ written_with text written)
 EndsInBundle p retained_limit objects observations log answers state written written_after NoMemory = BreaksOff p retained_limit objects observations log answers written written_after
-
--- the bundle that a batch is
-abbrev pub bundle_of : Batch → BundleOf
-bundle_of batch = record { line = batch.line; objects = data_in batch.bundle; observations = batch.observations }
 
 -- ---- the same, after any log
 

@@ -1,15 +1,15 @@
 -- For private clauses: the stores and nodes of a matcher as plain data.
 use Rattle.std.specs.Prelude.{List, map}
 use Rattle.std.specs.Box.{box_value}
-use Rattle.match_stream.specs.declared.store.Store.{Store}
+use Rattle.match_pruning.specs.declared.store.Store.{Store}
 use Rattle.match_stream.specs.declared.sides.Sides.{Sides}
 use Rattle.match_stream.specs.declared.levels.Levels.{Levels}
 use Rattle.match_stream.specs.declared.leaves.Leaves.{Leaves}
 use Rattle.match_stream.specs.declared.node.Node.{Node}
 use Rattle.match_stream.specs.declared.node.Node.TheVariants as node
-use Rattle.match_stream.specs.PartialMatchTree.{PartialMatchTree}
-use Rattle.match_stream.specs.inner.PartialMatches.{partial_match_trees}
-use Rattle.match_stream.specs.inner.Steps.{SideStores, State, a_join, a_choice, a_limit, a_chain, leaves_state, all_levels}
+use Rattle.match_pruning.specs.PartialMatchTree.{PartialMatchTree}
+use Rattle.match_pruning.specs.inner.PartialMatches.{partial_match_trees}
+use Rattle.match_pruning.specs.inner.Steps.{SideStores, State, a_join, a_choice, a_limit, a_chain, leaves_state, all_levels}
 
 abbrev pub store_list : Store → List PartialMatchTree
 store_list store = partial_match_trees store.held.items

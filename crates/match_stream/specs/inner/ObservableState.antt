@@ -4,7 +4,7 @@ use Rattle.match_bindings.specs.Bounds.{no_bounds}
 use Rattle.match_bindings.specs.NumberedPattern.{numbered_pattern}
 use Rattle.match_stream.specs.declared.matcher.Matcher.TheInside.{Inside}
 use Rattle.match_stream.specs.MatcherState.{MatcherState}
-use Rattle.match_stream.specs.inner.Steps.{contents_of}
+use Rattle.match_pruning.specs.inner.Steps.{contents_of}
 use Rattle.match_stream.specs.inner.Nodes.{state_of}
 use Rattle.match_stream.specs.inner.Shape.{fits}
 

@@ -4,15 +4,15 @@ use Rattle.std.specs.List.Sorted.{IsSortedBy}
 use Rattle.match_bindings.specs.BindTree.{BindTree}
 use Rattle.match_bindings.specs.Once.{count}
 use Rattle.match_bindings.specs.Flat.{comes_before}
-use Rattle.match_stream.specs.declared.row.Row.{Row}
+use Rattle.match_pruning.specs.declared.row.Row.{Row}
 use Rattle.match_stream.specs.declared.run.Run.{Run}
-use Rattle.match_stream.specs.PartialMatchTree.{trees_in}
+use Rattle.match_pruning.specs.PartialMatchTree.{trees_in}
 use Rattle.match_stream.specs.RetainedPart.{held_count}
 use Rattle.match_stream.specs.MatcherState.{Falls}
-use Rattle.match_stream.specs.inner.Steps.{step_new, step_state, expired, contents_of}
+use Rattle.match_pruning.specs.inner.Steps.{step_new, step_state, expired, contents_of}
 use Rattle.match_stream.specs.inner.Totals.{Admits}
 use Rattle.match_stream.specs.inner.Nodes.{state_of}
-use Rattle.match_stream.specs.inner.UpToOrder.{IsSameUpToOrder}
+use Rattle.match_pruning.specs.inner.UpToOrder.{IsSameUpToOrder}
 
 -- the next row
 abbrev pub next_row : ℕ → ℤ → ℤ → Row

@@ -5,8 +5,8 @@ use Rattle.match_bindings.specs.Bounds.{within, between}
 use Rattle.match_bindings.specs.NumberedPattern.{NumberedPattern, Leaf, Both, Then, Either, Within, Between, Repeats}
 use Rattle.match_pruning.specs.declared.window.Window.{Window}
 use Rattle.match_pruning.specs.Stores.{window_of}
-use Rattle.match_stream.specs.declared.join.Join.TheVariants as join
-use Rattle.match_stream.specs.inner.Steps.{SideStores, State, a_leaf, a_join, a_choice, a_limit, a_chain}
+use Rattle.match_pruning.specs.declared.join.Join.TheVariants as join
+use Rattle.match_pruning.specs.inner.Steps.{SideStores, State, a_leaf, a_join, a_choice, a_limit, a_chain}
 
 abbrev pub same_bool : Bool → Bool → Bool
 same_bool true true = true

@@ -2,13 +2,13 @@
 use Rattle.std.specs.Prelude.{◌≡◌, ℕ, ◌+◌, ◌<◌, ℤ, ⊤, Bool, List, [], ◌∷◌, map, length}
 use Rattle.match_bindings.specs.BindTree.{Single}
 use Rattle.match_pruning.specs.declared.window.Window.{Window}
-use Rattle.match_stream.specs.declared.join.Join.{Join}
-use Rattle.match_stream.specs.declared.join.Join.TheVariants as join
-use Rattle.match_stream.specs.declared.row.Row.{Row}
-use Rattle.match_stream.specs.PartialMatchTree.{PartialMatchTree}
+use Rattle.match_pruning.specs.declared.join.Join.{Join}
+use Rattle.match_pruning.specs.declared.join.Join.TheVariants as join
+use Rattle.match_pruning.specs.declared.row.Row.{Row}
+use Rattle.match_pruning.specs.PartialMatchTree.{PartialMatchTree}
 use Rattle.match_stream.specs.RetainedPart.{held_count}
-use Rattle.match_stream.specs.inner.Steps.{held_with, joins, kept, State, a_leaf, a_join, a_choice, a_limit, a_chain, step_new, step_state, contents_of}
-use Rattle.match_stream.specs.inner.Needed.{PendingLeftTrees, needed}
+use Rattle.match_pruning.specs.inner.Steps.{held_with, joins, kept, State, a_leaf, a_join, a_choice, a_limit, a_chain, step_new, step_state, contents_of}
+use Rattle.match_pruning.specs.inner.Needed.{PendingLeftTrees, needed}
 
 -- what its stores hold
 abbrev pub held_after : Row → List Bool → State → ℕ

@@ -1,4 +1,5 @@
--- What private functions answer. What may follow tokens is a stack of what is expected, the nearest first.
+-- For private clauses: a pushdown automaton for the grammar. Its state is the stack of expected
+-- symbols, the next one first.
 use Rattle.std.specs.Prelude.{Bool, true, false, List, [], ◌∷◌, Option, Some, None, option_and_then, if◌then◌else◌, ◌≡◌, ◌++◌, ◌↔◌, IsTrue, ℕ, length}
 use Rattle.pattern_lexer.specs.declared.token.{Token.Token, TokenKind.TokenKind, TokenKind.TheVariants.RoundOpen, TokenKind.TheVariants.RoundClose}
 use Rattle.pattern_lexer.specs.declared.token.TokenKind.TheVariants as kind
@@ -7,7 +8,7 @@ use Rattle.pattern_grammar.specs.declared.class.TokenClass.TheVariants.{Only, Ro
 use Rattle.pattern_grammar.specs.declared.{depth.Counts.Counts, stop.Stop.TheVariants.Memory, stop.Stop.TheVariants.Syntax}
 use Rattle.pattern_grammar.specs.Depth.{how_many, EndsWithIn, FirstTooMany}
 
--- a line of the grammar whose first token decides how it goes on
+-- a nonterminal whose first token decides the alternative
 pub data ExpectedLine : Type 0 where
   start qualifier test turn check step : ExpectedLine
 
@@ -20,7 +21,7 @@ pub data Expected : Type 0 where
   line : ExpectedLine → Expected
   tail : Tail → Expected
 
--- lines that begin in one way
+-- the expansion of nonterminals with only one alternative
 abbrev pub expects_path : List Expected → List Expected
 expects_path k = one Root ∷ one (Only kind.Colon) ∷ one Name ∷ tail steps ∷ k
 
@@ -30,11 +31,11 @@ expects_cor k = line test ∷ tail cands ∷ tail cors ∷ k
 abbrev pub expects_pattern : List Expected → List Expected
 expects_pattern k = line start ∷ tail qualifiers ∷ tail ands ∷ tail ors ∷ tail thens ∷ k
 
--- the choice that the first token makes
+-- the alternative chosen by the first token
 abbrev pub choose : TokenKind → TokenClass → List Expected → Option (List Expected) → Option (List Expected)
 choose k class s other = if is_in class k then Some s else other
 
--- what is expected after the first token of a line
+-- the stack after the first token of a nonterminal
 abbrev pub begin_check : TokenKind → List Expected → Option (List Expected)
 begin_check k s =
     choose k Equality (one Constant ∷ s)
@@ -61,7 +62,7 @@ begin step k s =
     choose k (Only kind.Dot) (one Name ∷ s)
     (choose k (Only kind.SquareOpen) (one Index ∷ one (Only kind.SquareClose) ∷ s) None)
 
--- what another turn of a repeated part begins with
+-- the first token of another repetition
 abbrev pub opening : Tail → TokenClass
 opening qualifiers = Qualifying
 opening ands = Only kind.And
@@ -72,7 +73,7 @@ opening cors = Only kind.Or
 opening steps = Stepping
 opening commas = Only kind.Comma
 
--- what is expected after the first token of another turn
+-- the stack after the first token of another repetition
 abbrev pub again : Tail → TokenKind → List Expected → Option (List Expected)
 again qualifiers k s = begin qualifier k s
 again ands k s = Some (line start ∷ tail qualifiers ∷ s)
@@ -83,31 +84,31 @@ again cors k s = Some (line test ∷ tail cands ∷ s)
 again steps k s = begin step k s
 again commas k s = Some (one Constant ∷ s)
 
--- what is expected after one more token
+-- the stack after one more token
 abbrev pub next : List Expected → TokenKind → Option (List Expected)
 next [] k = None
 next (one class ∷ s) k = if is_in class k then Some s else None
 next (line l ∷ s) k = begin l k s
 next (tail t ∷ s) k = if is_in (opening t) k then again t k (tail t ∷ s) else next s k
 
--- nothing more is expected
+-- the stack accepts the end
 abbrev pub ended : List Expected → Bool
 ended [] = true
 ended (tail t ∷ s) = ended s
 ended _ = false
 
--- what is expected after the tokens
+-- the stack after the tokens
 abbrev pub state_after : Option (List Expected) → List Token → Option (List Expected)
 state_after s [] = s
 state_after s (t ∷ ts) = state_after (option_and_then (λ w. next w t.kind) s) ts
 
--- what is expected after the first of the rest, or after the end
+-- the stack after the first of the rest, or after the end
 abbrev pub go : Option (List Expected) → List Token → Option (List Expected)
 go None rest = None
 go (Some w) [] = if ended w then Some [] else None
 go (Some w) (t ∷ ts) = next w t.kind
 
--- what is expected before each line, where k is expected behind it
+-- the stack before each nonterminal, where k is expected after it
 abbrev pub expects_step : List Expected → List Expected
 expects_step k = line step ∷ k
 
@@ -160,11 +161,11 @@ pub record LacksTestWord (ts : List Token) : Type 0 where
   pub exists : Lacks (Only kind.Exists) ts
   pub not : Lacks (Only kind.Not) ts
 
--- the tokens lead from what is expected before them to what is expected after them, where these come next
+-- the tokens lead from the stack before them to the stack after them, if these follow
 pub record Leads (before after : List Expected → List Expected) (read rest : List Token) : Type 0 where
   pub proceed : (k : List Expected) → go (state_after (Some (before k)) read) rest ≡ go (Some (after k)) rest
 
--- the tokens lead to where the first of these, or the end, may not stand
+-- the tokens lead to a state where the first of these, or the end, is not allowed
 pub record Halts (before : List Expected → List Expected) (read rest : List Token) : Type 0 where
   pub stop : (k : List Expected) → go (state_after (Some (before k)) read) rest ≡ None
 
@@ -172,24 +173,24 @@ pub record Halts (before : List Expected → List Expected) (read rest : List To
 abbrev pub done : List Expected → List Expected
 done k = k
 
--- another turn of the repeated part may follow
+-- another repetition may follow
 abbrev pub open_for : Tail → List Expected → List Expected
 open_for t k = tail t ∷ k
 
--- the tokens begin a line: some longer list, or they themselves, is one
+-- the tokens are a prefix of a derivation of the nonterminal
 pub record Prefix {V : Type 0} (Spells : List Token → V → Type 0) (ts : List Token) : Type 0 where
   pub more : List Token
   pub value : V
   pub spells : Spells (ts ++ more) value
 
--- a line was read from the prefix, and can't be longer
+-- the longest derivation at the start of the tokens was parsed
 pub record Found {V : Type 0} (Spells : List Token → V → Type 0) (before after : List Expected → List Expected) (ts : List Token) (value : V) (rest : List Token) : Type 0 where
   pub read : List Token
   pub all_are : ts ≡ read ++ rest
   pub spells : Spells read value
   pub leads : Leads before after read rest
 
--- a line was read up to the rest, whose first doesn't fit
+-- the tokens before the rest were parsed, and the first of the rest doesn't fit
 pub record Stuck {V : Type 0} (Spells : List Token → V → Type 0) (before : List Expected → List Expected) (ts rest : List Token) : Type 0 where
   pub read : List Token
   pub all_are : ts ≡ read ++ rest
@@ -207,6 +208,6 @@ pub record CountsOf (ts : List Token) (counts : Counts) : Type 0 where
   pub qualifiers : counts.qualifiers ≡ how_many Qualifying ts
   pub after_in : IsTrue counts.after_in ↔ EndsWithIn ts
 
--- so many tokens stand before the first that is one too many
+-- the number of tokens before the first that exceeds a limit
 abbrev pub IsFirstAt : List Token → ℕ → Type 0
 IsFirstAt ts count = (first : FirstTooMany ts) × (count ≡ length first.before)

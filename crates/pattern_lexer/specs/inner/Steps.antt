@@ -1,4 +1,4 @@
--- Steps of the lexer: they serve its private functions alone.
+-- For private clauses: steps of the lexer.
 use Rattle.std.specs.Prelude.{◌≡◌, ◌≢◌, ℕ, ◌<◌, ◌≤◌, ◌⊎◌, ◌==◌, if◌then◌else◌, List, ◌∷◌, ◌++◌, length, drop, slice_range, All, Option, Some, None, IsSome, Result, Ok, Err}
 use Rattle.std.specs.Char.{IsAsciiDigit}
 use Rattle.pattern_lexer.specs.declared.{token.Token.Token, token.TokenKind.TokenKind, refusal.TokenRefusal.TokenRefusal}
@@ -16,7 +16,7 @@ InClass Digit c = IsAsciiDigit c
 InClass NamePart c = IsHyphenWordPart c
 InClass Unquoted c = c ≢ 39
 
--- the longest front of the bytes for which the fact holds, and the rest
+-- the longest prefix of bytes that meet the condition, and the rest
 pub record IsRun (P : ℕ → Type 0) (whole front after : List ℕ) : Type 0 where
   pub spelled : whole ≡ front ++ after
   pub all : All P front
@@ -41,7 +41,7 @@ pub record StartsAsPunctuation (whole : List ℕ) : Type 0 where
 abbrev pub BeginsToken : List ℕ → TokenKind → List ℕ → Type 0
 BeginsToken whole kind after = (text : List ℕ) × IsFirst whole kind text after
 
--- the token stands at the place in the text, and has no refusal
+-- the token is at the offset in the text, and has no refusal
 pub record StandsAt (text : List ℕ) (at : ℕ) (token : Token) : Type 0 where
   pub from : token.from ≡ at
   pub ordered : token.from < token.to
@@ -50,12 +50,12 @@ pub record StandsAt (text : List ℕ) (at : ℕ) (token : Token) : Type 0 where
   pub usable : IsUsable token.kind (text_at text token) (drop token.to text)
   pub value : HasValue token.kind (text_at text token)
 
--- what reading the token at the place answers
+-- the result of reading the token at the offset
 abbrev pub ReadsAt : List ℕ → ℕ → Result Token TokenRefusal → Type 0
 ReadsAt text at (Ok token) = StandsAt text at token
 ReadsAt text at (Err refusal) = IsRefusalAt at (drop at text) refusal
 
--- the tokens stand in the text up to blanks that end at the place
+-- the tokens are in the text up to white space that ends at the offset
 pub record ReadUpTo (text : List ℕ) (tokens : List Token) (at : ℕ) : Type 0 where
   pub within : at ≤ length text
   pub blanks : List ℕ
@@ -63,33 +63,33 @@ pub record ReadUpTo (text : List ℕ) (tokens : List Token) (at : ℕ) : Type 0 
   pub blank : All IsBlank blanks
   pub ends : ¬ HasAt 0 IsBlank (drop at text)
 
--- the kind of what a quote behind the letter opens: 104 is `h`, 98 is `b` and 116 is `t`
+-- the kind of a literal with this prefix letter: 104 is `h`, 98 is `b` and 116 is `t`
 abbrev pub letter_kind : ℕ → Option TokenKind
 letter_kind c = if c == 104 then Some Hex else if c == 98 then Some Binary else if c == 116 then Some Timestamp else None
 
--- no text in quotes behind a letter that may stand there begins the text
+-- no literal with a prefix letter begins the text
 abbrev pub HasNoPrefixed : List ℕ → Type 0
 HasNoPrefixed whole = (letter : ℕ) (inside more : List ℕ) → IsSome (letter_kind letter) → All (λ c. c ≢ 39) inside
     → whole ≢ letter ∷ 39 ∷ (inside ++ 39 ∷ more)
 
--- the refusal of a token that stands for nothing
+-- the refusal of a token without a value
 abbrev pub invalid_value_refusal : TokenKind → ℕ → TokenRefusal
 invalid_value_refusal Number at = BadNumber at
 invalid_value_refusal Timestamp at = BadTime at
 invalid_value_refusal _ at = BadBytes at
 
--- blanks stand from the first place to the second, and none behind
+-- white space from the first offset to the second, and none after it
 pub record ArePassed (text : List ℕ) (from to : ℕ) : Type 0 where
   pub ordered : from ≤ to
   pub within : to ≤ length text
   pub blank : All IsBlank (slice_range text from to)
   pub ends : ¬ HasAt 0 IsBlank (drop to text)
 
--- the kind of the punctuation that is this byte
+-- the kind of a one-byte mark
 abbrev pub single_kind : ℕ → Option TokenKind
 single_kind c =
     if c == 91 then Some SquareOpen else if c == 93 then Some SquareClose else if c == 40 then Some RoundOpen else if c == 41 then Some RoundClose else if c == 46 then Some Dot else if c == 58 then Some Colon else if c == 44 then Some Comma else if c == 42 then Some Star else if c == 61 then Some Equal else if c == 60 then Some Less else if c == 62 then Some Greater else None
 
--- the kind of the punctuation that is this byte and `=`
+-- the kind of the mark of this byte and `=`
 abbrev pub double_kind : ℕ → Option TokenKind
 double_kind c = if c == 33 then Some Differ else if c == 60 then Some LessEqual else if c == 62 then Some GreaterEqual else None

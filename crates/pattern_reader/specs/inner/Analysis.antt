@@ -1,4 +1,4 @@
--- What private functions answer of the parts of a syntax tree.
+-- For private clauses: the results for the parts of a syntax tree.
 use Rattle.std.specs.Prelude.{◌≡◌, ◌↔◌, ℕ, List, Result, IfOk, ◌⊎◌, Ok, Err}
 use Rattle.std.specs.Result.{result_err}
 use Rattle.pattern_grammar.specs.Tree.{Comparison}
@@ -9,7 +9,7 @@ use Rattle.pattern_types.specs.Soundness.{IsSoundLeaf, AreSoundLeaves}
 use Rattle.pattern_reader.specs.ValueRefusal.{IsEarliestOf, Precedes}
 use Rattle.pattern_reader.specs.Refusals.{RefusalOfComparison, HasRoot, first_of}
 
--- it is this, or the earliest of its refusals
+-- the value, or the earliest of its refusals
 pub record IsOutcome {T : Type 0} (IsThis : T → Type 0) (IsRefusal : ValueRefusal → Type 0) (outcome : Result T ValueRefusal) : Type 0 where
   pub this : IfOk outcome IsThis
   pub earliest : IsEarliestOf IsRefusal (result_err outcome)
@@ -19,7 +19,7 @@ pub record IsLeafOf (text : List ℕ) (c : Comparison) (leaf : Leaf) : Type 0 wh
   pub means : Means text c (plain_leaf leaf)
   pub sound : IsSoundLeaf (plain_leaf leaf)
 
--- what a comparison is judged by
+-- the attributes of a comparison
 pub record IsAnalysis (text : List ℕ) (c : Comparison) (analysis : Analysis) : Type 0 where
   pub at : analysis.at ≡ (first_of c).from
   pub roots : (root : List ℕ) → Has analysis.roots root ↔ HasRoot text c root
@@ -37,13 +37,13 @@ IsJoined join (Err p) (Ok b) (Err r) = r ≡ p
 IsJoined join (Err p) (Err q) (Err r) = IsFirstOfTwo p q r
 IsJoined join _ _ _ = ⊥
 
--- the sound parts of a chain of AND, which have a root kind in common
+-- the sound operands of a chain of AND, which have a root kind in common
 pub record AreAll (text : List ℕ) (c : Comparison) (parts : List Leaf) : Type 0 where
   pub means : AllParts text c (listed parts)
   pub sound : AreSoundLeaves (listed parts)
   pub rooted : (root : List ℕ) × HasRoot text c root
 
--- the sound parts of a chain of OR
+-- the sound operands of a chain of OR
 pub record AreAny (text : List ℕ) (c : Comparison) (parts : List Leaf) : Type 0 where
   pub means : AnyParts text c (listed parts)
   pub sound : AreSoundLeaves (listed parts)

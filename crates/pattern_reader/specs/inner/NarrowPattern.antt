@@ -1,4 +1,4 @@
--- Patterns that aren't too wide: they serve private functions alone.
+-- For private clauses: patterns within the limits on width and brackets.
 use Rattle.std.specs.Prelude.{◌≡◌, ◌≤◌, ℕ, List, Option, Some, None, Result, IfOk, IfSome}
 use Rattle.pattern_grammar.specs.Tree.{Tree, both, either, followed}
 use Rattle.pattern_types.specs.PlainPattern.{PlainPattern, plain_pattern, a_both, an_either, a_then}
@@ -8,19 +8,19 @@ use Rattle.pattern_reader.specs.declared.{narrow_pattern.NarrowPattern.NarrowPat
 use Rattle.pattern_reader.specs.{Refusals.RefusalOf, Answer.IsMeant, Answer.IsWidelyMeant, inner.Analysis.IsOutcome}
 use Rattle.pattern_reader.specs.declared.narrow_pattern.Operator.{Operator, TheVariants.Both, TheVariants.Either, TheVariants.Then}
 
--- the pattern has this width and so many pairs of brackets, and is not too wide
+-- the pattern has this width and number of pairs of brackets, and is within both limits
 pub record IsNarrow (narrow : NarrowPattern) : Type 0 where
   pub width : narrow.width ≡ width (plain_pattern narrow.pattern)
   pub brackets : narrow.brackets ≡ brackets (plain_pattern narrow.pattern)
   pub within : narrow.width ≤ MAX_WIDTH
   pub few : narrow.brackets ≤ MAX_BRACKETS
 
--- it is this pattern, or none where the pattern is too wide
+-- this pattern, or none if it is too wide
 abbrev pub UnlessTooWide : PlainPattern → Option NarrowPattern → Type 0
 UnlessTooWide pattern (Some narrow) = (plain_pattern narrow.pattern ≡ pattern) × IsNarrow narrow
 UnlessTooWide pattern None = IsTooWide pattern
 
--- where it is a pattern, it has its measure
+-- if it is a pattern, its width and brackets are right
 abbrev pub IsNarrowPart : Result (Option NarrowPattern) ValueRefusal → Type 0
 IsNarrowPart part = IfOk part (λ found. IfSome found IsNarrow)
 
@@ -29,17 +29,17 @@ abbrev pub IsPartOf : List ℕ → Tree → Option NarrowPattern → Type 0
 IsPartOf text tree (Some narrow) = IsMeant text tree (plain_pattern narrow.pattern) × IsNarrow narrow
 IsPartOf text tree None = IsWidelyMeant text tree
 
--- or it is its earliest refusal
+-- or the earliest refusal
 abbrev pub IsPartOutcome : List ℕ → Tree → Result (Option NarrowPattern) ValueRefusal → Type 0
 IsPartOutcome text tree outcome = IsOutcome (IsPartOf text tree) (RefusalOf text tree) outcome
 
--- what an operator joins trees to
+-- the syntax tree of an operator
 abbrev pub tree_by : Operator → Tree → Tree → Tree
 tree_by Both = both
 tree_by Either = either
 tree_by Then = followed
 
--- what it joins patterns to
+-- the pattern of an operator
 abbrev pub meant_by : Operator → PlainPattern → PlainPattern → PlainPattern
 meant_by Both = a_both
 meant_by Either = an_either

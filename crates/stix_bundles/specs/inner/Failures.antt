@@ -1,4 +1,4 @@
--- For private clauses: the first failure that the code finds, as FailsAt tells it.
+-- For private clauses: the first failure that the code finds, in terms of FailsAt.
 use Rattle.std.specs.Prelude.{ℕ, List, [], ◌∷◌, codes}
 use Rattle.serde_json.specs.Data.{Data}
 use Rattle.stix_json.specs.Walk.{index_part}
@@ -6,7 +6,7 @@ use Rattle.stix_bundles.specs.declared.outline.Failure.{Failure}
 use Rattle.stix_bundles.specs.declared.outline.Failure.TheVariants.{NoObject, NoType, NoId, NoList, NoMember}
 use Rattle.stix_bundles.specs.Bundle.{IsListOf, IsFirstNoObject}
 
--- the parts of the path to what fails
+-- the parts of the path to the value that fails
 abbrev pub failed_parts : Failure → List (List ℕ)
 failed_parts NoObject = []
 failed_parts NoType = codes "type" ∷ []
@@ -14,7 +14,7 @@ failed_parts NoId = codes "id" ∷ []
 failed_parts NoList = codes "objects" ∷ []
 failed_parts (NoMember at) = codes "objects" ∷ index_part at ∷ []
 
--- what fails in the value of `objects`
+-- the failure in the value of `objects`
 abbrev pub FailsInObjects : Data → Failure → Type 0
 FailsInObjects value NoObject = ⊥
 FailsInObjects value NoType = ⊥
@@ -22,7 +22,7 @@ FailsInObjects value NoId = ⊥
 FailsInObjects value NoList = (members : List Data) → ¬ IsListOf value members
 FailsInObjects value (NoMember at) = (members : List Data) × IsListOf value members × IsFirstNoObject members at
 
--- what fails in a list of members
+-- the failure in a list of members
 abbrev pub FailsInMembers : List Data → Failure → Type 0
 FailsInMembers members NoObject = ⊥
 FailsInMembers members NoType = ⊥

@@ -1,4 +1,4 @@
--- For private clauses: the observed-data objects by the times at which they were last observed.
+-- For private clauses: the observed-data objects by their last_observed.
 use Rattle.std.specs.Prelude.{◌≡◌, ◌⊎◌, ◌==◌, ℕ, ◌+◌, ◌<◌, ◌≤◌, ◌<ℤ◌, List, length, map, take, All, Contains, Some, slice_get, codes}
 use Rattle.std.specs.List.{IsDistinct}
 use Rattle.serde_json.specs.Data.{Data}
@@ -15,7 +15,7 @@ pub record IsLastTimeOf (objects : List Data) (last_time : LastTime) : Type 0 wh
   pub observed : IsObservedData object
   pub last : IsTimestampAt Any (codes "last_observed") object last_time.last
 
--- the last times of the observed-data before a place, one for each
+-- the last times of the observed-data before a position, one for each
 pub record AreLastTimesBefore (objects : List Data) (end : ℕ) (last_times : List LastTime) : Type 0 where
   pub each : All (IsLastTimeOf objects) last_times
   pub before : All (λ m. m.at < end) last_times
@@ -27,11 +27,11 @@ pub record AreLastTimesBefore (objects : List Data) (end : ℕ) (last_times : Li
 abbrev pub AreLastTimes : List Data → List LastTime → Type 0
 AreLastTimes objects last_times = AreLastTimesBefore objects (length objects) last_times
 
--- the last time comes before the other, or is at the same time and doesn't stand after it
+-- the last time is less than or equal to the other, by time and then by position
 abbrev pub IsUpTo : LastTime → LastTime → Type 0
 IsUpTo last_time other = (last_time.last <ℤ other.last) ⊎ ((last_time.last ≡ other.last) × (last_time.at ≤ other.at))
 
--- each last time is up to the next one
+-- the last times are sorted
 abbrev pub AreInOrder : List LastTime → Type 0
 AreInOrder last_times = (k : ℕ) (m n : LastTime) → slice_get last_times k ≡ Some m → slice_get last_times (k + 1) ≡ Some n → IsUpTo m n
 

@@ -1,5 +1,5 @@
--- For private clauses: what stands first against a value that may have so many levels. The lemmas of proofs/DefectLemmas.antt say
--- that it is what the value is refused for.
+-- For private clauses: the first error of a value that may nest this many levels. The lemmas of
+-- proofs prove that it is the refusal of specs/Refusal.antt.
 use Rattle.std.specs.Prelude.{ℕ, zero, suc, ◌+◌, List, Option, Some, None, option_map}
 use Rattle.serde_json.specs.Data.{Data, null, boolean, number, string, array, object, Items, no_items, item, Members, no_members, member}
 use Rattle.stix_json.specs.declared.location.Location.TheVariants.{Here}
@@ -13,12 +13,12 @@ use Rattle.stix_json.specs.declared.read_error.ReadError.TheVariants.{NotJson as
 use Rattle.stix_json.specs.Walk.{index_part}
 use Rattle.stix_json.specs.inner.ValueErrors.{under, path_of, value_error_under, refusal_at, number_value_error, value_error_here}
 
--- the same, seen from one part higher
+-- the error as seen from one part higher
 abbrev pub first_error_under : List ℕ → FirstError → FirstError
 first_error_under part (Deep location) = Deep (under part location)
 first_error_under part (InvalidValue value_error) = InvalidValue (value_error_under part value_error)
 
--- what counts of what stands against the values before and against those behind: the first that is too deep, else the first
+-- the error that counts of an earlier and a later one: the first that is too deep, else the first
 abbrev pub first_of : Option FirstError → Option FirstError → Option FirstError
 first_of None later = later
 first_of (Some (Deep location)) later = Some (Deep location)
@@ -26,7 +26,7 @@ first_of (Some (InvalidValue value_error)) None = Some (InvalidValue value_error
 first_of (Some (InvalidValue value_error)) (Some (Deep location)) = Some (Deep location)
 first_of (Some (InvalidValue value_error)) (Some (InvalidValue later)) = Some (InvalidValue value_error)
 
--- what stands first against a value in which so many levels of lists and objects may stand
+-- the first error of a value that may have this many levels of lists and objects
 abbrev mutual
   pub first_error : ℕ → Data → Option FirstError
   first_error levels null = Some (InvalidValue (record { reason = IsNull; location = Here }))
@@ -38,7 +38,7 @@ abbrev mutual
   first_error zero (object ms) = Some (Deep Here)
   first_error (suc levels) (object ms) = members_first_error levels ms
 
-  -- of the items from a place on
+  -- of the items from an index on
   pub items_first_error : ℕ → ℕ → Items → Option FirstError
   items_first_error levels at no_items = None
   items_first_error levels at (item d ds) = first_of (option_map (first_error_under (index_part at)) (first_error levels d)) (items_first_error levels (at + 1) ds)
@@ -47,12 +47,12 @@ abbrev mutual
   members_first_error levels no_members = None
   members_first_error levels (member name d ms) = first_of (option_map (first_error_under name) (first_error levels d)) (members_first_error levels ms)
 
--- the refusal of a whole value against which this stands first
+-- the refusal of a whole value with this first error
 abbrev pub refusal_of_first_error : FirstError → JsonRefusal
 refusal_of_first_error (Deep location) = TooDeep (path_of location)
 refusal_of_first_error (InvalidValue value_error) = refusal_at value_error
 
--- and of bytes that give no value
+-- the refusal of bytes that yield no value
 abbrev pub refusal_of_read_error : ReadError → JsonRefusal
 refusal_of_read_error NoValue = NotJson
 refusal_of_read_error OutOfMemory = NoMemory

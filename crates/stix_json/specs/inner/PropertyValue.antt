@@ -1,4 +1,4 @@
--- For private clauses: the properties of an object, of which lists are checked item by item.
+-- For private clauses: the properties of an object, with lists checked item by item.
 use Rattle.std.specs.Prelude.{◌≡◌, ◌≢◌, ⊤, ℕ, Bool, true, false, List, Option, None, Some}
 use Rattle.json.specs.Token.{Token}
 use Rattle.serde_json.specs.Data.{Data, Items, Members, object, array}
@@ -17,7 +17,7 @@ use Rattle.stix_json.specs.inner.Checking.{IsCheckedAs}
 abbrev pub property_name : Property → List ℕ
 property_name property = property.name
 
--- a list with its entries, or another value, checked
+-- a list with its entries, or another checked value
 abbrev pub IsPropertyValue : Data → PropertyValue → Type 0
 IsPropertyValue d (ListOf entries) = (list : Items) × (d ≡ array list) × AreEntriesFor list entries
 IsPropertyValue d (Value checked) = ((list : Items) → d ≢ array list) × IsCheckedAs MAX_LEVELS d checked
@@ -28,14 +28,14 @@ MayBePropertyValue None (Some property) = ⊥
 MayBePropertyValue (Some d) None = ⊥
 MayBePropertyValue (Some d) (Some property) = IsPropertyValue d property.property_value
 
--- the last property of each name holds what the name finds
+-- the last property of each name has the value found by the name
 abbrev pub HoldsProperties : Members → List Property → Type 0
 HoldsProperties ms properties = (q : List ℕ) → MayBePropertyValue (get_member q ms) (last_named property_name q properties)
 
 abbrev pub IsNoObject : Data → Type 0
 IsNoObject d = (ms : Members) → d ≢ object ms
 
--- why bytes give no properties; memory may run out at any time
+-- why bytes yield no properties; memory may run out at any time
 abbrev pub IsNotReadAsProperties : List ℕ → JsonRefusal → Type 0
 IsNotReadAsProperties bytes NotJson = HasNoValue bytes
 IsNotReadAsProperties bytes (TooDeep path) = ⊥

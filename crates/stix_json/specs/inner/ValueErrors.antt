@@ -1,5 +1,5 @@
--- For private clauses: the first value error of a value and the first value past the last level, by recursion. The lemmas of
--- proofs/WalkLemmas.antt say that these are the first in walk order.
+-- For private clauses: the first invalid value and the first value past the last level, by
+-- recursion. The lemmas of proofs/WalkLemmas.antt prove that these are the first in walk order.
 use Rattle.std.specs.Prelude.{ℕ, zero, suc, ◌+◌, List, [], ◌∷◌, ◌++◌, nat_le, if◌then◌else◌, ℤ, unsigned_abs, Option, Some, None, option_map}
 use Rattle.std.specs.Option.{option_or}
 use Rattle.serde_json.specs.Data.{Num, Data, null, boolean, number, string, array, object, Items, no_items, item, Members, no_members, member}
@@ -14,7 +14,7 @@ use Rattle.stix_json.specs.declared.refusal.JsonRefusal.{JsonRefusal}
 use Rattle.stix_json.specs.declared.refusal.JsonRefusal.TheVariants.{NotWhole, Null, OutOfRange}
 use Rattle.stix_json.specs.Walk.{index_part}
 
--- the same place, seen from one part higher
+-- the location as seen from one part higher
 abbrev pub under : List ℕ → Location → Location
 under part Here = Below part
 under part (Below path) = Below (part ++ 46 ∷ path)
@@ -26,7 +26,7 @@ path_of (Below path) = path
 abbrev pub value_error_under : List ℕ → ValueError → ValueError
 value_error_under part value_error = record { reason = value_error.reason; location = under part value_error.location }
 
--- the refusal of a whole value with this value error
+-- the refusal of a whole value with this error
 abbrev pub refusal_for : Reason → List ℕ → JsonRefusal
 refusal_for NoWhole path = NotWhole path
 refusal_for IsNull path = Null path
@@ -62,7 +62,7 @@ abbrev mutual
   members_value_error no_members = None
   members_value_error (member name d ms) = option_or (option_map (value_error_under name) (first_value_error d)) (members_value_error ms)
 
--- the first list or object with more levels than are left
+-- the first list or object past the levels left
 abbrev mutual
   pub too_deep : ℕ → Data → Option Location
   too_deep left null = None

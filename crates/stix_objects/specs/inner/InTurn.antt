@@ -1,4 +1,4 @@
--- For private clauses: two texts that are timestamps, in turn.
+-- For private clauses: two texts that are timestamps in ascending order.
 use Rattle.std.specs.Prelude.{ℕ, ℤ, ◌<ℤ◌, List}
 use Rattle.stix_objects.specs.declared.form.Precision.{Precision}
 use Rattle.stix_objects.specs.Singles.{IsTimestampOf}

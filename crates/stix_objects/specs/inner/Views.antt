@@ -1,4 +1,4 @@
--- For private clauses: the code's tables as the definitions' tables, and what the code finds as what is found.
+-- For private clauses: the code's tables and violations, as those of the definitions.
 use Rattle.std.specs.Prelude.{ℕ, List, [], ◌∷◌, ◌++◌, Bool, true, false, map, option_map, option_to_list}
 use Rattle.stix_json.specs.Walk.{index_part}
 use Rattle.stix_objects.specs.declared.form.Single.{Single as SingleIn}
@@ -22,7 +22,7 @@ use Rattle.stix_objects.specs.BreakAt.{BreakAt}
 use Rattle.stix_objects.specs.Form.{Single, any_text, kind, version, one_of, timestamp, any_reference, reference, any_boolean, integer_in, object, texts_by_name, Part, must, may, some_of, Form, one, list, records}
 use Rattle.stix_objects.specs.Row.{Condition, is_true, is_false, meets, absent, Row, required, optional, required_where, own_id, order, strict_order, needs_one_of, excludes, statement, colour, colour_id, CommonRow, for, unless_own, ObjectType}
 
--- what one value must be
+-- the type of one value
 abbrev pub single_view : SingleIn → Single
 single_view SingleIn.Text = any_text
 single_view SingleIn.Kind = kind
@@ -36,26 +36,26 @@ single_view (SingleIn.Integer least most) = integer_in least most
 single_view SingleIn.Object = object
 single_view SingleIn.Hashes = texts_by_name
 
--- what an object in a list must have
+-- the requirement on the objects of a list
 abbrev pub part_view : PartIn → Part
 part_view (PartIn.Must name single) = must name.now (single_view single)
 part_view (PartIn.May name single) = may name.now (single_view single)
 part_view (PartIn.SomeOf names) = some_of (map (λ name. name.now) names.now)
 
--- what a property must be
+-- the type of a property
 abbrev pub form_view : FormIn → Form
 form_view (FormIn.One single) = one (single_view single)
 form_view (FormIn.List single) = list (single_view single)
 form_view (FormIn.Records parts) = records (map part_view parts.now)
 
--- what may hold of an object
+-- the condition on an object
 abbrev pub condition_view : ConditionIn → Condition
 condition_view (ConditionIn.IsTrue name) = is_true name.now
 condition_view (ConditionIn.IsFalse name) = is_false name.now
 condition_view (ConditionIn.Meets name form) = meets name.now (form_view form)
 condition_view (ConditionIn.Absent name) = absent name.now
 
--- what an object must meet
+-- the requirement on an object
 abbrev pub row_view : RowIn → Row
 row_view (RowIn.Required name form) = required name.now (form_view form)
 row_view (RowIn.Optional name form) = optional name.now (form_view form)
@@ -69,7 +69,7 @@ row_view RowIn.Statement = statement
 row_view RowIn.Colour = colour
 row_view RowIn.ColourId = colour_id
 
--- the group, where it is one of them
+-- the group, if the flag is set
 abbrev pub only_if : Bool → Group → List Group
 only_if true group = group ∷ []
 only_if false group = []
@@ -88,26 +88,26 @@ common_view (CommonRowIn.UnlessOwn groups name row) = unless_own (groups_view gr
 abbrev pub type_view : ObjectTypeIn → ObjectType
 type_view type = record { name = type.name.now; group = type.group; rows = map row_view type.rows.now }
 
--- what is found in an object of a list
+-- the violation in an object of a list
 abbrev pub item_break_view : ItemBreak → BreakAt
 item_break_view item_break = record { rule = item_break.rule; parts = option_to_list (option_map (λ name. name.now) item_break.part) }
 
--- the parts of the path from a value to a place in it
+-- the parts of the path from a value to a location in it
 abbrev pub value_location_parts : ValueLocation → List (List ℕ)
 value_location_parts Here = []
 value_location_parts (Item at) = index_part at ∷ []
 value_location_parts (ItemPart at name) = index_part at ∷ name.now ∷ []
 
--- what is found in the value of a property
+-- the violation in the value of a property
 abbrev pub value_break_view : ValueBreak → BreakAt
 value_break_view value_break = record { rule = value_break.rule; parts = value_location_parts value_break.location }
 
--- the parts of the path from an object to a place in it
+-- the parts of the path from an object to a location in it
 abbrev pub object_location_parts : ObjectLocation → List (List ℕ)
 object_location_parts Whole = []
 object_location_parts (Property name location) = name.now ∷ value_location_parts location
 object_location_parts (Within outer inner) = outer.now ∷ inner.now ∷ []
 
--- what is found in an object
+-- the violation in an object
 abbrev pub row_break_view : RowBreak → BreakAt
 row_break_view row_break = record { rule = row_break.rule; parts = object_location_parts row_break.object_location }

@@ -1,4 +1,4 @@
-//! The rows that the types share, in their order (STIX 2.1, sections 3.2 and 6).
+//! The common rows, in order (STIX 2.1, sections 3.2 and 6).
 
 ghost use Rattle.std.specs.Prelude.{◌≡◌, map};
 ghost use Rattle.stix_objects.specs.CommonRows.{common_rows as shared_rows};
@@ -108,7 +108,7 @@ const COMMON_ROWS: &[CommonRow] = &[
     CommonRow::For(DOMAIN, Row::Optional("description", TEXT)),
 ];
 
-/// The common rows, each with the groups for which it stands.
+/// The common rows, each with the groups to which it applies.
 pub(crate) fn common_rows() -> &'static [CommonRow]
     ensures { map common_view result.now ≡ shared_rows }
 {

@@ -1,12 +1,12 @@
-//! The own rows of the domain objects, the relationship objects and the marking-definition (STIX 2.1,
-//! sections 4, 5 and 7.2).
+//! The own rows of the domain objects, the relationship objects and the marking-definition
+//! (STIX 2.1, sections 4, 5 and 7.2).
 
 use crate::form::{
     BOOLEAN, FIELDS, Form, PHASES, Precision, REF_ANY, REFS_ANY, Single, TEXT, TEXTS, TIME,
 };
 use crate::row::{Condition, Row};
 
-/// A name, and no more: course-of-action (section 4.3), identity (4.5) and vulnerability (4.19).
+/// Only a name: course-of-action (section 4.3), identity (4.5) and vulnerability (4.19).
 pub(crate) const NAMED: &[Row] = &[Row::Required("name", TEXT)];
 
 /// A name and phases: attack-pattern (section 4.1) and tool (4.18).

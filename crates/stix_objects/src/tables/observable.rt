@@ -3,7 +3,7 @@
 use crate::form::{BOOLEAN, FIELDS, Form, HASHES, LISTED, Precision, Single, TEXT, TEXTS, TIME};
 use crate::row::{Condition, Row};
 
-/// What network traffic comes from and goes to.
+/// The kinds of the source and the destination of network traffic.
 const ENDPOINTS: Form = Form::One(Single::Ref(&[
     "ipv4-addr",
     "ipv6-addr",
@@ -11,7 +11,7 @@ const ENDPOINTS: Form = Form::One(Single::Ref(&[
     "domain-name",
 ]));
 
-/// A value, and no more: mac-addr (section 6.10) and url (6.15).
+/// Only a value: mac-addr (section 6.10) and url (6.15).
 pub(crate) const VALUED: &[Row] = &[Row::Required("value", TEXT)];
 
 /// Section 6.1: artifact.

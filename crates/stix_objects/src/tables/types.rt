@@ -1,4 +1,4 @@
-//! The object types with rows of their own (STIX 2.1, sections 4 to 7).
+//! The object types with their own rows (STIX 2.1, sections 4 to 7).
 
 ghost use Rattle.std.specs.Prelude.{◌≡◌, ◌++◌, map};
 ghost use Rattle.std.specs.List.{flat_map};
@@ -9,9 +9,11 @@ use crate::Group;
 use crate::object_type::ObjectType;
 use crate::tables::{domain, observable};
 
-/// All types, in tables that follow one another. They are short, since what a constant costs its proof ascends faster than its length.
+/// All types, in several short tables: the proof of a constant takes more than linear time in its
+/// length.
 pub(crate) fn type_tables() -> [&'static [ObjectType]; 9]
-    ensures { flat_map (λ types. map type_view types.now) result ≡ domain_types ++ observable_types }
+    ensures { flat_map (λ types. map type_view types.now) result
+        ≡ domain_types ++ observable_types }
 {
     [
         FROM_ATTACK_PATTERN,

@@ -1,4 +1,5 @@
--- For private clauses: what is kept of all versions before a place, and a break that is told where a test says so.
+-- For private clauses: the state kept of all versions before a position, and a violation that is
+-- reported under a condition.
 use Rattle.std.specs.Prelude.{ℕ, List, [], ◌∷◌, Bool, if◌then◌else◌}
 use Rattle.serde_json.specs.Data.{Data}
 use Rattle.stix_versions.specs.declared.version_break.VersionBreak.{VersionBreak}
@@ -6,11 +7,11 @@ use Rattle.stix_versions.specs.declared.versions.History.{History}
 use Rattle.stix_versions.specs.inner.FirstVersions.{AreCreatedBefore}
 use Rattle.stix_versions.specs.inner.Duplicates.{AreDuplicatesBefore}
 
--- what is kept of the versions before the place
+-- the state kept of the versions before the position
 pub record AreVersionsBefore (objects : List Data) (end : ℕ) (seen : History) : Type 0 where
   pub created : AreCreatedBefore objects end seen.created
   pub duplicates : AreDuplicatesBefore objects end seen.duplicates
 
--- the break where the test says so
+-- the violation, if the condition holds
 abbrev pub only_if : Bool → VersionBreak → List VersionBreak
 only_if broken break = if broken then break ∷ [] else []

@@ -1,4 +1,4 @@
--- For private clauses: the values of `selectors` one by one, and the breaks of one object.
+-- For private clauses: the values of `selectors` one by one, and the violations of one object.
 use Rattle.std.specs.Prelude.{◌≡◌, List, ℕ, None, codes, option_and_then, Some}
 use Rattle.serde_json.specs.Data.{Data, string}
 use Rattle.serde_json.specs.Find.{get, as_array}
@@ -14,7 +14,7 @@ pub record IsSelectorText (value : Data) : Type 0 where
   pub is_text : value ≡ string text
   pub selector : IsSelector text parts
 
--- the value is the text of a selector that names nothing in the object
+-- the value is the text of a selector that selects nothing in the object
 pub record Misses (object value : Data) : Type 0 where
   pub text : List ℕ
   pub parts : List Part
@@ -22,7 +22,7 @@ pub record Misses (object value : Data) : Type 0 where
   pub selector : IsSelector text parts
   pub missing : value_at parts object ≡ None
 
--- a list of these values stands at the name
+-- the property is a list of these values
 abbrev pub IsListAt : List ℕ → Data → List Data → Type 0
 IsListAt name d values = option_and_then as_array (get name d) ≡ Some (items_of values)
 
@@ -30,6 +30,6 @@ IsListAt name d values = option_and_then as_array (get name d) ≡ Some (items_o
 abbrev pub IsWellNamed : Data → Type 0
 IsWellNamed marking = HasOne marking × (Has (codes "marking_ref") marking → RefersToMarking marking)
 
--- the breaks of the markings of the object at the place
+-- the violations of the markings of the object at the position
 abbrev pub AreOwnBreaks : ℕ → Data → List MarkingBreak → Type 0
 AreOwnBreaks place d own = (markings : List Data) × AreMarkings d markings × AreBreaksOfMarkings place d 0 markings own

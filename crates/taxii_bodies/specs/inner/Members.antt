@@ -11,7 +11,7 @@ use Rattle.taxii_bodies.specs.Status.{status_id_of}
 abbrev pub members_in : Fields → List Member
 members_in fields = map field_data fields.fields.items
 
--- a list under a name, where it isn't empty
+-- a list under a name, where it is not empty
 abbrev pub list_member : List ℕ → List Data → List Member
 list_member name [] = []
 list_member name (value ∷ values) = record { name = name; value = array (items_of (value ∷ values)) } ∷ []

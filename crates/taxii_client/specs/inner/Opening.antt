@@ -1,4 +1,4 @@
--- What private calls of a copy say.
+-- The results of private functions of a copy.
 use Rattle.std.specs.Prelude.{◌≡◌, ℕ, List, Option, Some, None, IfSome}
 use Rattle.taxii_rows.specs.Keeper.{Kept}
 use Rattle.taxii_rows.specs.SoundRow.{IsSoundState}
@@ -9,7 +9,7 @@ use Rattle.taxii_client.specs.Absorbing.{MirrorState}
 use Rattle.taxii_client.specs.declared.stop.FetchStop.{FetchStop}
 use Rattle.taxii_client.specs.declared.stop.FetchStop.TheVariants as Stop
 
--- why no page is asked for behind one that didn't come so; nothing where it was lost
+-- why the copy ends after a failed fetch; nothing if the fetch was lost
 abbrev pub stop_of : PageEnd → Option FetchStop
 stop_of Page.Fault = None
 stop_of Page.Cut = None

@@ -1,4 +1,5 @@
--- What the private parts that write the head of an answer leave. No public contract cites these.
+-- The results of the private functions that write the head of a response. No public contract cites
+-- these.
 use Rattle.std.specs.Prelude.{◌≡◌, ℕ, Bool, List, ◌++◌, Option}
 use Rattle.http_messages.specs.Lines.{line_if_some}
 use Rattle.taxii_exchange.specs.declared.answer.Answer.{Answer}

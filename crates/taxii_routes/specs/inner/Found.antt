@@ -1,4 +1,4 @@
--- What a look-up of the router gives, in the words of `matchit`.
+-- The result of a lookup, in terms of `matchit`.
 use Rattle.std.specs.Prelude.{◌≡◌, ℕ, List, Some, codes}
 use Rattle.matchit.specs.Params.{walk, AllText, named}
 use Rattle.matchit.specs.declared.params.Params.{Params}
@@ -14,12 +14,12 @@ Taken = List (List ℕ × List ℕ)
 abbrev pub taken : Params → Taken
 taken params = walk params.pattern.now params.text.now params.path.now params.names.now 0 0
 
--- the value stands for the name, and all is text
+-- the value represents the name, and all is text
 pub record Takes (took : Taken) (name value : List ℕ) : Type 0 where
   pub found : named name took ≡ Some value
   pub texts : AllText took
 
--- the path has a route of the endpoint, whose texts stand for their names
+-- the path has a route of the endpoint, whose texts represent their names
 abbrev pub Found : Endpoint → List ℕ → Taken → Type 0
 Found Endpoint.Discovery path took = IsPathOf path Route.Discovery
 Found Endpoint.Root path took = IsPathOf path Route.Root

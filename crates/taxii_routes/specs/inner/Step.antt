@@ -26,7 +26,7 @@ pub record Adds (param : Param) (value : List ℕ) (old new : Query) : Type 0 wh
   pub means : IsValueOf param value meaning
   pub change : new ≡ put param (Some meaning) old
 
--- why a value can't be added
+-- why a value cannot be added
 abbrev pub CannotAdd : Param → List ℕ → Query → QueryRefusal → Type 0
 CannotAdd param value old (Repeated name) = (name ≡ param) × (asked param old ≢ None)
 CannotAdd param value old (BadValue name) = (name ≡ param) × (asked param old ≡ None) × (¬ HasMeaning param value)
@@ -38,7 +38,7 @@ Steps name value old new =
     ((param : Param) × (text_of name ≡ name_of param) × Adds param (text_of value) old new)
     ⊎ (((param : Param) → text_of name ≢ name_of param) × (new ≡ old))
 
--- why it can't
+-- why it cannot
 abbrev pub Stops : List ℕ → List ℕ → Query → QueryRefusal → Type 0
 Stops name value old refusal =
     (refusal ≡ NoMemory) ⊎ ((param : Param) × (text_of name ≡ name_of param) × CannotAdd param (text_of value) old refusal)

@@ -1,12 +1,13 @@
--- The rows of the router, in the words of `matchit`. That they are the paths of specs/Route.antt is proved
--- in proofs/TableLemmas.antt. Of the tokens of a pattern, 256 is a parameter and the others are bytes.
+-- The paths of the router, in terms of `matchit`. proofs/TableLemmas.antt proves that they are the
+-- paths of specs/Route.antt. In a pattern's tokens, 256 is a parameter and the others are bytes.
 use Rattle.std.specs.Prelude.{ℕ, List, [], ◌∷◌, ◌++◌, codes}
 use Rattle.matchit.specs.Rows.{RowsOf}
 use Rattle.matchit.specs.Router.{RouteOf}
 use Rattle.taxii_routes.specs.declared.endpoint.Endpoint.{Endpoint}
 use Rattle.taxii_routes.specs.declared.endpoint.Endpoint.TheVariants.{Discovery, Root, Status, Collections, Collection, Manifest, Objects, Object, Versions}
 
--- a row: its pattern, the text that it was read from, where the names stand in that text, and its endpoint
+-- a row: its pattern, the text that it was read from, where the names stand in that text, and its
+-- endpoint
 abbrev pub row : List ℕ → List ℕ → List (ℕ × ℕ) → Endpoint → List ℕ × RouteOf Endpoint
 row pattern text names endpoint = (pattern, record { pattern = pattern; text = text; names = names; value = endpoint })
 

@@ -1,4 +1,4 @@
--- What one request gets, and what is said where there is none.
+-- Responding to one request, and the last response if there is none.
 use Rattle.std.specs.Prelude.{◌≡◌, ◌⊎◌, ℕ, List, [], ◌∷◌, Bool, true, ◌||◌, Option, Some, None, Result, MatchResult}
 use Rattle.flow_edges.specs.Flow.{written_with, WritesPart}
 use Rattle.http_messages.specs.declared.request.Request.{Request}
@@ -36,13 +36,14 @@ IsClosing (Refused refusal) closing_answer = (answer : Answer) × (closing_answe
 IsClosing NoMemory closing_answer = closing_answer ≡ Some no_memory_answer
 IsClosing Failed closing_answer = closing_answer ≡ None
 
--- where nothing is said, nothing was written, and the call failed where a read had; what is said was written, or less than all of it
+-- without a last response, nothing was written, and the call failed if a read had failed; otherwise
+-- the response was written, or a part of it
 abbrev pub SaysClosingAnswer : {T E : Type 0} → ReceiveEnd → Option Answer → Option (List ℕ) → Option (List ℕ) → Result T E → Type 0
 SaysClosingAnswer receive_end None written now result = (now ≡ written) × MatchResult result (λ _. receive_end ≡ AtEnd) (λ _. receive_end ≡ Failed)
 SaysClosingAnswer receive_end (Some answer) written now result = (text : List ℕ) × IsAnswerText answer true text
     × MatchResult result (λ _. now ≡ written_with text written) (λ _. WritesPart text written now)
 
--- the closing answer of a receive end
+-- the closing answer for the reason why receiving ended
 pub record WritesClosingAnswer {T E : Type 0} (receive_end : ReceiveEnd) (written now : Option (List ℕ)) (result : Result T E) : Type 0 where
   pub closing_answer : Option Answer
   pub leave : IsClosing receive_end closing_answer

@@ -18,7 +18,7 @@ StopsReceivingAt bytes left faults now (Refused refusal) = IsFirstFrame MAX_BODY
 StopsReceivingAt bytes left faults now NoMemory = ⊤
 StopsReceivingAt bytes left faults now Failed = IsFirstFrame MAX_BODY bytes More bytes × HasIncreased faults now
 
--- why no more bytes were taken, or why those that were aren't kept
+-- why no more bytes were taken, or why those that were are not kept
 abbrev pub Lacks : List ℕ → Option (List ℕ) → ℕ → ℕ → ReceiveEnd → Type 0
 Lacks taken left faults now AtEnd = (taken ≡ []) × IsAtEnd left
 Lacks taken left faults now (Refused refusal) = ⊥
@@ -31,7 +31,8 @@ pub record TakesMore {T : Type 0} (before after : List ℕ) (left left_now : Opt
   pub takes : Takes taken left left_now
   pub gives : MatchResult result (λ _. (after ≡ before ++ taken) × (0 < length taken)) (Lacks taken left_now faults faults_now)
 
--- when these bytes were left, more was wanted behind those that were there before and had been taken since
+-- when these bytes were left on the link, more bytes were needed after those buffered before and
+-- taken since
 pub record WantedMore (before : List ℕ) (left : Option (List ℕ)) (bytes : List ℕ) : Type 0 where
   pub early : List ℕ
   pub all : left ≡ Some (early ++ bytes)
@@ -41,7 +42,8 @@ pub record WantedMore (before : List ℕ) (left : Option (List ℕ)) (bytes : Li
 abbrev pub IsInTime : Option (List ℕ) → Option (List ℕ) → Option (List ℕ) → ℕ → Type 0
 IsInTime first left began requests = (left ≡ first) ⊎ IfSome began (λ bytes. (came : ℕ) × (came ≤ requests) × HadCome came first bytes)
 
--- some bytes were taken, and with those that were there before they give a request, or a receive end
+-- some bytes were taken, and with those that were there before they give a request, or a receive
+-- end
 pub record Receives (before after : List ℕ) (left left_now : Option (List ℕ)) (faults faults_now : ℕ) (result : Result Request ReceiveEnd) : Type 0 where
   pub taken : List ℕ
   pub takes : Takes taken left left_now

@@ -1,4 +1,4 @@
--- What one client gets, and what some clients got.
+-- Serving one client, and several.
 use Rattle.std.specs.Prelude.{◌≡◌, ◌≤◌, ◌*◌, ℕ, List, length, Option}
 use Rattle.flow_links.specs.Doors.{DoorState, Finishes}
 use Rattle.taxii_exchange.specs.declared.config.Config.{Config}
@@ -9,7 +9,7 @@ use Rattle.taxii_server.specs.declared.connection.TheConstants.{MAX_REQUESTS}
 use Rattle.taxii_server.specs.declared.served.Served.{Served}
 use Rattle.taxii_server.specs.Serving.{Client, exchanges_of, HaveConnections, PassThrough}
 
--- the client of a link had its connection, and the link was handed back
+-- the client of a link had its connection, and the link was returned
 pub record ServesClient {L : Type 0} (view : L → LinkView) (config : Config) (before : State) (link : L) (environment environment_now : Environment)
     (door door_now : Option (DoorState L)) (requests : ℕ) (after : State) : Type 0 where
   pub client : Client L
@@ -19,7 +19,7 @@ pub record ServesClient {L : Type 0} (view : L → LinkView) (config : Config) (
   pub back : Finishes client.finished door door_now
   pub count : requests ≡ length client.exchanges
 
--- what stands after some clients
+-- the invariant after some clients
 pub record SoFar {L : Type 0} (view : L → LinkView) (config : Config) (before now : State) (port : ℕ) (environment environment_now : Environment)
     (door door_now : Option (DoorState L)) (served : Served) : Type 0 where
   pub clients : List (Client L)

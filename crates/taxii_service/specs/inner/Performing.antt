@@ -1,4 +1,4 @@
--- What a change would have done where the keeper failed.
+-- The effect of a change whose keeper failed.
 use Rattle.std.specs.Prelude.{◌≢◌, ℕ, List}
 use Rattle.http_messages.specs.declared.request.Request.{Request}
 use Rattle.taxii_exchange.specs.declared.answer.Answer.{Answer}

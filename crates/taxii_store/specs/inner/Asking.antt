@@ -1,4 +1,4 @@
--- What a query asks of a row, prepared: of each parameter a set of what it names.
+-- The filters of a query, compiled: for each parameter the set of its values.
 use Rattle.std.specs.Prelude.{◌≡◌, ⊤, ℕ, List, Option, Some, None, IfSome, option_map}
 use Rattle.std.specs.List.{Contains}
 use Rattle.stix_ids.specs.declared.id.Id.{Id}
@@ -29,7 +29,7 @@ HasIdsWhere None (Some set) = ⊥
 HasIdsWhere (Some ids) None = ⊥
 HasIdsWhere (Some ids) (Some set) = HasIds ids set.ids.items
 
--- what the query asks of the collection and of the one object, where there is one
+-- what the query asks of the collection and of the one object, if any
 pub record Asks (collection : ℕ) (only : Option Id) (query : Query) (asked : RowFilter) : Type 0 where
   pub collection_is : asked.collection ≡ collection
   pub only_is : option_map (λ id. id.now) asked.only ≡ only

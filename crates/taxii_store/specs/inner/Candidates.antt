@@ -1,4 +1,5 @@
--- Where a page may begin: the rows that can meet a query by when they were added (TAXII 2.1, section 3.4).
+-- Where a page may begin: the rows that can meet a query by when they were added (TAXII 2.1,
+-- section 3.4).
 use Rattle.std.specs.Prelude.{◌≡◌, ℕ, ◌*◌, ◌≤◌, ◌<◌, pos, ◌<ℤ◌, List, ◌++◌, All, codes, IfSome, Option}
 use Rattle.std.specs.List.{Contains}
 use Rattle.stix_ids.specs.declared.id.Id.{Id}
@@ -7,24 +8,25 @@ use Rattle.taxii_rows.specs.StoreState.{dates_of, AscendFrom}
 use Rattle.taxii_routes.specs.declared.query.Query.{Query}
 use Rattle.taxii_store.specs.Meeting.{Meets}
 
--- a row of that date was added behind the instant that the query names, and behind where it begins
+-- a row of this date was added after the query's `added_after` and after its cursor
 pub record IsAfter (query : Query) (date : ℕ) : Type 0 where
   pub added : IfSome query.added_after (λ instant. instant <ℤ pos (1000 * date))
   pub next : IfSome query.next (λ after. after < date)
 
--- the row can meet the query: it was added behind both, and the query takes version 2.1 of the standard, which is that of all rows
+-- the row can match the query: it was added after both, and the query allows version 2.1 of STIX,
+-- which all rows have
 pub record CanMeet (query : Query) (row : StoredRow) : Type 0 where
   pub behind : IsAfter query row.date
   pub specs : IfSome query.specs (λ specs. Contains specs (codes "2.1"))
 
--- behind some rows that can't meet the query stand these, which can
+-- these rows, which can match the query, follow some rows that cannot
 pub record AreCandidates (query : Query) (rows candidates : List StoredRow) : Type 0 where
   pub passed : List StoredRow
   pub all : rows ≡ passed ++ candidates
   pub before : All (λ row. ¬ CanMeet query row) passed
   pub each : All (CanMeet query) candidates
 
--- behind the rows up to a date stand these, which are later
+-- after the rows up to a date stand these, which are later
 pub record IsCutAt (date : ℕ) (rows later : List StoredRow) : Type 0 where
   pub upto : List StoredRow
   pub all : rows ≡ upto ++ later

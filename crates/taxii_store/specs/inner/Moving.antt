@@ -1,4 +1,5 @@
--- A draft of an addition: its new rows count up from the watermark, and are shifted to the moment when their number is known.
+-- A draft of an addition: its new rows have consecutive dates after the watermark, and are shifted
+-- to the moment once their number is known.
 use Rattle.std.specs.Prelude.{◌≡◌, ⊤, ℕ, pos, ◌+◌, ◌-◌, ◌≤◌, ◌<◌, cond, nat_lt, List, [], ◌∷◌, ◌++◌, length, map, All, None, MatchOption}
 use Rattle.taxii_rows.specs.declared.described.Described.{Described}
 use Rattle.taxii_rows.specs.Described.{row_of}

@@ -12,7 +12,7 @@ use Rattle.stix_ids.specs.declared.id.Id.{Id}
 abbrev pub Key : Type 0
 Key = ℕ × Bor (List ℕ)
 
--- keys stand by number, and of one number in the order of their texts' bytes
+-- keys are ordered by number, then by the bytes of their texts
 abbrev pub key_cmp : Key → Key → Ordering
 key_cmp key other = ordering_then (nat_cmp key.0 other.0) (slice_cmp nat_cmp key.1.now other.1.now)
 
@@ -20,7 +20,7 @@ key_cmp key other = ordering_then (nat_cmp key.0 other.0) (slice_cmp nat_cmp key
 abbrev pub parts_of : Key → ℕ × List ℕ
 parts_of key = (key.0, key.1.now)
 
--- the keys stand in order, and are those of these items and of no other
+-- the keys are in order, and are exactly those of these items
 pub record AreKeysOf (items : List (ℕ × List ℕ)) (keys : List Key) : Type 0 where
   pub ordered : IsSorted key_cmp keys
   pub same : (item : ℕ × List ℕ) → Contains (map parts_of keys) item ↔ Contains items item

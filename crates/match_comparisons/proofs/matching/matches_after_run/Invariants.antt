@@ -5,7 +5,7 @@ use Rattle.std.specs.Str.{chars}
 use Rattle.match_comparisons.specs.Like.{any_run, IsLike}
 use Rattle.match_comparisons.proofs.matching.matches_after_run.Given as goal
 
--- behind the last `%`, what is left of text and pattern stands for the whole of both
+-- after the last `%`, what is left of text and pattern stands for the whole of both
 abbrev pub invariant-loop-segment : goal.invariant-loop-segment
 invariant-loop-segment l =
     shadow (Utf8 l.text) × shadow (Utf8 l.pattern)

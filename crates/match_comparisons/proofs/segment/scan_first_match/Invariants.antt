@@ -6,7 +6,7 @@ use Rattle.match_comparisons.specs.Like.{any_run}
 use Rattle.match_comparisons.specs.inner.Segments.{Leaves}
 use Rattle.match_comparisons.proofs.segment.scan_first_match.Given as goal
 
--- behind a `%`, the segment leaves of what is left of the text what it leaves of the whole
+-- after a `%`, the segment leaves of what is left of the text what it leaves of the whole
 abbrev pub invariant-loop-left : goal.invariant-loop-left
 invariant-loop-left l =
     shadow (Utf8 l.text)

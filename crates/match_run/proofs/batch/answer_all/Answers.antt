@@ -6,7 +6,8 @@ use Rattle.match_bindings.specs.declared.bind.Bind.{Bind}
 use Rattle.match_bindings.specs.BindTree.{tree_of}
 use Rattle.flow_edges.specs.Flow.{WritesPrefix}
 use Rattle.match_run.specs.Listing.{listing_text}
-use Rattle.match_run.specs.inner.Rows.{so_far, IsBuffered, MayFollow, BreaksOff, TakesRows, StopsAtOne}
+use Rattle.match_run.specs.inner.Rows.{so_far, IsBuffered, BreaksOff, TakesRows, StopsAtOne}
+use Rattle.match_run.specs.Reading.{MayFollow}
 use Rattle.match_run.proofs.PendingLemmas.{way-start, way-stopped}
 use Rattle.match_run.proofs.RowsLemmas.{found_in, truths_of, row_below, drop_here, take_here, all_here, none-seen, turn-rows, turn-end, ends-none, cut-rows, ends-cut, turn-behind, turn-follow}
 use Rattle.match_run.proofs.batch.answer_all.Goals as goal

@@ -1,6 +1,7 @@
 use Rattle.std.proofs.Common.{◌≡◌, ◌+◌, take, drop}
 use Rattle.stix_bundles.specs.Objects.{data_in}
-use Rattle.match_run.specs.inner.Rows.{so_far, IsAtSome, MayFollow, GoesThrough}
+use Rattle.match_run.specs.inner.Rows.{so_far, IsAtSome, GoesThrough}
+use Rattle.match_run.specs.Reading.{MayFollow}
 use Rattle.match_run.proofs.batch.answer_all.Given as goal
 
 abbrev pub invariant-loop-at : goal.invariant-loop-at

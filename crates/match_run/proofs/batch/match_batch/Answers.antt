@@ -1,5 +1,6 @@
 use Rattle.match_run.specs.inner.MatchEnds.{HasCutLines}
-use Rattle.match_run.specs.inner.Rows.{so_far, bundle_of}
+use Rattle.match_run.specs.inner.Rows.{so_far}
+use Rattle.match_run.specs.Reading.{bundle_of}
 use Rattle.match_run.proofs.PendingLemmas.{on_ok}
 use Rattle.match_run.proofs.RowsLemmas.{batch-rows, batch-cut, batch-ends, batch-fault}
 use Rattle.match_run.proofs.batch.match_batch.Goals as goal

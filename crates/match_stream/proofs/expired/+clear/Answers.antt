@@ -1,7 +1,7 @@
 use Rattle.std.proofs.Common.{sym, ap, subst}
-use Rattle.match_stream.specs.inner.Steps.{State, expired}
+use Rattle.match_pruning.specs.inner.Steps.{State, expired}
 use Rattle.match_stream.specs.inner.Nodes.{state_of}
-use Rattle.match_stream.specs.inner.UpToOrder.{IsSameUpToOrder}
+use Rattle.match_pruning.specs.inner.UpToOrder.{IsSameUpToOrder}
 use Rattle.match_stream.proofs.LeavesLemmas.{leaves_arranged}
 use Rattle.match_stream.proofs.expired.+clear.Goals as goal
 

@@ -1,7 +1,7 @@
 use Rattle.std.proofs.Common.{◌<◌, length, ap, arith, sym, ◌∙◌}
 use Rattle.std.proofs.lemmas.List.{length-set}
-use Rattle.match_stream.specs.declared.store.Store.{Store}
-use Rattle.match_stream.specs.inner.Steps.{kept}
+use Rattle.match_pruning.specs.declared.store.Store.{Store}
+use Rattle.match_pruning.specs.inner.Steps.{kept}
 use Rattle.match_stream.specs.inner.Nodes.{store_list}
 use Rattle.std.specs.List.{sum_by}
 use Rattle.match_stream.proofs.ArrangedLemmas.{stores_more, rest_more}

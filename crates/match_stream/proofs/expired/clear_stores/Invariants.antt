@@ -1,7 +1,7 @@
 use Rattle.std.proofs.Common.{◌≡◌, take, drop, map, length}
-use Rattle.match_stream.specs.inner.Steps.{kept}
+use Rattle.match_pruning.specs.inner.Steps.{kept}
 use Rattle.match_stream.specs.inner.Nodes.{store_lists}
-use Rattle.match_stream.specs.inner.UpToOrder.{AreSameLevels}
+use Rattle.match_pruning.specs.inner.UpToOrder.{AreSameLevels}
 use Rattle.match_stream.proofs.expired.clear_stores.Given as goal
 
 abbrev pub invariant-loop-store : goal.invariant-loop-store

@@ -3,11 +3,11 @@ use Rattle.std.proofs.Common.{◌≡◌, ℕ, ◌<◌, ◌+◌, List, [], ◌∷
 use Rattle.std.specs.Prelude.{map}
 use Rattle.match_bindings.specs.BindTree.{Single}
 use Rattle.match_bindings.proofs.ListLemmas.{map_append}
-use Rattle.match_stream.specs.declared.partial_match.PartialMatch.{PartialMatch}
-use Rattle.match_stream.specs.PartialMatchTree.{PartialMatchTree}
-use Rattle.match_stream.specs.inner.PartialMatches.{partial_match_tree, partial_match_trees}
-use Rattle.match_stream.specs.inner.Steps.{held_with}
-use Rattle.match_stream.proofs.OldestLemmas.{next_taken}
+use Rattle.match_pruning.specs.declared.partial_match.PartialMatch.{PartialMatch}
+use Rattle.match_pruning.specs.PartialMatchTree.{PartialMatchTree}
+use Rattle.match_pruning.specs.inner.PartialMatches.{partial_match_tree, partial_match_trees}
+use Rattle.match_pruning.specs.inner.Steps.{held_with}
+use Rattle.match_pruning.proofs.OldestLemmas.{next_taken}
 use Rattle.match_stream.proofs.level_step.singles.Goals as goal
 
 single_more : (parts : List PartialMatch) (at : ℕ) (d : PartialMatch) (sets : List PartialMatchTree) → at < length parts → sets ≡ map (held_with Single) (partial_match_trees (take at parts)) →

@@ -1,8 +1,8 @@
 use Rattle.std.proofs.Common.{◌≡◌}
 use Rattle.std.specs.Prelude.{take, map}
 use Rattle.match_bindings.specs.BindTree.{Single}
-use Rattle.match_stream.specs.inner.PartialMatches.{partial_match_trees}
-use Rattle.match_stream.specs.inner.Steps.{held_with}
+use Rattle.match_pruning.specs.inner.PartialMatches.{partial_match_trees}
+use Rattle.match_pruning.specs.inner.Steps.{held_with}
 use Rattle.match_stream.proofs.level_step.singles.Given as goal
 
 abbrev pub invariant-loop-part : goal.invariant-loop-part

@@ -1,14 +1,14 @@
 use Rattle.std.proofs.Common.{◌≡◌, ◌++◌, ◌∷◌, [], Err, length, rules, sym, ◌∙◌, ap, arith, subst, append_assoc}
-use Rattle.match_stream.specs.declared.stop.Stop.TheVariants as stop
+use Rattle.match_pruning.specs.declared.stop.Stop.TheVariants as stop
 use Rattle.match_stream.specs.RetainedPart.{held_count}
-use Rattle.match_stream.specs.inner.PartialMatches.{partial_match_trees}
-use Rattle.match_stream.specs.inner.Steps.{levels_new, levels_after, stored, joins, kept}
-use Rattle.match_stream.specs.declared.join.Join.TheVariants as join
+use Rattle.match_pruning.specs.inner.PartialMatches.{partial_match_trees}
+use Rattle.match_pruning.specs.inner.Steps.{levels_new, levels_after, stored, joins, kept}
+use Rattle.match_pruning.specs.declared.join.Join.TheVariants as join
 use Rattle.match_stream.specs.inner.Totals.{AdmitLevels}
 use Rattle.match_stream.specs.inner.Nodes.{store_list, store_lists}
 use Rattle.match_bindings.proofs.ListLemmas.{map_append}
 use Rattle.match_stream.proofs.LevelLemmas.{after_more, new_more, held_more, made_full}
-use Rattle.match_stream.proofs.NeededLemmas.{needed_all}
+use Rattle.match_pruning.proofs.NeededLemmas.{needed_all}
 use Rattle.match_stream.proofs.level_step.step_made.Goals as goal
 
 pub loop-store-preserved : goal.loop-store-preserved

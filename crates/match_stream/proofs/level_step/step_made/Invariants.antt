@@ -1,7 +1,7 @@
 use Rattle.std.proofs.Common.{◌≡◌, ◌+◌, ◌++◌}
 use Rattle.match_stream.specs.RetainedPart.{held_count}
-use Rattle.match_stream.specs.inner.PartialMatches.{partial_match_trees}
-use Rattle.match_stream.specs.inner.Steps.{levels_new, levels_after}
+use Rattle.match_pruning.specs.inner.PartialMatches.{partial_match_trees}
+use Rattle.match_pruning.specs.inner.Steps.{levels_new, levels_after}
 use Rattle.match_stream.specs.inner.Nodes.{store_lists}
 use Rattle.match_stream.proofs.level_step.step_made.Given as goal
 

@@ -4,22 +4,22 @@ use Rattle.std.specs.Prelude.{ℕ, Bool, map, IfOk}
 use Rattle.match_bindings.specs.BindTree.{Second, Single, firsts}
 use Rattle.match_stream.specs.RetainedPart.{held_count}
 use Rattle.std.proofs.lemmas.List.{length-map, length-append}
-use Rattle.match_stream.specs.declared.stop.Stop.TheVariants as stop
-use Rattle.match_stream.specs.declared.pending_left.PendingLeft.{PendingLeft}
-use Rattle.match_stream.specs.declared.store.Store.{Store}
+use Rattle.match_pruning.specs.declared.stop.Stop.TheVariants as stop
+use Rattle.match_pruning.specs.declared.pending_left.PendingLeft.{PendingLeft}
+use Rattle.match_pruning.specs.declared.store.Store.{Store}
 use Rattle.match_stream.specs.declared.sides.Sides.{Sides}
-use Rattle.match_stream.specs.declared.partial_match.PartialMatch.{PartialMatch}
-use Rattle.match_stream.specs.declared.row.Row.{Row}
-use Rattle.match_stream.specs.declared.join.Join.{Join}
+use Rattle.match_pruning.specs.declared.partial_match.PartialMatch.{PartialMatch}
+use Rattle.match_pruning.specs.declared.row.Row.{Row}
+use Rattle.match_pruning.specs.declared.join.Join.{Join}
 use Rattle.match_stream.specs.declared.node.Node.{Node}
-use Rattle.match_stream.specs.PartialMatchTree.{PartialMatchTree}
-use Rattle.match_stream.specs.inner.PartialMatches.{partial_match_tree, partial_match_trees}
-use Rattle.match_stream.specs.inner.Steps.{State, a_join, a_choice, leaves_state, all_levels, held_with, levels_new, levels_after, kept, joins_both, step_new, step_state, IsNonmatching}
-use Rattle.match_stream.specs.inner.Needed.{PendingLeftTrees, needed, pending_lefts_right, pending_lefts_part, chosen}
-use Rattle.match_stream.specs.inner.PendingLefts.{pending_left_trees, pending_lefts_of}
+use Rattle.match_pruning.specs.PartialMatchTree.{PartialMatchTree}
+use Rattle.match_pruning.specs.inner.PartialMatches.{partial_match_tree, partial_match_trees}
+use Rattle.match_pruning.specs.inner.Steps.{State, a_join, a_choice, leaves_state, all_levels, held_with, levels_new, levels_after, kept, joins_both, step_new, step_state, IsNonmatching}
+use Rattle.match_pruning.specs.inner.Needed.{PendingLeftTrees, needed, pending_lefts_right, pending_lefts_part, chosen}
+use Rattle.match_pruning.specs.inner.PendingLefts.{pending_left_trees, pending_lefts_of}
 use Rattle.match_stream.specs.inner.Totals.{held_after, retained_at, AdmitLevels, Admits}
 use Rattle.match_stream.specs.inner.Nodes.{store_list, store_lists, side_stores, levels_state, state_of}
-use Rattle.match_stream.proofs.NeededLemmas.{pending_lefts_more}
+use Rattle.match_pruning.proofs.NeededLemmas.{pending_lefts_more}
 use Rattle.match_stream.proofs.TotalLemmas.{over_left, over_left_held, over_right, over_right_held, join_is, join_counted, join_kept, over_first, over_second, choice_is, choice_counted, over_part, over_levels, chain_is, chain_counted, chain_kept}
 use Rattle.match_stream.proofs.NonmatchingLemmas.{nonmatching_under, nonmatching_state, nonmatching_counted}
 use Rattle.match_stream.proofs.UnderFirstsLemmas.{under_none, choice_added}

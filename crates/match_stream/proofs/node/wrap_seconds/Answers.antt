@@ -1,9 +1,9 @@
 use Rattle.std.proofs.Common.{rules, ◌≡◌, ◌<◌, length, slice_index_or, ◌∙◌, ap, arith}
 use Rattle.std.proofs.lemmas.List.{length-set}
 use Rattle.match_bindings.specs.BindTree.{Second, tree_of}
-use Rattle.match_stream.specs.declared.partial_match.PartialMatch.{PartialMatch}
-use Rattle.match_stream.specs.inner.PartialMatches.{partial_match_tree}
-use Rattle.match_stream.specs.inner.Steps.{held_with}
+use Rattle.match_pruning.specs.declared.partial_match.PartialMatch.{PartialMatch}
+use Rattle.match_pruning.specs.inner.PartialMatches.{partial_match_tree}
+use Rattle.match_pruning.specs.inner.Steps.{held_with}
 use Rattle.match_stream.proofs.InPlaceLemmas.{changed_more, wrapped_there}
 use Rattle.match_stream.proofs.node.wrap_seconds.Goals as goal
 

@@ -1,7 +1,7 @@
 use Rattle.std.proofs.Common.{◌++◌, sym, ◌∙◌, ap, append-nil}
-use Rattle.match_stream.specs.inner.Steps.{contents_of}
+use Rattle.match_pruning.specs.inner.Steps.{contents_of}
 use Rattle.match_stream.specs.inner.Nodes.{state_of}
-use Rattle.match_stream.specs.inner.Numbers.{all_numbers}
+use Rattle.match_pruning.specs.inner.Numbers.{all_numbers}
 use Rattle.match_stream.proofs.LeavesLemmas.{leaves_hold_nothing}
 use Rattle.match_stream.proofs.row_numbers.+push_node.Goals as goal
 

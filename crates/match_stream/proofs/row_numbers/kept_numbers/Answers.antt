@@ -5,10 +5,10 @@ use Rattle.std.proofs.lemmas.List.Filters.{dedup_is}
 use Rattle.std.proofs.lemmas.List.Kept.{Contains-dedup_nat, Contains-from_dedup}
 use Rattle.std.proofs.lemmas.List.Sorted.{Contains-permutation, IsPermutation-sym}
 use Rattle.std.proofs.lemmas.Map.Keys.{IsStrictlyIncreasing-dedup}
-use Rattle.match_stream.specs.inner.Steps.{contents_of}
+use Rattle.match_pruning.specs.inner.Steps.{contents_of}
 use Rattle.match_stream.specs.inner.Nodes.{state_of}
-use Rattle.match_stream.specs.inner.Numbers.{all_numbers}
-use Rattle.match_stream.proofs.RowNumbersLemmas.{contains_kept}
+use Rattle.match_pruning.specs.inner.Numbers.{all_numbers}
+use Rattle.match_pruning.proofs.RowNumbersLemmas.{contains_kept}
 use Rattle.match_stream.proofs.row_numbers.kept_numbers.Goals as goal
 
 pub returns : goal.returns

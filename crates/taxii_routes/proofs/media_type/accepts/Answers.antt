@@ -2,7 +2,8 @@ use Rattle.std.proofs.Common.{lit<, rules, tests, ◌⊎◌, List, ℕ}
 use Rattle.std.proofs.lemmas.Iterator.{cases_from_any}
 use Rattle.std.proofs.lemmas.Iterator.Splits.{YieldsList-from_str_split}
 use Rattle.std.specs.List.{slice_split}
-use Rattle.taxii_routes.specs.MediaType.{is_comma, IsTaxii, IsWildcard}
+use Rattle.taxii_routes.specs.MediaType.{IsTaxii, IsWildcard}
+use Rattle.taxii_routes.specs.Value.{is_comma}
 use Rattle.taxii_routes.proofs.AnswerLemmas.{any_answers}
 use Rattle.taxii_routes.proofs.media_type.accepts.Goals as goal
 

@@ -1,8 +1,8 @@
 use Rattle.std.proofs.Common.{◌≡◌, arith, rules, Err, sym, ◌∙◌, ap}
-use Rattle.match_stream.specs.declared.stop.Stop.TheVariants as stop
-use Rattle.match_stream.specs.declared.partial_match.PartialMatch.{PartialMatch}
-use Rattle.match_stream.specs.inner.Retains.{retains}
-use Rattle.match_stream.proofs.NeededLemmas.{kept_more}
+use Rattle.match_pruning.specs.declared.stop.Stop.TheVariants as stop
+use Rattle.match_pruning.specs.declared.partial_match.PartialMatch.{PartialMatch}
+use Rattle.match_pruning.specs.inner.Retains.{retains}
+use Rattle.match_pruning.proofs.NeededLemmas.{kept_more}
 use Rattle.match_stream.proofs.budget.Budget.take_admitted.Goals as goal
 
 pub returns-in_err-take-clause-over_limit : goal.returns-in_err-take-clause-over_limit

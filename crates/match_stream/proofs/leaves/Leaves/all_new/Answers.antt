@@ -2,8 +2,8 @@
 use Rattle.std.proofs.Common.{◌≡◌, ◌+◌, ◌-◌, [], ◌∷◌, sym, ◌∙◌, ap, arith, append-nil}
 use Rattle.std.specs.Prelude.{map}
 use Rattle.match_bindings.specs.BindTree.{firsts}
-use Rattle.match_stream.specs.inner.PartialMatches.{partial_match_trees}
-use Rattle.match_stream.specs.inner.Steps.{held_with, row_alone, leaves_state, step_new}
+use Rattle.match_pruning.specs.inner.PartialMatches.{partial_match_trees}
+use Rattle.match_pruning.specs.inner.Steps.{held_with, row_alone, leaves_state, step_new}
 use Rattle.match_stream.proofs.LeavesLemmas.{leaf_holds, leaf_off, made_more, made_all}
 use Rattle.match_stream.proofs.leaves.Leaves.all_new.Goals as goal
 use Rattle.match_stream.proofs.leaves.Leaves.all_new.Goals.{then-holds-2+in_ok-push_second, else-holds-2}

@@ -1,8 +1,8 @@
 use Rattle.std.proofs.Common.{◌≡◌, ◌-◌, ◌≤◌}
 use Rattle.std.specs.Prelude.{map}
 use Rattle.match_bindings.specs.BindTree.{firsts}
-use Rattle.match_stream.specs.inner.PartialMatches.{partial_match_trees}
-use Rattle.match_stream.specs.inner.Steps.{held_with, leaves_state, step_new}
+use Rattle.match_pruning.specs.inner.PartialMatches.{partial_match_trees}
+use Rattle.match_pruning.specs.inner.Steps.{held_with, leaves_state, step_new}
 use Rattle.match_stream.proofs.leaves.Leaves.all_new.Given as goal
 
 abbrev pub invariant-loop-at : goal.invariant-loop-at

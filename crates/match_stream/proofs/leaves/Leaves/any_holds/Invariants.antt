@@ -1,5 +1,5 @@
 use Rattle.std.proofs.Common.{◌≤◌}
-use Rattle.match_stream.specs.inner.Steps.{leaves_state, IsNonmatching}
+use Rattle.match_pruning.specs.inner.Steps.{leaves_state, IsNonmatching}
 use Rattle.match_stream.proofs.leaves.Leaves.any_holds.Given as goal
 
 abbrev pub invariant-loop-at : goal.invariant-loop-at

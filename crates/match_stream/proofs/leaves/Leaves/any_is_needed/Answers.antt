@@ -1,8 +1,8 @@
 -- What is new at leaves is the row alone, so it is needed at each of them or at none.
 use Rattle.std.proofs.Common.{◌≡◌, [], sym, ◌∙◌, ap}
-use Rattle.match_stream.specs.inner.Steps.{leaves_state, step_new}
-use Rattle.match_stream.specs.inner.Needed.{needed}
-use Rattle.match_stream.specs.inner.PendingLefts.{pending_lefts_of}
+use Rattle.match_pruning.specs.inner.Steps.{leaves_state, step_new}
+use Rattle.match_pruning.specs.inner.Needed.{needed}
+use Rattle.match_pruning.specs.inner.PendingLefts.{pending_lefts_of}
 use Rattle.match_stream.proofs.NonmatchingLemmas.{nonmatching_new}
 use Rattle.match_stream.proofs.LeavesLemmas.{none_retains, all_needed, none_needed}
 use Rattle.match_stream.proofs.leaves.Leaves.any_is_needed.Goals as goal

@@ -1,5 +1,5 @@
 use Rattle.std.proofs.Common.{◌≡◌, ◌+◌, sym, ◌∙◌, ap, arith}
-use Rattle.match_stream.specs.inner.Steps.{a_leaf, a_choice, leaves_state}
+use Rattle.match_pruning.specs.inner.Steps.{a_leaf, a_choice, leaves_state}
 use Rattle.match_stream.proofs.LeavesLemmas.{one_more, one_alone, window_is}
 use Rattle.match_stream.proofs.leaves.Leaves.with.Goals as goal
 

@@ -2,10 +2,10 @@
 use Rattle.std.proofs.Common.{◌≡◌, ℕ, zero, suc, ℤ, ◌+◌, ◌-◌, ◌<◌, ◌≤◌, ◌++◌, ◌∷◌, [], List, length, refl, sym, ◌∙◌, ap, arith, rules}
 use Rattle.std.proofs.lemmas.List.{length-map}
 use Rattle.match_pruning.specs.declared.window.Window.{Window}
-use Rattle.match_stream.specs.declared.partial_match.PartialMatch.{PartialMatch}
-use Rattle.match_stream.specs.PartialMatchTree.{PartialMatchTree}
-use Rattle.match_stream.specs.inner.PartialMatches.{partial_match_trees}
-use Rattle.match_stream.specs.inner.Steps.{kept, levels_above, all_levels, no_levels, risen, raised, counted}
+use Rattle.match_pruning.specs.declared.partial_match.PartialMatch.{PartialMatch}
+use Rattle.match_pruning.specs.PartialMatchTree.{PartialMatchTree}
+use Rattle.match_pruning.specs.inner.PartialMatches.{partial_match_trees}
+use Rattle.match_pruning.specs.inner.Steps.{kept, levels_above, all_levels, no_levels, risen, raised, counted}
 use Rattle.match_stream.specs.inner.Nodes.{store_list, store_lists}
 use Rattle.match_stream.specs.RetainedPart.{held_count}
 use Rattle.match_stream.proofs.LevelLemmas.{raised_empty, raised_some}

@@ -5,14 +5,14 @@ use Rattle.match_pruning.specs.declared.window.Window.{Window}
 use Rattle.std.proofs.lemmas.List.{length-map}
 use Rattle.match_bindings.specs.BindTree.{Single}
 use Rattle.match_bindings.proofs.ListLemmas.{map_append}
-use Rattle.match_stream.specs.declared.stop.Stop.TheVariants as stop
-use Rattle.match_stream.specs.declared.store.Store.{Store}
-use Rattle.match_stream.specs.PartialMatchTree.{PartialMatchTree}
+use Rattle.match_pruning.specs.declared.stop.Stop.TheVariants as stop
+use Rattle.match_pruning.specs.declared.store.Store.{Store}
+use Rattle.match_pruning.specs.PartialMatchTree.{PartialMatchTree}
 use Rattle.match_stream.specs.RetainedPart.{held_count}
-use Rattle.match_stream.specs.inner.PartialMatches.{partial_match_trees}
-use Rattle.match_stream.specs.inner.Steps.{held_with, levels_new, levels_after, all_levels, counted, risen}
-use Rattle.match_stream.specs.inner.Needed.{chosen}
-use Rattle.match_stream.specs.inner.PendingLefts.{pending_lefts_of}
+use Rattle.match_pruning.specs.inner.PartialMatches.{partial_match_trees}
+use Rattle.match_pruning.specs.inner.Steps.{held_with, levels_new, levels_after, all_levels, counted, risen}
+use Rattle.match_pruning.specs.inner.Needed.{chosen}
+use Rattle.match_pruning.specs.inner.PendingLefts.{pending_lefts_of}
 use Rattle.match_stream.specs.inner.Totals.{AdmitLevels}
 use Rattle.match_stream.specs.inner.Nodes.{store_list, store_lists}
 use Rattle.match_stream.proofs.LevelLemmas.{Made, length_after, last_new, last_after, all_made, last_counted, above_counted, all_new, all_after, risen_chosen, last_full, none_full, admit_part, admit_last}

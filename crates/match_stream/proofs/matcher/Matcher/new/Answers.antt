@@ -5,7 +5,7 @@ use Rattle.match_bindings.specs.Bounds.{no_bounds}
 use Rattle.match_bindings.specs.NumberedPattern.{numbered_pattern}
 use Rattle.match_bindings.specs.Log.{observed_in}
 use Rattle.match_stream.specs.RetainedPart.{IsRetainedPart, time_of}
-use Rattle.match_stream.specs.inner.Steps.{State, empty_state, contents_of}
+use Rattle.match_pruning.specs.inner.Steps.{State, empty_state, contents_of}
 use Rattle.match_stream.specs.inner.Nodes.{state_of}
 use Rattle.match_stream.specs.inner.Shape.{fits}
 use Rattle.match_stream.proofs.LogLemmas.{empty_stands}

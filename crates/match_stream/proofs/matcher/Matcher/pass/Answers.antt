@@ -11,7 +11,7 @@ use Rattle.match_stream.specs.RetainedPart.{time_of}
 use Rattle.match_stream.specs.MatcherState.{Represents}
 use Rattle.match_stream.specs.Answer.{AnswersAfter}
 use Rattle.match_stream.specs.Passing.{ContinuesWithoutMatch, no_answers}
-use Rattle.match_stream.specs.inner.Steps.{expired}
+use Rattle.match_pruning.specs.inner.Steps.{expired}
 use Rattle.match_stream.specs.inner.Nodes.{state_of}
 use Rattle.match_stream.specs.inner.Shape.{fits}
 use Rattle.match_stream.specs.inner.ObservableState.{observable_state, IsMade}

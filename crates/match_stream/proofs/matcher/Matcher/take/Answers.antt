@@ -13,7 +13,7 @@ use Rattle.match_stream.specs.declared.run.Run.{Run}
 use Rattle.match_stream.specs.declared.ending.Ending.TheVariants as ending
 use Rattle.match_stream.specs.RetainedPart.{IsRetainedPart}
 use Rattle.match_stream.specs.MatcherState.{Represents, with_row, Falls}
-use Rattle.match_stream.specs.inner.Steps.{State, contents_of}
+use Rattle.match_pruning.specs.inner.Steps.{State, contents_of}
 use Rattle.match_stream.specs.inner.Nodes.{state_of}
 use Rattle.match_stream.specs.inner.Shape.{fits}
 use Rattle.match_stream.specs.inner.Runs.{IsCleared, next_row, retained_after}

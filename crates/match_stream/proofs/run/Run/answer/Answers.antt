@@ -6,12 +6,12 @@ use Rattle.match_bindings.specs.BindTree.{tree_of}
 use Rattle.match_bindings.specs.Flat.{comes_before}
 use Rattle.std.proofs.lemmas.List.{length-map}
 use Rattle.match_bindings.specs.Once.{count}
-use Rattle.match_stream.specs.declared.stop.Stop.TheVariants as stop
-use Rattle.match_stream.specs.PartialMatchTree.{trees_in}
-use Rattle.match_stream.specs.inner.PartialMatches.{partial_match_tree}
-use Rattle.match_stream.specs.inner.Steps.{step_new}
+use Rattle.match_pruning.specs.declared.stop.Stop.TheVariants as stop
+use Rattle.match_pruning.specs.PartialMatchTree.{trees_in}
+use Rattle.match_pruning.specs.inner.PartialMatches.{partial_match_tree}
+use Rattle.match_pruning.specs.inner.Steps.{step_new}
 use Rattle.match_stream.specs.inner.Nodes.{state_of}
-use Rattle.match_stream.proofs.NeededLemmas.{needed_all}
+use Rattle.match_pruning.proofs.NeededLemmas.{needed_all}
 use Rattle.match_stream.proofs.run.Run.answer.Goals as goal
 
 pub returns-in_err-new-clause-over_limit : goal.returns-in_err-new-clause-over_limit

@@ -1,4 +1,4 @@
--- The refusal's offset is where the bytes stop to fit; what is left has all of them and a last `Z`.
+-- The refusal's offset is where the bytes stop fitting; what is left has all of them and a last `Z`.
 use Rattle.std.proofs.Common.{◌≡◌, ◌-◌, length, get_or, subst, sym, ◌∙◌, arith}
 use Rattle.stix_times.specs.Timestamp.{Spells}
 use Rattle.stix_times.specs.Offsets.{parts_at}

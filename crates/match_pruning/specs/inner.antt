@@ -1,0 +1,12 @@
+pub mod Retains
+pub mod PartialMatches
+pub mod Steps
+pub mod Needed
+pub mod PendingLefts
+pub mod JoinFilters
+pub mod Heaps
+pub mod UpToOrder
+pub mod Numbers
+pub mod CompletionBounds
+pub mod SkipIndexes
+pub mod Picks

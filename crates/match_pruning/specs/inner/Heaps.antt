@@ -1,0 +1,32 @@
+-- For private clauses: a 4-ary heap by earliest time. The children of index p are 4 p + 1 to 4 p +
+-- 4.
+use Rattle.std.specs.Prelude.{ℕ, ◌+◌, ◌*◌, ◌≤◌, ◌<◌, ℤ, ◌≤ℤ◌, List, slice_index_or}
+use Rattle.match_pruning.specs.declared.partial_match.PartialMatch.{PartialMatch}
+
+abbrev pub IsChild : ℕ → ℕ → Type 0
+IsChild p i = (4 * p + 1 ≤ i) × (i ≤ 4 * p + 4)
+
+-- among the first n times none is earlier than its parent
+abbrev pub AreHeaped : (ℕ → ℤ) → ℕ → Type 0
+AreHeaped time n = (p i : ℕ) → IsChild p i → i < n → time p ≤ℤ time i
+
+-- except for the children of the root
+abbrev pub AreHeapedBelow : (ℕ → ℤ) → ℕ → Type 0
+AreHeapedBelow time n = (p i : ℕ) → IsChild p i → i < n → 0 < p → time p ≤ℤ time i
+
+-- the earliest time of the element at an index
+abbrev pub time_at : List PartialMatch → PartialMatch → ℕ → ℤ
+time_at held d i = (slice_index_or held i d).earliest
+
+-- the first n elements are a heap
+abbrev pub IsHeap : List PartialMatch → ℕ → Type 0
+IsHeap held n = (d : PartialMatch) → AreHeaped (time_at held d) n
+
+abbrev pub IsHeapBelow : List PartialMatch → ℕ → Type 0
+IsHeapBelow held n = (d : PartialMatch) → AreHeapedBelow (time_at held d) n
+
+-- no other child is earlier
+pub record IsEarliestChild (held : List PartialMatch) (at child n : ℕ) : Type 0 where
+  pub is_child : IsChild at child
+  pub inside : child < n
+  pub earliest : (d : PartialMatch) (i : ℕ) → IsChild at i → i < n → time_at held d child ≤ℤ time_at held d i

@@ -1,0 +1,86 @@
+//! A 4-ary min-heap by earliest time: the partial match that expires first is at the root.
+//!
+//! The children of index p are 4 p + 1 to 4 p + 4. Four children halve the depth of a binary heap,
+//! and the four lie side by side in memory. `sift_up` and `sift_down` are the textbook operations:
+//! each swap restores the order at one index and may break it at the next, O(log n) in all.
+
+ghost use Rattle.std.specs.Prelude.{◌≡◌, ◌<◌, ◌≤◌, ◌+◌, ◌*◌, int_lt, length, IfSome, IfNone};
+ghost use Rattle.match_pruning.specs.declared.partial_match.PartialMatch.{PartialMatch};
+ghost use Rattle.match_pruning.specs.inner.PartialMatches.{partial_match_trees};
+ghost use Rattle.match_pruning.specs.inner.UpToOrder.{AreSameMultiset};
+ghost use Rattle.match_pruning.specs.inner.Heaps.{IsHeap, IsHeapBelow, IsEarliestChild, time_at};
+
+use crate::partial_match::PartialMatch;
+
+/// How many children an index has.
+const WIDTH: usize = 4;
+
+/// Moves the element at `place` up until its parent isn't later. The elements before it are a heap.
+pub fn sift_up(held: &mut [PartialMatch], place: usize)
+    requires inside { place < length held.old }
+    requires heap { IsHeap held.old place }
+    ensures heap { IsHeap held.new (place + 1) }
+    // A permutation: nothing is lost or added.
+    ensures same { AreSameMultiset (partial_match_trees held.old) (partial_match_trees held.new) }
+    ensures length { length held.new ≡ length held.old }
+{
+    let mut at = place;
+    while at > 0 {
+        let parent = (at - 1) / WIDTH;
+        if !is_earlier(held, at, parent) {
+            return;
+        }
+        held.swap(parent, at);
+        at = parent;
+    }
+}
+
+/// Moves the root down until no child is earlier. Everything but the root is in heap order.
+pub fn sift_down(held: &mut [PartialMatch])
+    requires { IsHeapBelow held.old (length held.old) }
+    ensures heap { IsHeap held.new (length held.new) }
+    // A permutation: nothing is lost or added.
+    ensures same { AreSameMultiset (partial_match_trees held.old) (partial_match_trees held.new) }
+    ensures length { length held.new ≡ length held.old }
+{
+    let mut at = 0;
+    while let Some(child) = earliest_child(held, at) {
+        if !is_earlier(held, child, at) {
+            return;
+        }
+        held.swap(at, child);
+        at = child;
+    }
+}
+
+/// The index of the earliest child, if there is a child.
+fn earliest_child(held: &[PartialMatch], at: usize) -> Option<usize>
+    ensures some { IfSome result (λ child. IsEarliestChild held.now at child (length held.now)) }
+    ensures none { IfNone result (length held.now ≤ 4 * at + 1) }
+{
+    if at > held.len() / WIDTH {
+        return None;
+    }
+    let first = WIDTH * at + 1;
+    if first >= held.len() {
+        return None;
+    }
+    let end = held.len().min(first + WIDTH);
+    let mut earliest = first;
+    for child in first + 1..end {
+        if held[child].earliest < held[earliest].earliest {
+            earliest = child;
+        }
+    }
+    Some(earliest)
+}
+
+/// Whether the element at `place` begins earlier than the one at `other`.
+fn is_earlier(held: &[PartialMatch], place: usize, other: usize) -> bool
+    requires place { place < length held.now }
+    requires other { other < length held.now }
+    ensures { (d : PartialMatch) → result
+        ≡ int_lt (time_at held.now d place) (time_at held.now d other) }
+{
+    held[place].earliest < held[other].earliest
+}

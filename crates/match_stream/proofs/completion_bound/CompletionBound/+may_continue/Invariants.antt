@@ -1,5 +1,0 @@
-use Rattle.std.proofs.Common.{length}
-use Rattle.match_stream.proofs.completion_bound.CompletionBound.+may_continue.Given as goal
-
-abbrev pub decreases-may_continue : goal.decreases-may_continue
-decreases-may_continue l = length l.pending_lefts.now

@@ -1,9 +1,0 @@
-use Rattle.std.proofs.Common.{length}
-use Rattle.match_stream.specs.inner.Sieves.{AreLevelsOf}
-use Rattle.match_stream.proofs.skip_index.SkipIndex.passed.Given as goal
-
-abbrev pub invariant-levels : goal.invariant-levels
-invariant-levels l = AreLevelsOf l.self.keys.items l.levels
-
-abbrev pub decreases-levels : goal.decreases-levels
-decreases-levels l = length l.levels

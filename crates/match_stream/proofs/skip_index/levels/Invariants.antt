@@ -1,9 +1,0 @@
-use Rattle.std.proofs.Common.{◌<◌, ◌-◌, length}
-use Rattle.match_stream.specs.inner.Sieves.{AreLevelsOf}
-use Rattle.match_stream.proofs.skip_index.levels.Given as goal
-
-abbrev pub invariant-sizes : goal.invariant-sizes
-invariant-sizes l = record { some : 0 < l.size; levels : AreLevelsOf l.keys l.levels.items }
-
-abbrev pub decreases-sizes : goal.decreases-sizes
-decreases-sizes l = length l.keys - l.size
