@@ -17,18 +17,18 @@ returns-clause-all g c =
     let from = c.partition_point-from.result in
     let count = c.partition_point-count.result in
     let all = c.deref-2.result.now in
-    let Lesser = λ (entry : g.posting.K.Denot × g.posting.V.Denot). is_lt (cmp entry.0 key) in
-    let NotGreater = λ (entry : g.posting.K.Denot × g.posting.V.Denot). is_le (cmp entry.0 key) in
+    let Lesser = λ (entry : g.row.K.Denot × g.row.V.Denot). is_lt (cmp entry.0 key) in
+    let NotGreater = λ (entry : g.row.K.Denot × g.row.V.Denot). is_le (cmp entry.0 key) in
     let rest = take (length all - from) (drop from all) in
     let rest_is : rest ≡ drop from entries = take_all (length all - from) (drop from all) (omega (arith, length-drop from all)) ∙ ap (drop from) c.deref-2.ensures.value in
-    let first = subst (λ (xs : List (g.posting.K.Denot × g.posting.V.Denot)). IsPartitionPoint (λ e. Lesser e ≡ true) (λ e. Lesser e ≡ false) xs from) c.deref.ensures.value
+    let first = subst (λ (xs : List (g.row.K.Denot × g.row.V.Denot)). IsPartitionPoint (λ e. Lesser e ≡ true) (λ e. Lesser e ≡ false) xs from) c.deref.ensures.value
     (IsPartitionPoint-from_clause Lesser c.deref.result.now from c.partition_point-from.ensures.partitioned
     (subst (IsPartitionedBy Lesser) (sym c.deref.ensures.value) (lesser_first total entries key sorted)) (λ a r q k. search rules)) in
-    let second = subst (λ (xs : List (g.posting.K.Denot × g.posting.V.Denot)). IsPartitionPoint (λ e. NotGreater e ≡ true) (λ e. NotGreater e ≡ false) xs count) rest_is
+    let second = subst (λ (xs : List (g.row.K.Denot × g.row.V.Denot)). IsPartitionPoint (λ e. NotGreater e ≡ true) (λ e. NotGreater e ≡ false) xs count) rest_is
     (IsPartitionPoint-from_clause NotGreater rest count c.partition_point-count.ensures.partitioned
     (subst (IsPartitionedBy NotGreater) (sym rest_is) (equal_first total entries key sorted from)) (λ a r q k. search rules)) in
     λ own value alike has.
-    subst (λ (xs : List (g.posting.K.Denot × g.posting.V.Denot)). Contains (take count xs) (own, value)) (sym rest_is)
+    subst (λ (xs : List (g.row.K.Denot × g.row.V.Denot)). Contains (take count xs) (own, value)) (sym rest_is)
     (found_between total entries key sorted from count first second own value alike has)
 
 pub returns-clause-keyed : goal.returns-clause-keyed
@@ -41,16 +41,16 @@ returns-clause-keyed g c =
     let from = c.partition_point-from.result in
     let count = c.partition_point-count.result in
     let all = c.deref-2.result.now in
-    let Lesser = λ (entry : g.posting.K.Denot × g.posting.V.Denot). is_lt (cmp entry.0 key) in
-    let NotGreater = λ (entry : g.posting.K.Denot × g.posting.V.Denot). is_le (cmp entry.0 key) in
+    let Lesser = λ (entry : g.row.K.Denot × g.row.V.Denot). is_lt (cmp entry.0 key) in
+    let NotGreater = λ (entry : g.row.K.Denot × g.row.V.Denot). is_le (cmp entry.0 key) in
     let rest = take (length all - from) (drop from all) in
     let rest_is : rest ≡ drop from entries = take_all (length all - from) (drop from all) (omega (arith, length-drop from all)) ∙ ap (drop from) c.deref-2.ensures.value in
-    let first = subst (λ (xs : List (g.posting.K.Denot × g.posting.V.Denot)). IsPartitionPoint (λ e. Lesser e ≡ true) (λ e. Lesser e ≡ false) xs from) c.deref.ensures.value
+    let first = subst (λ (xs : List (g.row.K.Denot × g.row.V.Denot)). IsPartitionPoint (λ e. Lesser e ≡ true) (λ e. Lesser e ≡ false) xs from) c.deref.ensures.value
     (IsPartitionPoint-from_clause Lesser c.deref.result.now from c.partition_point-from.ensures.partitioned
     (subst (IsPartitionedBy Lesser) (sym c.deref.ensures.value) (lesser_first total entries key sorted)) (λ a r q k. search rules)) in
-    let second = subst (λ (xs : List (g.posting.K.Denot × g.posting.V.Denot)). IsPartitionPoint (λ e. NotGreater e ≡ true) (λ e. NotGreater e ≡ false) xs count) rest_is
+    let second = subst (λ (xs : List (g.row.K.Denot × g.row.V.Denot)). IsPartitionPoint (λ e. NotGreater e ≡ true) (λ e. NotGreater e ≡ false) xs count) rest_is
     (IsPartitionPoint-from_clause NotGreater rest count c.partition_point-count.ensures.partitioned
     (subst (IsPartitionedBy NotGreater) (sym rest_is) (equal_first total entries key sorted from)) (λ a r q k. search rules)) in
     λ entry has.
     keyed_between total entries key sorted from count first second entry
-    (subst (λ (xs : List (g.posting.K.Denot × g.posting.V.Denot)). Contains (take count xs) entry) rest_is has)
+    (subst (λ (xs : List (g.row.K.Denot × g.row.V.Denot)). Contains (take count xs) entry) rest_is has)
