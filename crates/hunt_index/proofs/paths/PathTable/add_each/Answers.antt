@@ -5,7 +5,7 @@ use Rattle.hunt_index.proofs.paths.PathTable.add_each.Goals as goal
 
 pub loop-posting-preserved : goal.loop-posting-preserved
 loop-posting-preserved c =
-    filed_next c.args.postings.now c.loop-posting.row-index c.posting-item.result c.loop-posting.self c.add.new.self c.loop-posting-test.true c.posting-item.is c.loop-posting.invariant c.in_ok-add.ensures
+    filed_next c.args.postings.now c.loop-posting.posting-index c.posting-item.result c.loop-posting.self c.add.new.self c.loop-posting-test.true c.posting-item.is c.loop-posting.invariant c.in_ok-add.ensures
 
 pub returns : goal.returns
 returns c =
