@@ -8,7 +8,7 @@ use command_reasons::write_write_fault;
 use flow_edges::{Sink, write_whole};
 use flow_values::Fault;
 
-/// What a program says of itself.
+/// The answers of a program to `--help` and `--version`.
 #[derive(Clone, Copy)]
 pub struct About<'a> {
     /// The lines that `--help` writes.

@@ -10,7 +10,7 @@ use flow_edges::{ReadSource, WriteSink};
 use flow_values::NoMemory;
 use std::process::ExitCode;
 
-/// What `--help` and `--version` write.
+/// The answers to `--help` and `--version`.
 const ABOUT: About<'static> = About {
     help: "\
 usage: stix_alerts PATTERN N SECONDS\n\

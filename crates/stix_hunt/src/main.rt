@@ -11,7 +11,7 @@ use flow_edges::{ReadSource, SystemFiles, WriteSink};
 use flow_values::NoMemory;
 use std::process::ExitCode;
 
-/// What `--help` and `--version` write.
+/// The answers to `--help` and `--version`.
 const ABOUT: About<'static> = About {
     help: "\
 usage: stix_hunt [--indicators FILE] TIME [CAP]\n\

@@ -12,7 +12,7 @@ use flow_values::NoMemory;
 use std::process::ExitCode;
 use taxii_sqlite::{SqliteKeeper, Start, Unknown};
 
-/// What `--help` and `--version` write.
+/// The answers to `--help` and `--version`.
 const ABOUT: About<'static> = About {
     help: "\
 usage: stix_mirror HOST PORT ROOT COLLECTION FILE TRIES [--since TIME]\n\
