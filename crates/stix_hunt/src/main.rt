@@ -22,7 +22,7 @@ sightings at the end. The log is read from standard input, a STIX bundle a line.
 \x20 --indicators FILE  an indicator a line; without it the first line of the\n\
 \x20                    log is a bundle with the indicators\n\
 \x20 TIME               when an indicator has to be valid, as 2021-06-10T00:00:00Z\n\
-\x20 CAP                partial matches retained for a pattern: 1 to 1000000, 200000\n\
+\x20 CAP                partial matches retained for a pattern, 1 to 1000000\n\
 \x20 --help             writes this text; alone\n\
 \x20 --version          writes the version; alone\n\
 \n\
