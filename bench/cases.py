@@ -161,7 +161,8 @@ ANY = "[user-account:account_login LIKE '%']"
 
 
 def right(brackets):
-    return " FOLLOWEDBY (".join(brackets) + ")" * (len(brackets) - 2)
+    """A FOLLOWEDBY (B FOLLOWEDBY (C FOLLOWEDBY D))."""
+    return " FOLLOWEDBY (".join(brackets[:-1]) + f" FOLLOWEDBY {brackets[-1]}" + ")" * (len(brackets) - 2)
 
 
 def nested(name, measures, pattern, log, status=0):
@@ -220,7 +221,7 @@ show("in-numbers", "IN of numbers", filled("1", ",", "[a:b IN(", ")]"))
 show("in-texts", "IN of texts", filled("''", ",", "[a:b IN(", ")]"))
 show("in-times", "IN of timestamps", filled("t'2021-06-10T00:00:00Z'", ",", "[a:b IN(", ")]"))
 show("blocks", "address blocks", filled("a:b ISSUBSET '::/128'", " OR ", "[", "]"))
-show("wide", "lists under 62 ANDs, of many types", wide("a#:b=1", 2500, "a0:b=1"), 3)
+show("wide", "lists under 62 ANDs, of many types", wide("a#:b=1", 2500, "a0:b=1"))
 show("text", "one text of backslashes", "[a:b='" + "\\\\" * 32_764 + "']")
 show("hex", "one constant in hex", "[a:b=h'" + "fF" * 32_763 + "']")
 show("base64", "one constant in base64", "[a:b=b'" + "AAAA" * 16_381 + "']")

@@ -10,11 +10,13 @@ from dataclasses import dataclass
 
 STACK = 1 << 20
 PAUSE = 0.002
+# Within a shorter run the peak may be missed.
+SHORT = 0.02
 
 
 @dataclass
 class Run:
-    """How a program ended: its status, seconds of processor and by the clock, peak memory in bytes, first line of its reasons."""
+    """How a program ended: its status, seconds of processor and by the clock, peak memory in bytes (0 if unknown), first line of its reasons."""
 
     status: int
     processor: float
@@ -57,4 +59,4 @@ def run_once(words, source=os.devnull):
         child.returncode = os.waitstatus_to_exitcode(status)
         reasons.seek(0)
         reason = reasons.readline().decode(errors="replace").strip()
-    return Run(child.returncode, used.ru_utime + used.ru_stime, clock, memory, reason)
+    return Run(child.returncode, used.ru_utime + used.ru_stime, clock, memory if clock > SHORT else 0, reason)

@@ -15,7 +15,7 @@ from processes import memory_of, run_once
 from serving import COLLECTION, HERE, Server, post_of, request_of, row_body, uuid
 
 ROWS, FEW, AT_ONCE, TURN = 1_000_000, 15, 1000, 300
-MAX_HEAD, MAX_BODY, MAX_REPLY = 16_000, 8_388_608, 67_108_864
+MAX_QUERY, MAX_BODY, MAX_REPLY = 16_000, 8_388_608, 67_108_864
 NUMBERS = itertools.count(0xA000_0000_0000)
 
 
@@ -88,7 +88,10 @@ def walk(bench):
         count += body.count(b'"spec_version"')
         following = re.search(rb'"next":"([^"]*)"', body)
         following = f"&next={following[1].decode()}" if following else None
-    return [count / (time.perf_counter() - began)], memory_of(server.process.pid)
+    seconds = time.perf_counter() - began
+    if count != bench.size(ROWS):
+        raise RuntimeError(f"a walk gave {count} objects")
+    return [count / seconds], memory_of(server.process.pid)
 
 
 def request(bench, path, fields=(), method="GET"):
@@ -104,8 +107,10 @@ def query(text, path=f"{HERE}objects/"):
 
 def many(word, member):
     """A query whose word has as many members as a head holds."""
-    length = len(member(0)) + 1
-    return query(f"{word}=" + ",".join(member(it) for it in range(MAX_HEAD // length - 10)))
+    text, number = f"{word}={member(0)}", 1
+    while len(text) + len(member(number)) < MAX_QUERY:
+        text, number = f"{text},{member(number)}", number + 1
+    return query(text)
 
 
 def fields(bench):
