@@ -80,7 +80,7 @@ match("match/and", "AND within 10 seconds", f"({A} AND {B}) WITHIN 10 SECONDS")
 match("match/and-wide", "AND within 100,000 seconds, one side never holds", f"({A} AND {login('none')}) WITHIN 100000 SECONDS")
 match("match/followedby", "FOLLOWEDBY within 10 seconds", f"({A} FOLLOWEDBY {B}) WITHIN 10 SECONDS")
 match("match/followedby-2", "two FOLLOWEDBY within 5 seconds", f"({A} FOLLOWEDBY {B} FOLLOWEDBY {C}) WITHIN 5 SECONDS")
-match("match/long", "`match/quarter` over ten times the log", A, ("logins", 1_000_000), target=Target(11, beside="match/quarter"))
+match("match/long", "`match/quarter` over ten times the log", A, ("logins", 1_000_000))
 
 # One bracket of 101 comparisons, over 100,000 lines of five objects
 
@@ -89,7 +89,7 @@ for name, comparison in {
     "references": "x-a:b_ref.c_ref.v = 2", "block": "ipv4-addr:value ISSUBSET '203.0.113.0/24'",
 }.items():
     match(f"comparison/{name}", f"101 times `{comparison}`", "[" + " OR ".join([comparison] * 101) + "]", OBJECTS)
-match("comparison/one", "one comparison, for comparison", "[user-account:account_login = 'a']", OBJECTS)
+match("comparison/one", "one such comparison", "[user-account:account_login = 'a']", OBJECTS)
 
 case("check/bundle", "`check` of a bundle of 100,000 objects, 56 MB", ("{stix_command}", "check"), BUNDLE, target=Target(3, "memory", "input"))
 
@@ -103,7 +103,7 @@ def hunt(name, measures, feed, log, cap=(), **others):
 
 
 hunt("1", "1 indicator, 100,000 lines", ("feed", "1"), FOUR)
-hunt("10000", "10,000 indicators, 100,000 lines", ("feed", 10_000), FOUR, target=Target(2, beside="hunt/1"))
+hunt("10000", "10,000 indicators, 100,000 lines", ("feed", 10_000), FOUR)
 hunt("1000000", "1,000,000 indicators, 100,000 lines", ("feed", 1_000_000), FOUR)
 hunt("feed", "1,000,000 indicators, an empty log", ("feed", 1_000_000), ())
 hunt("sequences", "10,000 indicators, 1,000 of them FOLLOWEDBY", ("feed", 10_000, 1000), FOUR)
@@ -148,9 +148,9 @@ line("offsets", "1,000 comparisons, a list of 3,000,000", f"[{' OR '.join(f'{THI
 line("text", "6,000 objects that refer to a text of 1 MB, LIKE", f"[{THING}:a_ref.text LIKE '%b']", ("text-in-one", "text", 1_000_000, 6000))
 line("text-apart", "the same, each in an observation", f"[{THING}:a_ref.text LIKE '%b']", ("text-in-one", "text", 1_000_000, 6000, "apart"))
 line("hex", "6.8 MB in hex, IN with 8,000 constants", f"[{THING}:a_ref.text_hex IN ({HEX})]", ("text-in-one", "text_hex", 6_800_000, 6000))
-line("like-long", "a text of 8 MB, LIKE with 60,000 characters between %", f"[{THING}:a_ref.text LIKE '%{AB}%']", ("text-in-one", "text", 8_388_000, "1"))
-line("like-parts", "the same, 30,000 times %a, and b", f"[{THING}:a_ref.text LIKE '{'%a' * 30_000}%b']", ("text-in-one", "text", 8_388_000, "1"))
-line("like-underscore", "the same, 60 characters with _ between %", f"[{THING}:a_ref.text LIKE '%{'a' * 30}_{'a' * 29}b%']", ("text-in-one", "text", 8_388_000, "1"))
+line("like-long", "a text of 8 MB, LIKE with 60,000 characters between %", f"[{THING}:a_ref.text LIKE '%{AB}%']", ("text-in-one", "text", 8_387_000, "1"))
+line("like-parts", "the same, 30,000 times %a, and b", f"[{THING}:a_ref.text LIKE '{'%a' * 30_000}%b']", ("text-in-one", "text", 8_387_000, "1"))
+line("like-underscore", "the same, 60 characters with _ between %", f"[{THING}:a_ref.text LIKE '%{'a' * 30}_{'a' * 29}b%']", ("text-in-one", "text", 8_387_000, "1"))
 line("like-many", "2,000,000 texts of one character, LIKE with 60,000", f"[{THING}:list[*] LIKE '%{'b' * 60_000}%']", ("texts", 2_000_000))
 line("objects", "60,000 objects, one in an observation", f"[{THING}:n = 1]", ("things", 60_000))
 line("observations", "14,000 observations, each of its own object", f"[{THING}:n = 1]", ("things", 14_000, "observed"))

@@ -26,6 +26,14 @@ def rows_of(count):
         yield number, version, "indicator", row_body("indicator", number, version)
 
 
+def counted(bench, rows):
+    """The rows, whose bodies' bytes are added up."""
+    bench.bodies = 0
+    for row in rows:
+        bench.bodies += len(row[3])
+        yield row
+
+
 def answer(server, request, *statuses):
     """The seconds until the answer, which has one of these statuses, and its body."""
     seconds, status, body = server.ask(request)
@@ -37,7 +45,7 @@ def answer(server, request, *statuses):
 def load(bench):
     """Opens a store of 1,000,000 rows; the last server stays for the talks below."""
     count, file = bench.size(ROWS), f"{bench.folder}/large.db"
-    serving.insert_rows(file, rows_of(count))
+    serving.insert_rows(file, counted(bench, rows_of(count)))
     seconds = []
     for turn in range(min(2, bench.repetitions)):
         if turn:
@@ -60,7 +68,7 @@ def row_memory(bench):
     empty = Server(bench.program("stix_command"), f"{bench.folder}/empty.db")
     taken = memory_of(server.process.pid, "VmRSS") - memory_of(empty.process.pid, "VmRSS")
     empty.end()
-    return [taken / count - len(row_body("indicator", count // 2, count // 2))], memory_of(server.process.pid)
+    return [(taken - bench.bodies) / count], memory_of(server.process.pid)
 
 
 def rate(bench, server, requests, *statuses):
