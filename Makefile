@@ -3,7 +3,7 @@
 #   make check CRATE=stix_json     proves one crate, beginning with what earlier checks kept
 #   make test WORD=check/          plays the rows with WORD in their name, over the program that was built last
 #   make gate                      proves and tests everything: what a merge runs
-#   make bench CASE=match          times one case of bench/
+#   make bench CASE=match          measures one case of bench/cases.py, or a family of them
 #   make fmt                       lays out the crates that changed since the last commit
 #   make build PROGRAM=stix_hunt   proves what the program stands on and builds it
 #   make which FILE=..             the crates that an edit of FILE proves anew
@@ -34,8 +34,8 @@ gate:
 	@.ci/run
 
 bench:
-	@echo "bench: bench/$(CASE).sh"
-	@bench/$(CASE).sh
+	@echo "bench: bench/run $(CASE)"
+	@bench/run $(CASE)
 
 fmt:
 	@echo "fmt: rt fmt in the crates that changed"
