@@ -73,6 +73,10 @@ def identity(number, name="N", modified=CREATED):
     })
 
 
+def large_identity(number):
+    return identity(number, "N" * 1000)
+
+
 def envelope(entries):
     """A TAXII envelope of these texts."""
     return '{"objects":[' + ",".join(entries) + "]}"
