@@ -67,6 +67,13 @@ def indicator(number, pattern, **more):
     }
 
 
+def sighting(number, count, first, last, created, modified):
+    return {
+        "count": int(count), "created": created, "first_seen": first, "id": f"sighting--{uuid(number)}", "last_seen": last,
+        "modified": modified, "sighting_of_ref": f"indicator--{uuid(number)}", "spec_version": "2.1", "type": "sighting",
+    }
+
+
 def identity(number, name="N", modified=CREATED):
     return compact({
         "created": CREATED, "id": f"identity--{uuid(number)}", "modified": modified, "name": name, "spec_version": "2.1", "type": "identity",

@@ -9,7 +9,7 @@ import re
 from dataclasses import dataclass, field
 from pathlib import Path
 
-from belkasim.objects import brackets, bundle, compact, indicator, login, moment, observed_data, uuid
+from belkasim.objects import brackets, bundle, compact, indicator, login, moment, observed_data, sighting, uuid
 
 EVENT = re.compile(r"\w+@[0-9]+(\.[0-9]+)?(\.\.[0-9]+(\.[0-9]+)?)?")
 NO_COMMENT = re.compile(r"=>|->|= >|\t|\|")
@@ -234,13 +234,6 @@ def hunted(text):
     if "broken" in given:
         del it["valid_from"]
     return it
-
-
-def sighting(number, count, first, last, created, modified):
-    return {
-        "count": int(count), "created": created, "first_seen": first, "id": f"sighting--{uuid(number)}", "last_seen": last,
-        "modified": modified, "sighting_of_ref": f"indicator--{uuid(number)}", "spec_version": "2.1", "type": "sighting",
-    }
 
 
 def hunt_lines(lines, objects, time):
