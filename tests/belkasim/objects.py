@@ -13,6 +13,11 @@ def uuid(number):
     return f"00000000-0000-4000-8000-{int(number):012d}"
 
 
+def number_of(item):
+    """The number in the identifier of an object."""
+    return int(item["id"][-12:])
+
+
 def compact(value):
     return json.dumps(value, separators=(",", ":"), ensure_ascii=False)
 

@@ -8,7 +8,7 @@ import subprocess
 import time
 
 from belkasim.http import PATIENCE, Connection, request
-from belkasim.objects import COLLECTION, OBJECTS, envelope, identity, uuid
+from belkasim.objects import COLLECTION, OBJECTS, envelope, number_of, uuid
 from belkasim.runner import Differs
 
 STACK = 2**20
@@ -141,7 +141,3 @@ class Client:
     def numbers(self, after=None):
         """The numbers in the identifiers of those."""
         return [number_of(it) for it in self.objects(after)]
-
-
-def number_of(item):
-    return int(item["id"][-12:])
