@@ -1,13 +1,13 @@
 """Rows: what a program is given and, to the byte, what it writes. They are read from tests/rows and played against a program."""
 
 import os
-import resource
 import subprocess
 import tempfile
 from dataclasses import dataclass
 from pathlib import Path
 
 from belkasim.runner import difference, one_line
+from belkasim.server import STACK, limits
 from belkasim.tables import FORMATS, Mistyped, Row
 
 TOP = Path(__file__).resolve().parents[2]
@@ -19,7 +19,6 @@ PATHS = {"stdin.path", "stdout.path", "stderr.path"}
 ENVIRONMENT = {**os.environ, "LC_ALL": "C", "top": str(TOP)}
 # The greatest input that is played byte by byte.
 BY_BYTE = 20000
-STACK = 2**20
 
 
 # ---- reading
@@ -86,14 +85,6 @@ def read_folder(folder, name):
 
 
 # ---- playing
-
-def limits(stack=None, memory=None):
-    """What a child process does before it runs the program."""
-    if stack:
-        resource.setrlimit(resource.RLIMIT_STACK, (stack, stack))
-    if memory:
-        resource.setrlimit(resource.RLIMIT_AS, (memory, memory))
-
 
 def status_of(process):
     """The status as a shell gives it."""

@@ -49,9 +49,15 @@ class Result(unittest.TestResult):
 
     def addFailure(self, test, err):
         self.failed += 1
-        print(one_line(f"{self.suite}/{test.id().split('.')[-1]}: {err[0].__name__ if err[0] is not Differs else 'differs'}: {err[1]}"), flush=True)
+        name, _, part = test.id().partition(" ")
+        kind = "" if issubclass(err[0], AssertionError) else f"{err[0].__name__}: "
+        print(one_line(f"{self.suite}/{name.split('.')[-1]}{part}: {kind}{err[1]}"), flush=True)
 
     addError = addFailure
+
+    def addSubTest(self, test, subtest, err):
+        if err:
+            self.addFailure(subtest, err)
 
 
 def run(suite, *cases):

@@ -51,8 +51,9 @@ def check_comment(lines):
     for number, text in lines:
         if NO_COMMENT.search(text):
             raise Mistyped(number, f"no row: {text}")
-    if lines and not (lines[0][1][0].isalpha() and lines[-1][1].endswith(".")):
-        raise Mistyped(lines[0][0], f"neither a row nor a sentence: {lines[0][1]}")
+    for is_right, (number, text) in ((lines[0][1][0].isalpha(), lines[0]), (lines[-1][1].endswith("."), lines[-1])) if lines else ():
+        if not is_right:
+            raise Mistyped(number, f"neither a row nor a sentence: {text}")
 
 
 def rows_of_lines(name, text, read):
@@ -138,6 +139,8 @@ def object_rows(name, text, _):
             objects.append(line)
         else:
             raise Mistyped(number, f"neither an object nor what is indented below one: {line}")
+    if not objects:
+        return
     head = '{"type":"bundle","id":"bundle--%s","objects":[' % uuid(1)
     given = "".join(("," if at else head) + it + "\n" for at, it in enumerate(objects)) + "]}\n"
     told = faults + markings
