@@ -192,7 +192,7 @@ def missing(*tools):
 
 
 def play(name, kind, programs, parts):
-    """Sets up a field of this kind over the programs of a folder, plays the parts in turn, and gives the status."""
+    """Sets up a field of this kind over the programs of a folder, runs the parts in turn, and returns the status."""
     passed = failed = 0
     with tempfile.TemporaryDirectory() as folder:
         os.chmod(folder, 0o755)

@@ -35,7 +35,7 @@ def moment(seconds):
 
 
 def brackets(pattern):
-    """The pattern, in which A to D, each alone, stand for the brackets of the logins a to d."""
+    """The pattern, in which A to D, each alone, are replaced by the brackets of the logins a to d."""
     return re.sub(r"(?<![^( ])([A-D])(?![^) ])", lambda it: f"[user-account:account_login = '{it[1].lower()}']", pattern)
 
 

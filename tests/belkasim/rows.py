@@ -1,4 +1,4 @@
-"""Rows: what a program is given and, to the byte, what it writes. They are read from tests/rows and played against a program."""
+"""Rows, which are test cases: what a program is given and, to the byte, what it writes. They are read from tests/rows and run."""
 
 import os
 import subprocess
@@ -17,7 +17,7 @@ FILES = {"args", "stdin", "stdout", "stderr", "status", "memory", "feed"}
 SCRIPTS = {"args.sh", "stdin.sh", "stdout.sh"}
 PATHS = {"stdin.path", "stdout.path", "stderr.path"}
 ENVIRONMENT = {**os.environ, "LC_ALL": "C", "top": str(TOP)}
-# The greatest input that is played byte by byte.
+# The longest input that is written one byte a write.
 BY_BYTE = 20000
 
 
@@ -25,7 +25,7 @@ BY_BYTE = 20000
 
 @dataclass
 class Table:
-    """A table, or a folder that is a row: its rows, where the folder's row is read when it is played; or a fault."""
+    """The rows of a table or of a folder, whose row is read when it is run; or the fault in it."""
 
     name: str
     rows: list
@@ -84,7 +84,7 @@ def read_folder(folder, name):
     return row
 
 
-# ---- playing
+# ---- running
 
 def status_of(process):
     """The status as a shell gives it."""
@@ -92,14 +92,14 @@ def status_of(process):
 
 
 class Player:
-    """Plays rows against a program, with files for its input and outputs that serve for each play."""
+    """Runs rows over a program. The files of its input and outputs are used again for each run."""
 
     def __init__(self, program):
         self.program = program
         self.input, self.output, self.errors, self.feed = (tempfile.NamedTemporaryFile(buffering=0) for _ in range(4))
 
     def play(self, row):
-        """Plays a row in each way, and gives a line for each thing that differs."""
+        """Runs a row in each way, and returns a line for each difference."""
         try:
             if isinstance(row.args, Path):
                 row = read_folder(row.args, row.name)
@@ -136,7 +136,7 @@ class Player:
         return file.read()
 
     def streams(self, paths):
-        """The streams of a play, and those that are opened for it."""
+        """The standard streams of a run, and those of them that are files of `paths`."""
         for file in (self.output, self.errors):
             self.refill(file, b"")
         self.input.seek(0)
@@ -144,7 +144,7 @@ class Player:
         return {"stdin": self.input, "stdout": self.output, "stderr": self.errors, **opened}, opened
 
     def with_files(self, row, words, way, paths, before=None):
-        """A play whose streams are files; `paths` names others than the usual ones."""
+        """A run whose standard streams are files; `paths` replaces some of them."""
         streams, opened = self.streams(paths)
         process = subprocess.Popen(words, env=ENVIRONMENT, preexec_fn=before, **streams)
         process.wait()
@@ -153,16 +153,16 @@ class Player:
         yield from self.compared(row, way, process, opened)
 
     def with_one_pipe(self, row, words):
-        """A play with both outputs in one pipe: what stands on standard error comes behind all of standard output."""
+        """A run with both outputs in one pipe: standard error follows all of standard output."""
         self.input.seek(0)
         process = subprocess.run(words, env=ENVIRONMENT, stdin=self.input, stdout=subprocess.PIPE, stderr=subprocess.STDOUT, check=False)
         if process.stdout != row.stdout + row.stderr:
             yield f"one-pipe: {difference(row.stdout + row.stderr, process.stdout)}"
         if status_of(process) != row.status:
-            yield f"one-pipe: status {row.status} wanted, {status_of(process)} came"
+            yield f"one-pipe: status: expected {row.status}, got {status_of(process)}"
 
     def by_byte(self, row, words):
-        """A play whose input is a pipe with one byte a write."""
+        """A run whose input is a pipe, with one byte a write."""
         streams, _ = self.streams({})
         process = subprocess.Popen(words, env=ENVIRONMENT, bufsize=0, **{**streams, "stdin": subprocess.PIPE})
         descriptor = process.stdin.fileno()
@@ -176,10 +176,10 @@ class Player:
         yield from self.compared(row, "by-byte", process)
 
     def compared(self, row, way, process, elsewhere=()):
-        """What differs after a play, besides the streams that went elsewhere."""
-        for name, wanted, file in (("stdout", row.stdout, self.output), ("stderr", row.stderr, self.errors)):
-            came = self.read(file)
-            if name not in elsewhere and came != wanted:
-                yield f"{way}: {name}: {difference(wanted, came)}"
+        """What differs after a run, without the streams that went elsewhere."""
+        for name, expected, file in (("stdout", row.stdout, self.output), ("stderr", row.stderr, self.errors)):
+            actual = self.read(file)
+            if name not in elsewhere and actual != expected:
+                yield f"{way}: {name}: {difference(expected, actual)}"
         if status_of(process) != row.status:
-            yield f"{way}: status {row.status} wanted, {status_of(process)} came"
+            yield f"{way}: status: expected {row.status}, got {status_of(process)}"

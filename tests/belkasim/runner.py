@@ -4,22 +4,22 @@ import unittest
 
 
 class Differs(AssertionError):
-    """Something other came than was wanted."""
+    """A result isn't the expected one."""
 
 
-def same(what, wanted, came):
-    if wanted != came:
-        raise Differs(f"{what}: {difference(wanted, came)}")
+def same(what, expected, actual):
+    if expected != actual:
+        raise Differs(f"{what}: {difference(expected, actual)}")
 
 
-def difference(wanted, came):
-    """Both values, from a little ahead of where they differ."""
-    if type(wanted) is not type(came) or not isinstance(wanted, (str, bytes)):
-        return f"wanted {short(wanted)}, came {short(came)}"
-    at = next((at for at, (a, b) in enumerate(zip(wanted, came)) if a != b), min(len(wanted), len(came)))
+def difference(expected, actual):
+    """Both values; of long texts the part around the first difference."""
+    if type(expected) is not type(actual) or not isinstance(expected, (str, bytes)):
+        return f"expected {short(expected)}, got {short(actual)}"
+    at = next((at for at, (a, b) in enumerate(zip(expected, actual)) if a != b), min(len(expected), len(actual)))
     start = max(0, at - 30)
-    where = f" from {start} on" if start else ""
-    return f"wanted{where} {short(wanted[start:start + 250])}, came {short(came[start:start + 250])}"
+    where = f" at offset {start}" if start else ""
+    return f"expected{where} {short(expected[start:start + 250])}, got {short(actual[start:start + 250])}"
 
 
 def short(value):

@@ -1,7 +1,7 @@
 """The tables of tests/rows: a function of each format makes a row of a line. tests/README.md says how they are written.
 
-A line that is no row is a comment or a mistake. A comment stands ahead of the rows of its paragraph; it begins with a letter,
-ends with a full stop, and has no tab, arrow or bar.
+A line that isn't a row is a comment or a mistake. A comment precedes the rows of its paragraph. It begins with a letter, ends with
+a full stop, and has no tab, arrow or bar.
 """
 
 import json
@@ -24,8 +24,8 @@ class Mistyped(Exception):
 
 @dataclass
 class Row:
-    """What the program is given and what it writes. A word FILE stands for a file that holds `feed`. In place of its words a row may
-    have the folder that it is read from when it is played."""
+    """What the program is given and what it writes. A word FILE is replaced by a file with `feed`. In place of its arguments a row
+    may have the folder from which it is read when it is run."""
 
     name: str
     args: list | Path
@@ -47,7 +47,7 @@ def lines_of(texts):
 
 
 def check_comment(lines):
-    """Whether these lines, ahead of a paragraph's rows, are a comment."""
+    """Raises where these lines, which precede a paragraph's rows, aren't a comment."""
     for number, text in lines:
         if NO_COMMENT.search(text):
             raise Mistyped(number, f"no row: {text}")
@@ -114,13 +114,13 @@ def input_rows(name, text, _):
     words = words[0].split(" ", 1)
 
     def read(row_name, line):
-        given, arrow, told = line.partition(" =>")
-        if not arrow or told[:1].strip():
+        given, arrow, result = line.partition(" =>")
+        if not arrow or result[:1].strip():
             return None
         row = Row(row_name, words, unescaped(given))
-        if told.startswith(" ! "):
-            return row.refuse(4, f"line 1 refused: {told[3:]}")
-        row.stdout = lines_of([told[1:]] if told else [])
+        if result.startswith(" ! "):
+            return row.refuse(4, f"line 1 refused: {result[3:]}")
+        row.stdout = lines_of([result[1:]] if result else [])
         return row
 
     yield from rows_of_lines(name, re.sub(r"^words: .*$", "", text, flags=re.M), read)
@@ -143,8 +143,8 @@ def object_rows(name, text, _):
         return
     head = '{"type":"bundle","id":"bundle--%s","objects":[' % uuid(1)
     given = "".join(("," if at else head) + it + "\n" for at, it in enumerate(objects)) + "]}\n"
-    told = faults + markings
-    yield Row(name, ["check"], given.encode(), lines_of(told or [f"ok {len(objects)} objects"]), status=4 if told else 0)
+    result = faults + markings
+    yield Row(name, ["check"], given.encode(), lines_of(result or [f"ok {len(objects)} objects"]), status=4 if result else 0)
 
 
 def is_object(line):
@@ -178,7 +178,7 @@ def events(log):
 
 
 def log_parts(line, bars):
-    """What stands between the bars of a row, and the lines and the end that are wanted; None where it is no row."""
+    """The parts between the bars of a row, its expected lines and its error; None if it isn't a row."""
     left, arrow, wanted = line.rpartition(" =>")
     parts = [it.strip() for it in left.split(" | ")] if arrow else []
     if len(parts) != bars + 1 or wanted[:1].strip():
