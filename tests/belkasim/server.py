@@ -46,10 +46,15 @@ def free_port():
 
 
 def listens(port):
-    """Whether a socket of this machine listens at the port. No connection is opened for it."""
+    """Whether a socket of this machine listens at the port. No connection is opened for it. The listening sockets come first in the list."""
     with open("/proc/net/tcp", encoding="ascii") as it:
-        rows = [row.split() for row in it]
-    return any(row[1] == f"0100007F:{port:04X}" and row[3] == "0A" for row in rows)
+        next(it)
+        for row in map(str.split, it):
+            if row[3] != "0A":
+                return False
+            if row[1] == f"0100007F:{port:04X}":
+                return True
+    return False
 
 
 def wait_for(port, process):
@@ -104,12 +109,10 @@ class Client:
             self.close()
             self.connection, self.left = Connection(self.port), 1 if self.shares else REQUESTS
         self.left -= 1
-        try:
-            self.connection.send(request(method, path, ["Connection: close"] if self.shares else [], body))
-            answer = self.connection.read()
-        except OSError:
+        self.connection.send(request(method, path, ["Connection: close"] if self.shares else [], body))
+        answer = self.connection.read()
+        if self.shares:
             self.close()
-            raise
         return answer.status, answer.body.decode()
 
     def add(self, entries):
