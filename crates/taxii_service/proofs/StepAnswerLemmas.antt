@@ -62,29 +62,11 @@ reading_holds P config before forms NoRoute query answer its = absurd its
 
 post_holds : (P : Answer → Type 0) (config : Config) (before : State) → HoldsOfForms before.library.rows P → (moment : ℕ) (request : Request) (route : Route) (answer : Answer) (after : State)
     → Posts config before moment request route answer after → P answer
-post_holds P config before forms moment request Discovery answer after its = absurd its
-post_holds P config before forms moment request Root answer after its = absurd its
-post_holds P config before forms moment request (Status id) answer after its = absurd its
-post_holds P config before forms moment request Collections answer after its = absurd its
-post_holds P config before forms moment request (Collection id) answer after its = absurd its
-post_holds P config before forms moment request (Manifest id) answer after its = absurd its
-post_holds P config before forms moment request (Objects id) answer after its = body_holds P forms _ _ answer (λ is. absurd (cc is)) its.5
-post_holds P config before forms moment request (Object collection object) answer after its = absurd its
-post_holds P config before forms moment request (Versions collection object) answer after its = absurd its
-post_holds P config before forms moment request NoRoute answer after its = absurd its
+post_holds P config before forms moment request route answer after its = body_holds P forms _ _ answer (λ is. absurd (cc is)) its.answer_is
 
 delete_holds : (P : Answer → Type 0) (config : Config) (before : State) → HoldsOfForms before.library.rows P → (route : Route) (query : Query) (answer : Answer) (after : State)
     → Deletes config before route query answer after → P answer
-delete_holds P config before forms Discovery query answer after its = absurd its
-delete_holds P config before forms Root query answer after its = absurd its
-delete_holds P config before forms (Status id) query answer after its = absurd its
-delete_holds P config before forms Collections query answer after its = absurd its
-delete_holds P config before forms (Collection id) query answer after its = absurd its
-delete_holds P config before forms (Manifest id) query answer after its = absurd its
-delete_holds P config before forms (Objects id) query answer after its = absurd its
-delete_holds P config before forms (Object collection object) query answer after its = subst P (sym its.6) (forms.bare _ _ (λ is. absurd (cc is)))
-delete_holds P config before forms (Versions collection object) query answer after its = absurd its
-delete_holds P config before forms NoRoute query answer after its = absurd its
+delete_holds P config before forms route query answer after its = subst P (sym its.answer_is) (forms.bare _ _ (λ is. absurd (cc is)))
 
 does_holds : (P : Answer → Type 0) (config : Config) (before : State) → HoldsOfForms before.library.rows P → (moment : ℕ) (request : Request) (route : Route) (query : Query) (method : Method) (answer : Answer) (after : State)
     → Does config before moment request route query method answer after → P answer
@@ -115,16 +97,7 @@ add_other before collection moment body refusal cannot = λ is. absurd (cc is)
 
 post_other : (config : Config) (before : State) (moment : ℕ) (request : Request) (route : Route) (refusal : Refusal)
     → CannotPost config before moment request route refusal → IsOther refusal
-post_other config before moment request Discovery refusal cannot = absurd cannot
-post_other config before moment request Root refusal cannot = absurd cannot
-post_other config before moment request (Status id) refusal cannot = absurd cannot
-post_other config before moment request Collections refusal cannot = absurd cannot
-post_other config before moment request (Collection id) refusal cannot = absurd cannot
-post_other config before moment request (Manifest id) refusal cannot = absurd cannot
-post_other config before moment request (Objects id) refusal cannot = add_other before _ moment request.body refusal cannot.2
-post_other config before moment request (Object collection object) refusal cannot = absurd cannot
-post_other config before moment request (Versions collection object) refusal cannot = absurd cannot
-post_other config before moment request NoRoute refusal cannot = absurd cannot
+post_other config before moment request route refusal its = add_other before _ moment request.body refusal its.cannot
 
 do_other : (config : Config) (before : State) (moment : ℕ) (request : Request) (route : Route) (method : Method) (refusal : Refusal)
     → CannotDo config before moment request route method refusal → IsOther refusal

@@ -6,7 +6,6 @@ use Rattle.http_messages.specs.declared.request.Request.{Request}
 use Rattle.taxii_exchange.specs.declared.answer.Answer.{Answer}
 use Rattle.taxii_routes.specs.declared.query.Query.{Query}
 use Rattle.taxii_routes.specs.declared.route.Route.{Route}
-use Rattle.taxii_routes.specs.declared.route.Route.TheVariants.{Discovery, Root, Status, Collections, Collection, Manifest, Objects, Object, Versions, None as NoRoute}
 use Rattle.taxii_exchange.specs.declared.config.Config.{Config}
 use Rattle.taxii_service.specs.declared.state.State.{State}
 use Rattle.taxii_service.specs.Adding.{with_added}
@@ -22,34 +21,16 @@ unchanged before after same = no_history before.library after.library (ap (λ (s
 
 posted : (config : Config) (before : State) (moment : ℕ) (request : Request) (route : Route) (answer : Answer) (after : State)
     → Posts config before moment request route answer after → IsHistory before.library after.library
-posted config before moment request Discovery answer after none = absurd none
-posted config before moment request Root answer after none = absurd none
-posted config before moment request (Status id) answer after none = absurd none
-posted config before moment request Collections answer after none = absurd none
-posted config before moment request (Collection id) answer after none = absurd none
-posted config before moment request (Manifest id) answer after none = absurd none
-posted config before moment request (Objects id) answer after (info, named, new, text, adding, answer_is, after_is) =
-    subst (λ (state : State). IsHistory before.library state.library) (sym after_is)
-    (one_change before.library (with_added new text before).library
-    (inl (added before.library info.id moment adding.posted.objects.items adding.outcomes new adding.addition)))
-posted config before moment request (Object collection object) answer after none = absurd none
-posted config before moment request (Versions collection object) answer after none = absurd none
-posted config before moment request NoRoute answer after none = absurd none
+posted config before moment request route answer after its =
+    subst (λ (state : State). IsHistory before.library state.library) (sym its.after_is)
+    (one_change before.library (with_added its.new its.text before).library
+    (inl (added before.library its.info.id moment its.adding.posted.objects.items its.adding.outcomes its.new its.adding.addition)))
 
 deleted : (config : Config) (before : State) (route : Route) (query : Query) (answer : Answer) (after : State)
     → Deletes config before route query answer after → IsHistory before.library after.library
-deleted config before Discovery query answer after none = absurd none
-deleted config before Root query answer after none = absurd none
-deleted config before (Status id) query answer after none = absurd none
-deleted config before Collections query answer after none = absurd none
-deleted config before (Collection id) query answer after none = absurd none
-deleted config before (Manifest id) query answer after none = absurd none
-deleted config before (Objects id) query answer after none = absurd none
-deleted config before (Object collection object) query answer after (info, named, id, text_of, dates, taken, answer_is, after_is) =
-    subst (λ (state : State). IsHistory before.library state.library) (sym after_is)
-    (one_change before.library (without_dates dates before).library (inr (record { dates = dates; after_is = refl })))
-deleted config before (Versions collection object) query answer after none = absurd none
-deleted config before NoRoute query answer after none = absurd none
+deleted config before route query answer after its =
+    subst (λ (state : State). IsHistory before.library state.library) (sym its.after_is)
+    (one_change before.library (without_dates its.dates before).library (inr (record { dates = its.dates; after_is = refl })))
 
 done : (config : Config) (before : State) (moment : ℕ) (request : Request) (route : Route) (query : Query) (method : Method) (answer : Answer) (after : State)
     → Does config before moment request route query method answer after → IsHistory before.library after.library

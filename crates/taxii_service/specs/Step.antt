@@ -10,7 +10,7 @@ use Rattle.http_messages.specs.declared.status.Status.TheVariants.{Okay, Accepte
 use Rattle.taxii_exchange.specs.declared.answer.Answer.{Answer}
 use Rattle.taxii_routes.specs.declared.query.Query.{Query}
 use Rattle.taxii_routes.specs.declared.route.Route.{Route}
-use Rattle.taxii_routes.specs.declared.route.Route.TheVariants.{Discovery, Root, Status, Collections, Collection, Manifest, Objects, Object, Versions, None as NoRoute}
+use Rattle.taxii_routes.specs.declared.route.Route.TheVariants.{Objects, Object}
 use Rattle.taxii_routes.specs.Query.{pairs_of, IsQueryOf}
 use Rattle.taxii_routes.specs.Route.{IsPathOf}
 use Rattle.taxii_routes.specs.Target.{IsTargetOf}
@@ -30,34 +30,30 @@ use Rattle.taxii_service.specs.Adding.{IsAdding, CannotAdd, with_added}
 use Rattle.taxii_service.specs.Deleting.{AreDeleted, without_dates}
 
 -- POST of objects: they are added to the collection
-abbrev pub Posts : Config → State → ℕ → Request → Route → Answer → State → Type 0
-Posts config before moment request Discovery answer after = ⊥
-Posts config before moment request Root answer after = ⊥
-Posts config before moment request (Status id) answer after = ⊥
-Posts config before moment request Collections answer after = ⊥
-Posts config before moment request (Collection id) answer after = ⊥
-Posts config before moment request (Manifest id) answer after = ⊥
-Posts config before moment request (Objects id) answer after =
-    (info : CollectionInfo) × Names id config.collections info × (new : List StoredRow) × (text : List ℕ)
-    × IsAdding before info.id moment request.body new text × (answer ≡ body_answer Accepted text) × (after ≡ with_added new text before)
-Posts config before moment request (Object collection object) answer after = ⊥
-Posts config before moment request (Versions collection object) answer after = ⊥
-Posts config before moment request NoRoute answer after = ⊥
+pub record Posts (config : Config) (before : State) (moment : ℕ) (request : Request) (route : Route) (answer : Answer) (after : State) : Type 0 where
+  pub collection : List ℕ
+  pub route_is : route ≡ Objects collection
+  pub info : CollectionInfo
+  pub named : Names collection config.collections info
+  pub new : List StoredRow
+  pub text : List ℕ
+  pub adding : IsAdding before info.id moment request.body new text
+  pub answer_is : answer ≡ body_answer Accepted text
+  pub after_is : after ≡ with_added new text before
 
 -- DELETE of an object: the rows that the query selects are removed
-abbrev pub Deletes : Config → State → Route → Query → Answer → State → Type 0
-Deletes config before Discovery query answer after = ⊥
-Deletes config before Root query answer after = ⊥
-Deletes config before (Status id) query answer after = ⊥
-Deletes config before Collections query answer after = ⊥
-Deletes config before (Collection id) query answer after = ⊥
-Deletes config before (Manifest id) query answer after = ⊥
-Deletes config before (Objects id) query answer after = ⊥
-Deletes config before (Object collection object) query answer after =
-    (info : CollectionInfo) × Names collection config.collections info × (id : Id) × IsTextOf object id × (dates : List ℕ)
-    × AreDeleted before.library info.id id query dates × (answer ≡ bare_answer Okay None) × (after ≡ without_dates dates before)
-Deletes config before (Versions collection object) query answer after = ⊥
-Deletes config before NoRoute query answer after = ⊥
+pub record Deletes (config : Config) (before : State) (route : Route) (query : Query) (answer : Answer) (after : State) : Type 0 where
+  pub collection : List ℕ
+  pub object : List ℕ
+  pub route_is : route ≡ Object collection object
+  pub info : CollectionInfo
+  pub named : Names collection config.collections info
+  pub id : Id
+  pub text_of : IsTextOf object id
+  pub dates : List ℕ
+  pub deleted : AreDeleted before.library info.id id query dates
+  pub answer_is : answer ≡ bare_answer Okay None
+  pub after_is : after ≡ without_dates dates before
 
 -- the effect of a request that passed all checks
 abbrev pub Does : Config → State → ℕ → Request → Route → Query → Method → Answer → State → Type 0
@@ -68,18 +64,12 @@ Does config before moment request route query Delete answer after = Deletes conf
 Does config before moment request route query Other answer after = ⊥
 
 -- why objects cannot be added
-abbrev pub CannotPost : Config → State → ℕ → Request → Route → Refusal → Type 0
-CannotPost config before moment request Discovery refusal = ⊥
-CannotPost config before moment request Root refusal = ⊥
-CannotPost config before moment request (Status id) refusal = ⊥
-CannotPost config before moment request Collections refusal = ⊥
-CannotPost config before moment request (Collection id) refusal = ⊥
-CannotPost config before moment request (Manifest id) refusal = ⊥
-CannotPost config before moment request (Objects id) refusal =
-    (info : CollectionInfo) × Names id config.collections info × CannotAdd before info.id moment request.body refusal
-CannotPost config before moment request (Object collection object) refusal = ⊥
-CannotPost config before moment request (Versions collection object) refusal = ⊥
-CannotPost config before moment request NoRoute refusal = ⊥
+pub record CannotPost (config : Config) (before : State) (moment : ℕ) (request : Request) (route : Route) (refusal : Refusal) : Type 0 where
+  pub collection : List ℕ
+  pub route_is : route ≡ Objects collection
+  pub info : CollectionInfo
+  pub named : Names collection config.collections info
+  pub cannot : CannotAdd before info.id moment request.body refusal
 
 -- why a request that passed all checks cannot be performed
 abbrev pub CannotDo : Config → State → ℕ → Request → Route → Method → Refusal → Type 0

@@ -12,7 +12,7 @@ use Rattle.http_messages.specs.declared.status.Status.TheVariants.{Accepted}
 use Rattle.taxii_exchange.specs.declared.answer.Answer.{Answer}
 use Rattle.taxii_routes.specs.declared.query.Query.{Query}
 use Rattle.taxii_routes.specs.declared.route.Route.{Route}
-use Rattle.taxii_routes.specs.declared.route.Route.TheVariants.{Discovery, Root, Status, Collections, Collection, Manifest, Objects, Object, Versions, None as NoRoute}
+use Rattle.taxii_routes.specs.declared.route.Route.TheVariants.{Objects, Object}
 use Rattle.taxii_rows.specs.declared.stored_row.StoredRow.{StoredRow}
 use Rattle.taxii_rows.specs.StoreState.{StoreState, dates_of, AscendFrom}
 use Rattle.taxii_store.specs.Addition.{IsAddition}
@@ -43,6 +43,14 @@ IsOne answer other first second = (answer ≡ other) × (first ≡ second)
 one_info : (text : List ℕ) (infos : List CollectionInfo) (first second : CollectionInfo) → Names text infos first → Names text infos second → first ≡ second
 one_info text infos first second names also = let same : Some first ≡ Some second = sym names ∙ also in cc
 
+-- a route to objects leads to one collection
+one_named : (infos : List CollectionInfo) (route : Route) (text other : List ℕ) (first second : CollectionInfo) → route ≡ Objects text → route ≡ Objects other
+    → Names text infos first → Names other infos second → first ≡ second
+one_named infos route text other first second is also_is names also =
+    let routes : Objects text ≡ Objects other = sym is ∙ also_is in
+    let texts : text ≡ other = cc in
+    one_info other infos first second (subst (λ (its : List ℕ). Names its infos first) texts names) also
+
 -- ---- an addition
 
 one_adding : Laws → (before : State) (collection moment : ℕ) (body : List ℕ) (new new_too : List StoredRow) (text other : List ℕ)
@@ -66,22 +74,13 @@ ascends_after before after new text dated same =
 
 pub one_post : Laws → (config : Config) (before first second : State) (moment : ℕ) (request : Request) (route : Route) (answer other : Answer) → IsDated second.library
     → Posts config before moment request route answer first → Posts config before moment request route other second → IsOne answer other first second
-one_post laws config before first second moment request Discovery answer other dated its also = absurd its
-one_post laws config before first second moment request Root answer other dated its also = absurd its
-one_post laws config before first second moment request (Status id) answer other dated its also = absurd its
-one_post laws config before first second moment request Collections answer other dated its also = absurd its
-one_post laws config before first second moment request (Collection id) answer other dated its also = absurd its
-one_post laws config before first second moment request (Manifest id) answer other dated its also = absurd its
-one_post laws config before first second moment request (Objects id) answer other dated (info, names, new, text, adding, answer_is, after_is) (info_too, names_too, new_too, text_too, adding_too, answer_too, after_too) =
-    let same : info ≡ info_too = one_info id config.collections info info_too names names_too in
-    let one = one_adding laws before info_too.id moment request.body new new_too text text_too (ascends_after before second new_too text_too dated after_too)
-    (subst (λ (i : CollectionInfo). IsAdding before i.id moment request.body new text) same adding) adding_too in (
-      answer_is ∙ ap (body_answer Accepted) one.1 ∙ sym answer_too,
-      after_is ∙ ap (λ (rows : List StoredRow). with_added rows text before) one.0 ∙ ap (λ (t : List ℕ). with_added new_too t before) one.1 ∙ sym after_too,
+one_post laws config before first second moment request route answer other dated its also =
+    let same : its.info ≡ also.info = one_named config.collections route its.collection also.collection its.info also.info its.route_is also.route_is its.named also.named in
+    let one = one_adding laws before also.info.id moment request.body its.new also.new its.text also.text (ascends_after before second also.new also.text dated also.after_is)
+    (subst (λ (i : CollectionInfo). IsAdding before i.id moment request.body its.new its.text) same its.adding) also.adding in (
+      its.answer_is ∙ ap (body_answer Accepted) one.1 ∙ sym also.answer_is,
+      its.after_is ∙ ap (λ (rows : List StoredRow). with_added rows its.text before) one.0 ∙ ap (λ (t : List ℕ). with_added also.new t before) one.1 ∙ sym also.after_is,
     )
-one_post laws config before first second moment request (Object collection object) answer other dated its also = absurd its
-one_post laws config before first second moment request (Versions collection object) answer other dated its also = absurd its
-one_post laws config before first second moment request NoRoute answer other dated its also = absurd its
 
 -- ---- why nothing is added
 
@@ -134,37 +133,19 @@ adds_or_lacks laws before collection moment body new text refusal its (inr (inr 
 
 pub one_bad_post : (config : Config) (before : State) (moment : ℕ) (request : Request) (route : Route) (first second : Refusal)
     → CannotPost config before moment request route first → CannotPost config before moment request route second → first ≡ second
-one_bad_post config before moment request Discovery first second its also = absurd its
-one_bad_post config before moment request Root first second its also = absurd its
-one_bad_post config before moment request (Status id) first second its also = absurd its
-one_bad_post config before moment request Collections first second its also = absurd its
-one_bad_post config before moment request (Collection id) first second its also = absurd its
-one_bad_post config before moment request (Manifest id) first second its also = absurd its
-one_bad_post config before moment request (Objects id) first second (info, names, cannot) (info_too, names_too, cannot_too) =
-    let same : info ≡ info_too = one_info id config.collections info info_too names names_too in
-    one_lack before info_too.id moment request.body first second
-    (lacks before info_too.id moment request.body first (subst (λ (i : CollectionInfo). CannotAdd before i.id moment request.body first) same cannot))
-    (lacks before info_too.id moment request.body second cannot_too)
-one_bad_post config before moment request (Object collection object) first second its also = absurd its
-one_bad_post config before moment request (Versions collection object) first second its also = absurd its
-one_bad_post config before moment request NoRoute first second its also = absurd its
+one_bad_post config before moment request route first second its also =
+    let same : its.info ≡ also.info = one_named config.collections route its.collection also.collection its.info also.info its.route_is also.route_is its.named also.named in
+    one_lack before also.info.id moment request.body first second
+    (lacks before also.info.id moment request.body first (subst (λ (i : CollectionInfo). CannotAdd before i.id moment request.body first) same its.cannot))
+    (lacks before also.info.id moment request.body second also.cannot)
 
 pub posts_or_cannot : Laws → (config : Config) (before after : State) (moment : ℕ) (request : Request) (route : Route) (answer : Answer) (refusal : Refusal)
     → Posts config before moment request route answer after → CannotPost config before moment request route refusal → ⊥
-posts_or_cannot laws config before after moment request Discovery answer refusal its cannot = its
-posts_or_cannot laws config before after moment request Root answer refusal its cannot = its
-posts_or_cannot laws config before after moment request (Status id) answer refusal its cannot = its
-posts_or_cannot laws config before after moment request Collections answer refusal its cannot = its
-posts_or_cannot laws config before after moment request (Collection id) answer refusal its cannot = its
-posts_or_cannot laws config before after moment request (Manifest id) answer refusal its cannot = its
-posts_or_cannot laws config before after moment request (Objects id) answer refusal (info, names, new, text, adding, answer_is, after_is) (info_too, names_too, cannot) =
-    let same : info ≡ info_too = one_info id config.collections info info_too names names_too in
-    adds_or_lacks laws before info_too.id moment request.body new text refusal
-    (subst (λ (i : CollectionInfo). IsAdding before i.id moment request.body new text) same adding)
-    (lacks before info_too.id moment request.body refusal cannot)
-posts_or_cannot laws config before after moment request (Object collection object) answer refusal its cannot = its
-posts_or_cannot laws config before after moment request (Versions collection object) answer refusal its cannot = its
-posts_or_cannot laws config before after moment request NoRoute answer refusal its cannot = its
+posts_or_cannot laws config before after moment request route answer refusal its other =
+    let same : its.info ≡ other.info = one_named config.collections route its.collection other.collection its.info other.info its.route_is other.route_is its.named other.named in
+    adds_or_lacks laws before other.info.id moment request.body its.new its.text refusal
+    (subst (λ (i : CollectionInfo). IsAdding before i.id moment request.body its.new its.text) same its.adding)
+    (lacks before other.info.id moment request.body refusal other.cannot)
 
 -- ---- a deletion
 
@@ -244,19 +225,14 @@ one_deleted store collection id query first second its also = not_apart first se
 
 pub one_delete : Laws → ((text : List ℕ) (first second : Id) → IsTextOf text first → IsTextOf text second → first ≡ second) → (config : Config) (before first second : State) (route : Route) (query : Query)
     (answer other : Answer) → Deletes config before route query answer first → Deletes config before route query other second → IsOne answer other first second
-one_delete laws one config before first second Discovery query answer other its also = absurd its
-one_delete laws one config before first second Root query answer other its also = absurd its
-one_delete laws one config before first second (Status id) query answer other its also = absurd its
-one_delete laws one config before first second Collections query answer other its also = absurd its
-one_delete laws one config before first second (Collection id) query answer other its also = absurd its
-one_delete laws one config before first second (Manifest id) query answer other its also = absurd its
-one_delete laws one config before first second (Objects id) query answer other its also = absurd its
-one_delete laws one config before first second (Object collection object) query answer other (info, names, id, text_of, dates, deleted, answer_is, after_is) (info_too, names_too, id_too, text_too, dates_too, deleted_too, answer_too, after_too) =
-    let same : info ≡ info_too = one_info collection config.collections info info_too names names_too in
-    let same_id : id ≡ id_too = one object id id_too text_of text_too in
-    let all : dates ≡ dates_too = one_deleted before.library info_too.id id_too query dates dates_too
-    (subst (λ (i : CollectionInfo). AreDeleted before.library i.id id_too query dates) same
-    (subst (λ (i : Id). AreDeleted before.library info.id i query dates) same_id deleted)) deleted_too in
-    (answer_is ∙ sym answer_too, after_is ∙ ap (λ (ds : List ℕ). without_dates ds before) all ∙ sym after_too)
-one_delete laws one config before first second (Versions collection object) query answer other its also = absurd its
-one_delete laws one config before first second NoRoute query answer other its also = absurd its
+one_delete laws one config before first second route query answer other its also =
+    let routes : Object its.collection its.object ≡ Object also.collection also.object = sym its.route_is ∙ also.route_is in
+    let collection : its.collection ≡ also.collection = cc in
+    let object : its.object ≡ also.object = cc in
+    let same : its.info ≡ also.info = one_info also.collection config.collections its.info also.info
+    (subst (λ (text : List ℕ). Names text config.collections its.info) collection its.named) also.named in
+    let same_id : its.id ≡ also.id = one also.object its.id also.id (subst (λ (text : List ℕ). IsTextOf text its.id) object its.text_of) also.text_of in
+    let all : its.dates ≡ also.dates = one_deleted before.library also.info.id also.id query its.dates also.dates
+    (subst (λ (i : CollectionInfo). AreDeleted before.library i.id also.id query its.dates) same
+    (subst (λ (i : Id). AreDeleted before.library its.info.id i query its.dates) same_id its.deleted)) also.deleted in
+    (its.answer_is ∙ sym also.answer_is, its.after_is ∙ ap (λ (ds : List ℕ). without_dates ds before) all ∙ sym also.after_is)

@@ -6,7 +6,6 @@ use Rattle.http_messages.specs.declared.request.Request.{Request}
 use Rattle.taxii_exchange.specs.declared.answer.Answer.{Answer}
 use Rattle.taxii_routes.specs.declared.query.Query.{Query}
 use Rattle.taxii_routes.specs.declared.route.Route.{Route}
-use Rattle.taxii_routes.specs.declared.route.Route.TheVariants.{Discovery, Root, Status, Collections, Collection, Manifest, Objects, Object, Versions, None as NoRoute}
 use Rattle.taxii_rows.specs.declared.stored_row.StoredRow.{StoredRow}
 use Rattle.taxii_rows.specs.declared.stored_row.TheConstants.{LAST_DATE}
 use Rattle.taxii_rows.specs.declared.described.Described.{Described}
@@ -55,34 +54,15 @@ unchanged before after same within = subst IsWithin (sym same) within
 
 posted : (config : Config) (before : State) (moment : ℕ) (request : Request) (route : Route) (answer : Answer) (after : State)
     → Posts config before moment request route answer after → IsWithin before → IsWithin after
-posted config before moment request Discovery answer after none within = absurd none
-posted config before moment request Root answer after none within = absurd none
-posted config before moment request (Status id) answer after none within = absurd none
-posted config before moment request Collections answer after none within = absurd none
-posted config before moment request (Collection id) answer after none within = absurd none
-posted config before moment request (Manifest id) answer after none within = absurd none
-posted config before moment request (Objects id) answer after (info, named, new, text, adding, answer_is, after_is) within =
-    let room = adding.addition.room in
-    subst IsWithin (sym after_is)
-    (adds_within LAST_DATE before.library.watermark info.id (first_date before.library.watermark moment (length new)) before.library.rows adding.posted.objects.items
-    adding.outcomes new within (omega (arith, room, within)) adding.addition.adds)
-posted config before moment request (Object collection object) answer after none within = absurd none
-posted config before moment request (Versions collection object) answer after none within = absurd none
-posted config before moment request NoRoute answer after none within = absurd none
+posted config before moment request route answer after its within =
+    let room = its.adding.addition.room in
+    subst IsWithin (sym its.after_is)
+    (adds_within LAST_DATE before.library.watermark its.info.id (first_date before.library.watermark moment (length its.new)) before.library.rows its.adding.posted.objects.items
+    its.adding.outcomes its.new within (omega (arith, room, within)) its.adding.addition.adds)
 
 deleted : (config : Config) (before : State) (route : Route) (query : Query) (answer : Answer) (after : State)
     → Deletes config before route query answer after → IsWithin before → IsWithin after
-deleted config before Discovery query answer after none within = absurd none
-deleted config before Root query answer after none within = absurd none
-deleted config before (Status id) query answer after none within = absurd none
-deleted config before Collections query answer after none within = absurd none
-deleted config before (Collection id) query answer after none within = absurd none
-deleted config before (Manifest id) query answer after none within = absurd none
-deleted config before (Objects id) query answer after none within = absurd none
-deleted config before (Object collection object) query answer after (info, named, id, text_of, dates, taken, answer_is, after_is) within =
-    subst IsWithin (sym after_is) within
-deleted config before (Versions collection object) query answer after none within = absurd none
-deleted config before NoRoute query answer after none within = absurd none
+deleted config before route query answer after its within = subst IsWithin (sym its.after_is) within
 
 done : (config : Config) (before : State) (moment : ℕ) (request : Request) (route : Route) (query : Query) (method : Method) (answer : Answer) (after : State)
     → Does config before moment request route query method answer after → IsWithin before → IsWithin after
