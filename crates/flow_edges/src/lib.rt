@@ -28,5 +28,5 @@ pub use files::Files;
 pub use pieces::write_all_vectored;
 pub use sink::{Sink, write_whole};
 pub use source::{MAX_READ, Source};
-pub use system::{ReadSource, WriteSink};
+pub use system::{ReadSource, WriteSink, read_uninterrupted, write_uninterrupted};
 pub use system_files::SystemFiles;

@@ -1,8 +1,7 @@
 ghost use Rattle.std.specs.Prelude.{◌≡◌, None};
 
-use crate::{Files, Source, counted_fault};
+use crate::{Files, Source, counted_fault, read_uninterrupted};
 use flow_values::Fault;
-use std::io::Read;
 use std::marker::Model;
 use std::{fs, rt};
 
@@ -42,13 +41,13 @@ impl<'r, R: rt::Files> Source for SystemFiles<'r, R> {
 
     ghost faults = { λ files. files };
 
-    /// Reads once from the open file. An I/O error is a `Fault`. With no file open, the input is
-    /// empty.
+    /// Reads once from the open file, and again while a signal interrupts the call. An I/O error is
+    /// a `Fault`. With no file open, the input is empty.
     fn read(&mut self, buffer: &mut [u8]) -> Result<usize, Fault> {
         let Some(file) = self.file.as_mut() else {
             return Ok(0);
         };
-        match file.read(buffer) {
+        match read_uninterrupted(file, buffer) {
             Ok(count) => Ok(count),
             Err(_) => Err(counted_fault(&mut self.faults)),
         }

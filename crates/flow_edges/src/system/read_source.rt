@@ -4,6 +4,7 @@ ghost use Rattle.flow_edges.specs.Faults.{Counted};
 
 use crate::Source;
 use crate::fault::counted_fault;
+use crate::system::read_uninterrupted;
 use flow_values::Fault;
 use std::io::Read;
 use std::marker::Model;
@@ -39,13 +40,14 @@ impl<R: Read> Source for ReadSource<R> {
 
     ghost faults = { λ source. source.faults };
 
-    /// Reads once from the reader. An I/O error is a `Fault`.
+    /// Reads once from the reader, and again while a signal interrupts the call. An I/O error is a
+    /// `Fault`.
     fn read(&mut self, buffer: &mut [u8]) -> Result<usize, Fault>
         ensures within { IfOk result (λ n. n ≤ length buffer.old) }
         ensures causes { Counted (IsErr result) self.old.faults self.new.faults }
         ensures handed { ReadConsumes self.old.remaining self.new.remaining result buffer.new }
     {
-        match self.reader.read(buffer) {
+        match read_uninterrupted(&mut self.reader, buffer) {
             Ok(count) => Ok(count),
             Err(_) => Err(counted_fault(&mut self.faults)),
         }

@@ -4,6 +4,7 @@ ghost use Rattle.flow_edges.specs.Faults.{Counted};
 
 use crate::Sink;
 use crate::fault::counted_fault;
+use crate::system::write_uninterrupted;
 use flow_values::Fault;
 use std::io::Write;
 use std::marker::Model;
@@ -39,15 +40,15 @@ impl<W: Write> Sink for WriteSink<W> {
 
     ghost faults = { λ sink. sink.faults };
 
-    /// Writes once to the writer. An I/O error is a `Fault`, and so is a write of 0 bytes from a
-    /// non-empty slice.
+    /// Writes once to the writer, and again while a signal interrupts the call. An I/O error is a
+    /// `Fault`, and so is a write of 0 bytes from a non-empty slice.
     fn write(&mut self, piece: &[u8]) -> Result<usize, Fault>
         ensures within { IfOk result (λ n. n ≤ length piece.now) }
         ensures some { IfOk result (λ n. 0 < length piece.now → 0 < n) }
         ensures causes { Counted (IsErr result) self.old.faults self.new.faults }
         ensures handed { WriteAppends self.old.contents self.new.contents result piece.now }
     {
-        match self.writer.write(piece) {
+        match write_uninterrupted(&mut self.writer, piece) {
             Ok(0) if !piece.is_empty() => Err(counted_fault(&mut self.faults)),
             Ok(count) => Ok(count),
             Err(_) => Err(counted_fault(&mut self.faults)),

@@ -3,7 +3,7 @@ ghost use Rattle.std.specs.Io.KnownBytes.{ReadConsumes, WriteAppends};
 ghost use Rattle.flow_edges.specs.Faults.{Counted};
 
 use crate::Link;
-use flow_edges::{Sink, Source, counted_fault};
+use flow_edges::{Sink, Source, counted_fault, read_uninterrupted, write_uninterrupted};
 use flow_values::Fault;
 use std::io::{Read, Write};
 use std::marker::Model;
@@ -71,14 +71,15 @@ impl<S: Read + Write> Source for TcpLink<S> {
 
     ghost other = { λ link. record { written = None; faults = link.write_faults } };
 
-    /// Reads once from the stream. An I/O error is a `Fault`.
+    /// Reads once from the stream, and again while a signal interrupts the call; each time the
+    /// stream sets the time that is left. An I/O error is a `Fault`.
     fn read(&mut self, buffer: &mut [u8]) -> Result<usize, Fault>
         ensures within { IfOk result (λ n. n ≤ length buffer.old) }
         ensures causes { Counted (IsErr result) self.old.read_faults self.new.read_faults }
         ensures handed { ReadConsumes self.old.remaining self.new.remaining result buffer.new }
         ensures unwritten { self.new.write_faults ≡ self.old.write_faults }
     {
-        match self.stream.read(buffer) {
+        match read_uninterrupted(&mut self.stream, buffer) {
             Ok(count) => Ok(count),
             Err(_) => Err(counted_fault(&mut self.read_faults)),
         }
@@ -92,8 +93,8 @@ impl<S: Read + Write> Sink for TcpLink<S> {
 
     ghost other = { λ link. record { left = None; began = None; faults = link.read_faults } };
 
-    /// Writes once to the stream. An I/O error is a `Fault`, and so is a write of 0 bytes from a
-    /// non-empty slice.
+    /// Writes once to the stream, and again while a signal interrupts the call. An I/O error is a
+    /// `Fault`, and so is a write of 0 bytes from a non-empty slice.
     fn write(&mut self, piece: &[u8]) -> Result<usize, Fault>
         ensures within { IfOk result (λ n. n ≤ length piece.now) }
         ensures some { IfOk result (λ n. 0 < length piece.now → 0 < n) }
@@ -101,7 +102,7 @@ impl<S: Read + Write> Sink for TcpLink<S> {
         ensures handed { WriteAppends self.old.contents self.new.contents result piece.now }
         ensures unread { self.new.read_faults ≡ self.old.read_faults }
     {
-        match self.stream.write(piece) {
+        match write_uninterrupted(&mut self.stream, piece) {
             Ok(0) if !piece.is_empty() => Err(counted_fault(&mut self.write_faults)),
             Ok(count) => Ok(count),
             Err(_) => Err(counted_fault(&mut self.write_faults)),
