@@ -4,7 +4,8 @@ ghost use Rattle.stix_bundles.specs.Objects.{data_in};
 ghost use Rattle.pattern_types.specs.PlainPattern.{plain_pattern};
 ghost use Rattle.match_stream.specs.MatcherState.{Falls};
 ghost use Rattle.match_run.specs.Reading.{MayFollow};
-ghost use Rattle.command_alerts.specs.inner.Seeing.{IsReady, TakesRows, SeesBundle, BeginsBundle, SeesSoFar, SeesPart, row_of};
+ghost use Rattle.command_alerts.specs.inner.Seeing.{IsReady, TakesRows, SeesBundle, BeginsBundle};
+ghost use Rattle.command_alerts.specs.inner.Seeing.{SeesSoFar, SeesPart, row_of};
 
 use crate::alert_line::line_of;
 use alert_window::laws::alerts_persist;

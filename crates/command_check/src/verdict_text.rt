@@ -1,6 +1,7 @@
 ghost use Rattle.std.specs.Prelude.{◌≡◌, ◌++◌, IfOk, codes, decimal};
 ghost use Rattle.std.specs.List.{flat_map};
-ghost use Rattle.command_check.specs.CheckEndings.{break_line, version_line, marking_line, verdict_text as text_of_verdict};
+ghost use Rattle.command_check.specs.CheckEndings.{break_line, version_line, marking_line};
+ghost use Rattle.command_check.specs.CheckEndings.{verdict_text as text_of_verdict};
 
 use crate::verdict::Verdict;
 use flow_values::{NoMemory, Text};

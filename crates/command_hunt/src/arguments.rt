@@ -1,9 +1,12 @@
 //! The arguments `[--indicators FILE] TIME [CAP]`, the option before or after the others.
 
-ghost use Rattle.std.specs.Prelude.{◌≡◌, ◌≢◌, ◌⊎◌, ◌↔◌, ℕ, ℤ, [], List, IfNone, IfSome, IsTrue, codes};
+ghost use Rattle.std.specs.Prelude.{◌≡◌, ◌≢◌, ◌⊎◌, ◌↔◌, ℕ, ℤ, [], List, IfNone, IfSome, IsTrue};
+ghost use Rattle.std.specs.Prelude.{codes};
 ghost use Rattle.command_line.specs.CommandLines.{texts, IsNumberOr};
-ghost use Rattle.command_line.specs.declared.numbers.TheConstants.{DEFAULT_RETAINED_LIMIT as usual, MAX_RETAINED_LIMIT as most};
-ghost use Rattle.command_hunt.specs.Tasks.{HuntTask, ArePositions, AreWithOption, OptionBefore, OptionAfter, AskFor, AskForNothing, task_of};
+ghost use Rattle.command_line.specs.declared.numbers.TheConstants.{DEFAULT_RETAINED_LIMIT as usual};
+ghost use Rattle.command_line.specs.declared.numbers.TheConstants.{MAX_RETAINED_LIMIT as most};
+ghost use Rattle.command_hunt.specs.Tasks.{HuntTask, ArePositions, AreWithOption, OptionBefore};
+ghost use Rattle.command_hunt.specs.Tasks.{OptionAfter, AskFor, AskForNothing, task_of};
 
 use command_line::{DEFAULT_RETAINED_LIMIT, MAX_RETAINED_LIMIT, number_in};
 use stix_times::laws::one_instant;

@@ -2,10 +2,13 @@
 
 ghost use Rattle.std.specs.Prelude.{◌≡◌, ◌++◌, ◌∷◌, [], List, IfOk, OnOk, map, true, false};
 ghost use Rattle.std.specs.List.{AllZip};
-ghost use Rattle.clap.specs.Words.{App, Rule, app_of, rule_of, FailsBy, fault_of, subcommand_of, subcommand_rows_of};
+ghost use Rattle.clap.specs.Words.{App, Rule, app_of, rule_of, FailsBy, fault_of, subcommand_of};
+ghost use Rattle.clap.specs.Words.{subcommand_rows_of};
 ghost use Rattle.command_line.specs.CommandLines.{texts};
-ghost use Rattle.command_line.specs.inner.Forms.{flag_rule, option_rule, position_rule, free_rules, app_with, command_of, HasRule, IsCommandOf};
-ghost use Rattle.command_line.specs.inner.Forms.{bare_app, program_app, match_form, check_form, show_form, make_form, serve_form};
+ghost use Rattle.command_line.specs.inner.Forms.{flag_rule, option_rule, position_rule, free_rules};
+ghost use Rattle.command_line.specs.inner.Forms.{app_with, command_of, HasRule, IsCommandOf};
+ghost use Rattle.command_line.specs.inner.Forms.{bare_app, program_app, match_form, check_form};
+ghost use Rattle.command_line.specs.inner.Forms.{show_form, make_form, serve_form};
 
 use crate::serve::COLLECTION_NAMES;
 use clap::{Arg, ArgAction, ArgMatches, Command, Error};

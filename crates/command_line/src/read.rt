@@ -1,11 +1,13 @@
 //! From arguments to a request.
 
-ghost use Rattle.std.specs.Prelude.{◌≡◌, ◌≢◌, ◌↔◌, ℕ, List, Bool, IfErr, IfNone, IfOk, IfSome, Some, codes, option_copied};
+ghost use Rattle.std.specs.Prelude.{◌≡◌, ◌≢◌, ◌↔◌, ℕ, List, Bool, IfErr, IfNone, IfOk, IfSome};
+ghost use Rattle.std.specs.Prelude.{Some, codes, option_copied};
 ghost use Rattle.clap.specs.Words.{first_of, kind_of, one_of};
 ghost use Rattle.clap.specs.declared.error.kind.ErrorKind.TheVariants.{OutOfMemory};
 ghost use Rattle.command_line.specs.CommandLines.{texts, PlainRequest, IsCommandLine};
 ghost use Rattle.command_line.specs.Request.{plain_request};
-ghost use Rattle.command_line.specs.inner.Rows.{IsAskedIn, IsRetainedLimitText, IsFlagText, IsMakeIn, IsMatchIn, IsNumberText, rows_in};
+ghost use Rattle.command_line.specs.inner.Rows.{IsAskedIn, IsRetainedLimitText, IsFlagText};
+ghost use Rattle.command_line.specs.inner.Rows.{IsMakeIn, IsMatchIn, IsNumberText, rows_in};
 
 use crate::numbers::{DEFAULT_RETAINED_LIMIT, MAX_RETAINED_LIMIT, number_in};
 use crate::parser::parse;

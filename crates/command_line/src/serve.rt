@@ -8,7 +8,8 @@ ghost use Rattle.command_line.specs.CommandLines.{AreCollectionsOf, IsBase, IsFi
 ghost use Rattle.command_line.specs.CommandLines.{PlainCollection, PlainService};
 ghost use Rattle.command_line.specs.Request.{plain_collection, plain_service};
 ghost use Rattle.command_line.specs.declared.numbers.TheConstants.{MAX_PORT};
-ghost use Rattle.command_line.specs.inner.Rows.{IsNumberText, IsServeIn, IsTextOrNone, rows_in, arguments_at};
+ghost use Rattle.command_line.specs.inner.Rows.{IsNumberText, IsServeIn, IsTextOrNone, rows_in};
+ghost use Rattle.command_line.specs.inner.Rows.{arguments_at};
 
 use crate::base::is_base;
 use crate::collections::collection_of;

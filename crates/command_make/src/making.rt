@@ -3,7 +3,8 @@ ghost use Rattle.flow_edges.specs.Faults.{Counted};
 ghost use Rattle.flow_edges.specs.Flow.{WritesWhole};
 ghost use Rattle.match_generator.specs.declared.log.TheConstants.{MAX_SEED, MAX_COUNT};
 ghost use Rattle.pattern_reader.specs.Read.{IsReadAs};
-ghost use Rattle.command_make.specs.MakeEndings.{made_pattern, AreNumbersOf, numbers_text, EndsMake, StopsEarly, make_status};
+ghost use Rattle.command_make.specs.MakeEndings.{made_pattern, AreNumbersOf, numbers_text};
+ghost use Rattle.command_make.specs.MakeEndings.{EndsMake, StopsEarly, make_status};
 
 use command_line::DEFAULT_RETAINED_LIMIT;
 use command_reasons::{write_no_memory, write_write_fault};

@@ -1,8 +1,10 @@
 //! The arguments `HOST PORT ROOT COLLECTION FILE TRIES [--since TIME]`.
 
-ghost use Rattle.std.specs.Prelude.{◌≡◌, ◌≢◌, ◌↔◌, ℕ, List, Option, [], ◌∷◌, option_map, IfNone, IfOk, IfSome, IsTrue};
+ghost use Rattle.std.specs.Prelude.{◌≡◌, ◌≢◌, ◌↔◌, ℕ, List, Option, [], ◌∷◌, option_map, IfNone};
+ghost use Rattle.std.specs.Prelude.{IfOk, IfSome, IsTrue};
 ghost use Rattle.command_line.specs.CommandLines.{texts};
-ghost use Rattle.command_mirror.specs.Arguments.{AskFor, AskForNothing, AreStoreArguments, IsSinceOf, IsTimestamp, copying_of};
+ghost use Rattle.command_mirror.specs.Arguments.{AskFor, AskForNothing, AreStoreArguments};
+ghost use Rattle.command_mirror.specs.Arguments.{IsSinceOf, IsTimestamp, copying_of};
 
 use command_peer::{PeerArguments, number_to};
 use flow_values::NoMemory;

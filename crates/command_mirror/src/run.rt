@@ -6,7 +6,8 @@ ghost use Rattle.command_reasons.specs.Reasons.{WritesReason};
 ghost use Rattle.command_peer.specs.Arguments.{IsHost};
 ghost use Rattle.command_mirror.specs.Arguments.{AskForNothing, copying_of};
 ghost use Rattle.taxii_client.specs.Filling.{environment};
-ghost use Rattle.command_mirror.specs.Endings.{AskSo, Concludes, EndsMirror, EndsArguments, mirror_status, reason_of};
+ghost use Rattle.command_mirror.specs.Endings.{AskSo, Concludes, EndsMirror, EndsArguments};
+ghost use Rattle.command_mirror.specs.Endings.{mirror_status, reason_of};
 ghost use Rattle.command_mirror.specs.Runs.{Ends, CopiesAll, LosesAll, HoldsMirrored};
 
 use crate::arguments::{MirrorRequest, read_request};

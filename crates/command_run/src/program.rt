@@ -4,7 +4,8 @@ ghost use Rattle.flow_edges.specs.Streams.{streams};
 ghost use Rattle.command_line.specs.CommandLines.{texts};
 ghost use Rattle.command_reasons.specs.Reasons.{WritesReason};
 ghost use Rattle.command_run.specs.Requests.{AskForNoInput, AskToServe};
-ghost use Rattle.command_run.specs.RunEndings.{status_of, IsReasonOf, EndsRun, ServesNone, Ends, IsDone, environment};
+ghost use Rattle.command_run.specs.RunEndings.{status_of, IsReasonOf, EndsRun, ServesNone, Ends};
+ghost use Rattle.command_run.specs.RunEndings.{IsDone, environment};
 ghost use Rattle.taxii_server.specs.Environment.{link_view};
 
 use crate::ending::Ending;

@@ -1,6 +1,8 @@
-ghost use Rattle.std.specs.Prelude.{◌≡◌, ℕ, ◌≤◌, ◌<◌, List, Option, length, take, IfOk, OnErr, IsErr};
+ghost use Rattle.std.specs.Prelude.{◌≡◌, ℕ, ◌≤◌, ◌<◌, List, Option, length, take, IfOk, OnErr};
+ghost use Rattle.std.specs.Prelude.{IsErr};
 ghost use Rattle.flow_edges.specs.Faults.{Counted};
-ghost use Rattle.flow_edges.specs.Flow.{written_with, WritesWhole, WritesPart, SourceSide, no_source};
+ghost use Rattle.flow_edges.specs.Flow.{written_with, WritesWhole, WritesPart, SourceSide};
+ghost use Rattle.flow_edges.specs.Flow.{no_source};
 
 use flow_values::Fault;
 

@@ -1,4 +1,5 @@
-ghost use Rattle.std.specs.Prelude.{◌≡◌, ℕ, ◌≤◌, ◌<◌, List, Option, None, Some, Ok, length, take, IfOk, IfSome, OnErr, IsErr};
+ghost use Rattle.std.specs.Prelude.{◌≡◌, ℕ, ◌≤◌, ◌<◌, List, Option, None, Some, Ok, length, take};
+ghost use Rattle.std.specs.Prelude.{IfOk, IfSome, OnErr, IsErr};
 ghost use Rattle.flow_edges.specs.declared.source.TheConstants.{MAX_READ};
 ghost use Rattle.flow_edges.specs.Faults.{Counted};
 ghost use Rattle.flow_edges.specs.Flow.{left_after, IsNextOf, IsAtEnd, SinkSide, no_sink};

@@ -1,7 +1,10 @@
-ghost use Rattle.std.specs.Prelude.{◌≡◌, ◌≢◌, ℕ, ◌≤◌, ◌+◌, ◌++◌, [], true, false, Ok, Err, IfOk, IfErr, IfSome, OnOk, MatchBool};
+ghost use Rattle.std.specs.Prelude.{◌≡◌, ◌≢◌, ℕ, ◌≤◌, ◌+◌, ◌++◌, [], true, false, Ok, Err, IfOk};
+ghost use Rattle.std.specs.Prelude.{IfErr, IfSome, OnOk, MatchBool};
 ghost use Rattle.flow_edges.specs.Faults.{Counted};
-ghost use Rattle.flow_lines.specs.Lines.{AnswersLine, HoldsLine, LosesNone, StopsInLine, LacksLine, NoLineFeed, is_blank};
-ghost use Rattle.flow_lines.specs.inner.Reading.{IsBetweenLines, ReadsOrEnds, StopsReading, lines_state};
+ghost use Rattle.flow_lines.specs.Lines.{AnswersLine, HoldsLine, LosesNone, StopsInLine, LacksLine};
+ghost use Rattle.flow_lines.specs.Lines.{NoLineFeed, is_blank};
+ghost use Rattle.flow_lines.specs.inner.Reading.{IsBetweenLines, ReadsOrEnds, StopsReading};
+ghost use Rattle.flow_lines.specs.inner.Reading.{lines_state};
 
 use crate::line::{Line, is_blank_line, strip_return};
 use crate::raw_line::{LineStart, read_line};

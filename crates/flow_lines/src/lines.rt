@@ -39,7 +39,8 @@ impl Model for Lines {
 }
 
 impl Lines {
-    ghost use Rattle.flow_lines.specs.Lines.{lines_start, AnswersLine, LosesNone, StopsInLine, HoldsLine, LacksLine};
+    ghost use Rattle.flow_lines.specs.Lines.{lines_start, AnswersLine, LosesNone, StopsInLine};
+    ghost use Rattle.flow_lines.specs.Lines.{HoldsLine, LacksLine};
 
     /// A reader at the start of an input.
     pub fn new(alloc: Global) -> Result<Lines, NoMemory>

@@ -1,8 +1,10 @@
-ghost use Rattle.std.specs.Prelude.{◌≡◌, ◌≢◌, ℕ, ◌≤◌, [], ◌⊎◌, Some, None, Ok, Err, length, IfOk, IfErr, IfSome, OnErr, MatchBool};
+ghost use Rattle.std.specs.Prelude.{◌≡◌, ◌≢◌, ℕ, ◌≤◌, [], ◌⊎◌, Some, None, Ok, Err, length, IfOk};
+ghost use Rattle.std.specs.Prelude.{IfErr, IfSome, OnErr, MatchBool};
 ghost use Rattle.flow_edges.specs.declared.source.TheConstants.{MAX_READ};
 ghost use Rattle.flow_edges.specs.Faults.{Counted};
 ghost use Rattle.flow_lines.specs.Lines.{NoLineFeed, length_refusal};
-ghost use Rattle.flow_lines.specs.inner.Reading.{bytes_remaining, ReadsToLineFeed, ReadsLast, BreaksOffLine, IsBuffered, IsWithinLine};
+ghost use Rattle.flow_lines.specs.inner.Reading.{bytes_remaining, ReadsToLineFeed, ReadsLast};
+ghost use Rattle.flow_lines.specs.inner.Reading.{BreaksOffLine, IsBuffered, IsWithinLine};
 
 use crate::read_buffer::ReadBuffer;
 use crate::refusal::{LineRefusal, MAX_INPUT, MAX_LINE};

@@ -1,7 +1,8 @@
 //! A read buffer that `memchr` searches for line feeds. A read needs a `ReadPermit`, which only an
 //! empty buffer gives out, so the type system rules out an unneeded read.
 
-ghost use Rattle.std.specs.Prelude.{◌≡◌, ℕ, ◌≤◌, ◌++◌, [], Ok, Some, length, IfOk, IfSome, OnOk, OnErr, MatchOption, IsErr};
+ghost use Rattle.std.specs.Prelude.{◌≡◌, ℕ, ◌≤◌, ◌++◌, [], Ok, Some, length, IfOk, IfSome, OnOk};
+ghost use Rattle.std.specs.Prelude.{OnErr, MatchOption, IsErr};
 ghost use Rattle.flow_edges.specs.declared.source.TheConstants.{MAX_READ};
 ghost use Rattle.flow_edges.specs.Faults.{Counted};
 ghost use Rattle.flow_edges.specs.Flow.{IsAtEnd};

@@ -1,4 +1,5 @@
-ghost use Rattle.std.specs.Prelude.{◌≡◌, ◌≤◌, ◌+◌, ◌<◌, ◌↔◌, ◌||◌, [], Some, true, length, nat_eq, IsErr, IfOk, OnErr, IfSome};
+ghost use Rattle.std.specs.Prelude.{◌≡◌, ◌≤◌, ◌+◌, ◌<◌, ◌↔◌, ◌||◌, [], Some, true, length, nat_eq};
+ghost use Rattle.std.specs.Prelude.{IsErr, IfOk, OnErr, IfSome};
 ghost use Rattle.flow_edges.specs.Faults.{counted, Counted};
 ghost use Rattle.flow_links.specs.declared.dial.TheConstants.{MAX_HOST};
 ghost use Rattle.flow_links.specs.Dials.{Stays, Connects, Finishes};

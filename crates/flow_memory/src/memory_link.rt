@@ -1,4 +1,5 @@
-ghost use Rattle.std.specs.Prelude.{◌≡◌, ◌≤◌, ◌<◌, ◌-◌, ◌↔◌, [], Ok, Some, refl, true, length, take, drop, min, IsErr, IfOk, IfSome, OnErr, ◌||◌, nat_le};
+ghost use Rattle.std.specs.Prelude.{◌≡◌, ◌≤◌, ◌<◌, ◌-◌, ◌↔◌, [], Ok, Some, refl, true, length};
+ghost use Rattle.std.specs.Prelude.{take, drop, min, IsErr, IfOk, IfSome, OnErr, ◌||◌, nat_le};
 ghost use Rattle.flow_edges.specs.Faults.{counted, Counted};
 ghost use Rattle.flow_edges.specs.Flow.{left_after, IsNextOf, IsAtEnd, written_with};
 ghost use Rattle.flow_memory.specs.Streams.{is_failing};

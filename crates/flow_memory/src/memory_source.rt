@@ -1,4 +1,5 @@
-ghost use Rattle.std.specs.Prelude.{◌≡◌, ◌≤◌, ◌<◌, ◌↔◌, Ok, Some, true, length, take, drop, min, IsErr, IfOk, IfSome, OnErr};
+ghost use Rattle.std.specs.Prelude.{◌≡◌, ◌≤◌, ◌<◌, ◌↔◌, Ok, Some, true, length, take, drop, min};
+ghost use Rattle.std.specs.Prelude.{IsErr, IfOk, IfSome, OnErr};
 ghost use Rattle.flow_edges.specs.Faults.{counted, Counted};
 ghost use Rattle.flow_edges.specs.Flow.{left_after, IsNextOf, IsAtEnd};
 ghost use Rattle.flow_memory.specs.Streams.{is_failing};

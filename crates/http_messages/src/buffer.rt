@@ -2,7 +2,8 @@
 //! Consumed bytes are removed only when they make up half of the vector, so each byte is moved at
 //! most once (amortized O(1) per byte).
 
-ghost use Rattle.std.specs.Prelude.{◌≡◌, ◌≤◌, [], ◌++◌, length, drop, slice_range, IfOk, OnOk, OnErr};
+ghost use Rattle.std.specs.Prelude.{◌≡◌, ◌≤◌, [], ◌++◌, length, drop, slice_range, IfOk, OnOk};
+ghost use Rattle.std.specs.Prelude.{OnErr};
 
 use flow_values::NoMemory;
 use std::alloc::Global;

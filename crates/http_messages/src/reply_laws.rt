@@ -2,7 +2,8 @@
 
 ghost use Rattle.std.specs.Prelude.{◌≡◌, ◌≢◌, ◌++◌, ℕ, List, []};
 ghost use Rattle.http_messages.specs.declared.reply_refusal.HeadRefusal.{HeadRefusal};
-ghost use Rattle.http_messages.specs.Replies.{Outcome, IsOutcome, IsReply, IsRefused, IsCut, IsNeeded};
+ghost use Rattle.http_messages.specs.Replies.{Outcome, IsOutcome, IsReply, IsRefused, IsCut};
+ghost use Rattle.http_messages.specs.Replies.{IsNeeded};
 
 /// The outcome of a byte string is unique.
 pub fn one_outcome()

@@ -1,6 +1,8 @@
 ghost use Rattle.std.specs.Prelude.{◌≡◌, ◌≤◌, ◌<◌, ◌^◌, false, [], length, IfOk};
 ghost use Rattle.std.specs.Str.{IsUtf8};
-ghost use Rattle.http_messages.specs.Fields.{has_bad_host, has_bad_text, has_bad_text_in, has_coding, has_bad_length, lacks_length, body_length, closes};
+ghost use Rattle.http_messages.specs.Fields.{has_bad_host, has_bad_text, has_bad_text_in};
+ghost use Rattle.http_messages.specs.Fields.{has_coding, has_bad_length, lacks_length, body_length};
+ghost use Rattle.http_messages.specs.Fields.{closes};
 ghost use Rattle.http_messages.specs.Frames.{HoldsHead, refusal_of, request_of};
 ghost use Rattle.http_messages.specs.declared.request_grammar.TheConstants.{MAX_FIELDS};
 ghost use Rattle.http_messages.specs.inner.Searching.{IsFound};

@@ -1,8 +1,10 @@
 //! A resumable linear search for the empty line that ends a head. The search resumes two bytes
 //! before the end of what it saw, so k bytes that arrive in n pieces take O(k + n).
 
-ghost use Rattle.std.specs.Prelude.{◌≡◌, ◌-◌, ◌≤◌, ◌<◌, None, length, max, slice_index, IfSome, MatchOption};
-ghost use Rattle.http_messages.specs.RequestHeads.{is_last_line_end, after_empty_line, HasNoEnd, IsFirstEnd, IsHeadAt};
+ghost use Rattle.std.specs.Prelude.{◌≡◌, ◌-◌, ◌≤◌, ◌<◌, None, length, max, slice_index, IfSome};
+ghost use Rattle.std.specs.Prelude.{MatchOption};
+ghost use Rattle.http_messages.specs.RequestHeads.{is_last_line_end, after_empty_line, HasNoEnd};
+ghost use Rattle.http_messages.specs.RequestHeads.{IsFirstEnd, IsHeadAt};
 ghost use Rattle.http_messages.specs.inner.Searching.{IsSearched, SkipsTo, HasNoHead};
 
 /// The state of the search for the end of a head in a growing buffer.

@@ -1,6 +1,7 @@
 //! The brackets of all patterns in one list.
 
-ghost use Rattle.std.specs.Prelude.{◌≡◌, ◌≤◌, ◌<◌, ◌+◌, ◌^◌, ◌++◌, List, [], ◌∷◌, Some, length, map, slice_get, OnOk};
+ghost use Rattle.std.specs.Prelude.{◌≡◌, ◌≤◌, ◌<◌, ◌+◌, ◌^◌, ◌++◌, List, [], ◌∷◌, Some, length};
+ghost use Rattle.std.specs.Prelude.{map, slice_get, OnOk};
 ghost use Rattle.pattern_types.specs.PlainLeaf.{plain_leaf};
 ghost use Rattle.pattern_types.specs.PlainPattern.{PlainPattern, plain_pattern};
 ghost use Rattle.hunt_engine.specs.declared.brackets.BracketRange.{BracketRange};

@@ -1,4 +1,5 @@
-ghost use Rattle.std.specs.Prelude.{◌≡◌, ◌≤ℤ◌, ◌<◌, ◌+◌, ◌^◌, ◌++◌, ◌∷◌, ◌↔◌, ℕ, [], List, All, true, Some, Err, length, map, slice_get, IfOk, OnOk, OnErr};
+ghost use Rattle.std.specs.Prelude.{◌≡◌, ◌≤ℤ◌, ◌<◌, ◌+◌, ◌^◌, ◌++◌, ◌∷◌, ◌↔◌, ℕ, [], List, All};
+ghost use Rattle.std.specs.Prelude.{true, Some, Err, length, map, slice_get, IfOk, OnOk, OnErr};
 ghost use Rattle.stix_bundles.specs.Objects.{data_in};
 ghost use Rattle.pattern_types.specs.Leaves.{leaves};
 ghost use Rattle.pattern_types.specs.PlainPattern.{plain_pattern};

@@ -1,12 +1,14 @@
 //! Which brackets hold at a row: those that hold at one of its roots.
 
-ghost use Rattle.std.specs.Prelude.{◌≡◌, ◌↔◌, ◌≤◌, ◌<◌, ℕ, true, All, Contains, Some, length, map, slice_get, IfOk, OnOk};
+ghost use Rattle.std.specs.Prelude.{◌≡◌, ◌↔◌, ◌≤◌, ◌<◌, ℕ, true, All, Contains, Some, length, map};
+ghost use Rattle.std.specs.Prelude.{slice_get, IfOk, OnOk};
 ghost use Rattle.stix_bundles.specs.Objects.{data_in};
 ghost use Rattle.pattern_types.specs.PlainLeaf.{plain_leaf};
 ghost use Rattle.pattern_types.specs.Soundness.{IsSoundLeaf};
 ghost use Rattle.hunt_engine.specs.EngineAnswer.{NeverFalls};
 ghost use Rattle.hunt_engine.specs.Memo.{IsSoundMemo};
-ghost use Rattle.hunt_engine.specs.inner.Evaluation.{AreClear, IsEvaluated, MarksMatching, MarksMore, AreOwners, AddsPosition};
+ghost use Rattle.hunt_engine.specs.inner.Evaluation.{AreClear, IsEvaluated, MarksMatching};
+ghost use Rattle.hunt_engine.specs.inner.Evaluation.{MarksMore, AreOwners, AddsPosition};
 ghost use Rattle.hunt_feed.specs.Indicators.{IsAscending};
 
 use crate::Memo;

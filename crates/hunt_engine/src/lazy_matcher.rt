@@ -4,7 +4,8 @@
 //! rows missed so far at once. This is right since no binding ends at a row where no bracket holds,
 //! and passing many rows has the same result as passing them one by one.
 
-ghost use Rattle.std.specs.Prelude.{◌≡◌, ◌<◌, ◌≤◌, ◌≤ℤ◌, ◌^◌, ◌++◌, ◌+◌, [], List, length, Some, None, Err, IfOk, OnOk, map};
+ghost use Rattle.std.specs.Prelude.{◌≡◌, ◌<◌, ◌≤◌, ◌≤ℤ◌, ◌^◌, ◌++◌, ◌+◌, [], List, length, Some};
+ghost use Rattle.std.specs.Prelude.{None, Err, IfOk, OnOk, map};
 ghost use Rattle.std.specs.Option.{option_map};
 ghost use Rattle.pattern_types.specs.declared.pattern.Pattern.{Pattern};
 ghost use Rattle.pattern_types.specs.Leaves.{leaves};
@@ -17,7 +18,9 @@ ghost use Rattle.match_stream.specs.Answer.{AnswersRow, IsOverLimit};
 ghost use Rattle.match_stream.specs.Passing.{ContinuesWithoutMatch};
 ghost use Rattle.hunt_engine.specs.declared.refusal.LazyMatcherRefusal.TheVariants as refused;
 ghost use Rattle.hunt_engine.specs.LazyMatcherState.{MatchesFor, Follows};
-ghost use Rattle.hunt_engine.specs.inner.Following.{EndsAt, FollowsSome, CatchesUp, TakesRow, log_with, Continues, IsSingleBracket, single_bracket_at};
+ghost use Rattle.hunt_engine.specs.inner.Following.{EndsAt, FollowsSome, CatchesUp, TakesRow};
+ghost use Rattle.hunt_engine.specs.inner.Following.{log_with, Continues, IsSingleBracket};
+ghost use Rattle.hunt_engine.specs.inner.Following.{single_bracket_at};
 
 use crate::next_row::NextRow;
 use crate::refusal::LazyMatcherRefusal;

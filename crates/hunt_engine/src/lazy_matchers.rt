@@ -1,12 +1,14 @@
 //! All patterns at one row: only those with a bracket that holds take it.
 
-ghost use Rattle.std.specs.Prelude.{◌≡◌, ◌≢◌, ◌≤◌, ◌<◌, ◌+◌, ◌^◌, ◌++◌, ℕ, All, Err, Some, length, map, slice_get, IfOk, OnOk};
+ghost use Rattle.std.specs.Prelude.{◌≡◌, ◌≢◌, ◌≤◌, ◌<◌, ◌+◌, ◌^◌, ◌++◌, ℕ, All, Err, Some, length};
+ghost use Rattle.std.specs.Prelude.{map, slice_get, IfOk, OnOk};
 ghost use Rattle.match_bindings.specs.BindTree.{tree_of};
 ghost use Rattle.hunt_engine.specs.declared.brackets.BracketRange.{BracketRange};
 ghost use Rattle.hunt_engine.specs.declared.refusal.EngineRefusal.TheVariants as refusal;
 ghost use Rattle.hunt_engine.specs.inner.Following.{Continues};
 ghost use Rattle.hunt_feed.specs.Indicators.{IsAscending};
-ghost use Rattle.hunt_engine.specs.inner.Round.{AllFollow, TookSome, CrowdsAt, StillFollow, found_of};
+ghost use Rattle.hunt_engine.specs.inner.Round.{AllFollow, TookSome, CrowdsAt, StillFollow};
+ghost use Rattle.hunt_engine.specs.inner.Round.{found_of};
 
 use crate::brackets::Brackets;
 use crate::lazy_matcher::LazyMatcher;

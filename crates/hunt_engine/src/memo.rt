@@ -6,7 +6,8 @@
 //! costs time. `upcoming` and `pass` are a hint which roots follow, so that they can be evaluated
 //! as a batch. `upcoming` carries no contract, since any answer of it would be correct.
 
-ghost use Rattle.std.specs.Prelude.{◌≡◌, ◌↔◌, ◌⊎◌, ◌<◌, ◌^◌, ℕ, List, [], IsTrue, Some, length, slice_get, IfOk, OnOk};
+ghost use Rattle.std.specs.Prelude.{◌≡◌, ◌↔◌, ◌⊎◌, ◌<◌, ◌^◌, ℕ, List, [], IsTrue, Some, length};
+ghost use Rattle.std.specs.Prelude.{slice_get, IfOk, OnOk};
 ghost use Rattle.hunt_engine.specs.inner.Memos.{IsMemoized, AddsRoot, AddsPositions};
 
 use flow_values::{Items, NoMemory};

@@ -3,7 +3,8 @@
 
 ghost use Rattle.std.specs.Prelude.{◌↔◌, IsTrue, All};
 ghost use Rattle.pattern_types.specs.PlainLeaf.{plain_leaf, listed};
-ghost use Rattle.hunt_index.specs.Definite.{IsDefiniteConstant, IsDefiniteCheck, IsPlain, ArePlain, IsDefiniteTest, IsDefinite, AreDefinite};
+ghost use Rattle.hunt_index.specs.Definite.{IsDefiniteConstant, IsDefiniteCheck, IsPlain, ArePlain};
+ghost use Rattle.hunt_index.specs.Definite.{IsDefiniteTest, IsDefinite, AreDefinite};
 
 use pattern_types::{Check, Constant, Leaf, Step, Test};
 

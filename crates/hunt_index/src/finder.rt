@@ -10,7 +10,9 @@ ghost use Rattle.stix_json.specs.DataOf.{data_of};
 ghost use Rattle.stix_json.specs.Ordered.{IsOrdered};
 ghost use Rattle.hunt_index.specs.declared.paths.Lookup.{Lookup};
 ghost use Rattle.hunt_index.specs.inner.Indexed.{IsSeenFrom, IsSeen, IsOfKind, IsFinderOf};
-ghost use Rattle.hunt_index.specs.inner.Finding.{Keeps, AreAsked, AsksFor, AsksByPath, AskByPaths, AddsOnly, IsSeenBy, AreSeen, FindsPlaces, AddsFound, AreKinds};
+ghost use Rattle.hunt_index.specs.inner.Finding.{Keeps, AreAsked, AsksFor, AsksByPath, AskByPaths};
+ghost use Rattle.hunt_index.specs.inner.Finding.{AddsOnly, IsSeenBy, AreSeen, FindsPlaces};
+ghost use Rattle.hunt_index.specs.inner.Finding.{AddsFound, AreKinds};
 
 use crate::index_key::IndexKey;
 use crate::key::{Key, key_in};

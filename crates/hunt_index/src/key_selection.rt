@@ -10,7 +10,9 @@ ghost use Rattle.pattern_types.specs.PlainLeaf.{plain_leaf, listed};
 ghost use Rattle.pattern_types.specs.declared.path.Step.{Step};
 ghost use Rattle.match_comparisons.specs.Tests.{TestHolds, HoldsAt, AllHold, SomeHold};
 ghost use Rattle.hunt_index.specs.Definite.{IsDefinite, AreDefinite, IsDefiniteTest, ArePlain};
-ghost use Rattle.hunt_index.specs.inner.IndexKeys.{AreIndexKeys, IndexKeys, AreSufficient, Sufficient, HasIndexKey, AreBy, Represents, AnswersSome};
+ghost use Rattle.hunt_index.specs.inner.IndexKeys.{AreIndexKeys, IndexKeys, AreSufficient};
+ghost use Rattle.hunt_index.specs.inner.IndexKeys.{Sufficient, HasIndexKey, AreBy, Represents};
+ghost use Rattle.hunt_index.specs.inner.IndexKeys.{AnswersSome};
 
 use crate::index_key::IndexKey;
 use crate::key::{Key, key_of};

@@ -2,7 +2,8 @@
 
 ghost use Rattle.std.specs.Prelude.{◌≡◌, length, IfOk, OnOk};
 ghost use Rattle.std.specs.declared.cmp.Ordering.TheVariants.{Equal};
-ghost use Rattle.hunt_index.specs.inner.Paths.{AreOnePath, IsNumber, KeepsPaths, AddsPosting, AreGrouped, AreAllGrouped};
+ghost use Rattle.hunt_index.specs.inner.Paths.{AreOnePath, IsNumber, KeepsPaths, AddsPosting};
+ghost use Rattle.hunt_index.specs.inner.Paths.{AreGrouped, AreAllGrouped};
 
 use crate::index_key::IndexKey;
 use crate::key::Key;

@@ -1,4 +1,5 @@
-ghost use Rattle.std.specs.Prelude.{◌≡◌, ◌≢◌, ◌↔◌, ◌+◌, ◌∷◌, ◌<◌, ◌≤ℤ◌, [], List, All, Err, IsTrue, length, IfOk, IfErr, OnOk};
+ghost use Rattle.std.specs.Prelude.{◌≡◌, ◌≢◌, ◌↔◌, ◌+◌, ◌∷◌, ◌<◌, ◌≤ℤ◌, [], List, All, Err, IsTrue};
+ghost use Rattle.std.specs.Prelude.{length, IfOk, IfErr, OnOk};
 ghost use Rattle.flow_edges.specs.Faults.{Counted};
 ghost use Rattle.stix_bundles.specs.Objects.{data_in};
 ghost use Rattle.match_stream.specs.MatcherState.{Falls};
@@ -6,9 +7,11 @@ ghost use Rattle.match_run.specs.Reading.{MayFollow};
 ghost use Rattle.hunt_engine.specs.EngineLog.{row_of};
 ghost use Rattle.hunt_engine.specs.Memo.{brackets_of, IsSoundMemo};
 ghost use Rattle.hunt_engine.specs.declared.refusal.EngineRefusal.TheVariants.{Ended};
-ghost use Rattle.hunt_report.specs.Hunting.{patterns_of, IsHuntable, HuntsOver, IsReady, SeesBundle, BeginsBundle, StopsInBundle};
+ghost use Rattle.hunt_report.specs.Hunting.{patterns_of, IsHuntable, HuntsOver, IsReady};
+ghost use Rattle.hunt_report.specs.Hunting.{SeesBundle, BeginsBundle, StopsInBundle};
 ghost use Rattle.hunt_report.specs.inner.Noting.{noted, all_noted, AreBefore};
-ghost use Rattle.hunt_report.specs.inner.HitReporting.{TakesRow, end_of_engine, EndsAtRow, TakesSoFar, EndsAmong, HasCutLines};
+ghost use Rattle.hunt_report.specs.inner.HitReporting.{TakesRow, end_of_engine, EndsAtRow};
+ghost use Rattle.hunt_report.specs.inner.HitReporting.{TakesSoFar, EndsAmong, HasCutLines};
 
 use crate::hit_line::add_hits;
 use crate::hit_summary::hit_summary_after;

@@ -1,7 +1,8 @@
 //! The report of a hunt: an envelope with a sighting for each indicator that has hits, written one
 //! by one.
 
-ghost use Rattle.std.specs.Prelude.{◌≡◌, ◌++◌, ◌≤ℤ◌, [], ℕ, List, Option, Err, All, length, IfOk, OnOk, OnErr};
+ghost use Rattle.std.specs.Prelude.{◌≡◌, ◌++◌, ◌≤ℤ◌, [], ℕ, List, Option, Err, All, length, IfOk};
+ghost use Rattle.std.specs.Prelude.{OnOk, OnErr};
 ghost use Rattle.flow_edges.specs.Faults.{Counted};
 ghost use Rattle.flow_edges.specs.Flow.{written_with, WritesPrefix};
 ghost use Rattle.match_run.specs.Buffered.{IsBuffered};
@@ -10,7 +11,9 @@ ghost use Rattle.hunt_engine.specs.declared.found.Hit.{Hit};
 ghost use Rattle.hunt_engine.specs.EngineLog.{Row};
 ghost use Rattle.hunt_report.specs.Hunting.{IsHuntable, HuntsOver};
 ghost use Rattle.hunt_report.specs.HitSummaries.{IsReport, IsReportText, begun_by};
-ghost use Rattle.hunt_report.specs.inner.Reporting.{IsTextOf, ReportsSoFar, ReportsPart, AddsHitSummary, BreaksAtHitSummary, is_begun, mark_of, end_of, IsHitSummaryInOrder};
+ghost use Rattle.hunt_report.specs.inner.Reporting.{IsTextOf, ReportsSoFar, ReportsPart};
+ghost use Rattle.hunt_report.specs.inner.Reporting.{AddsHitSummary, BreaksAtHitSummary, is_begun};
+ghost use Rattle.hunt_report.specs.inner.Reporting.{mark_of, end_of, IsHitSummaryInOrder};
 
 use crate::sighting_laws::one_text_more;
 use crate::{HitSummary, Hunter, SightingInput, sighting_text};

@@ -6,7 +6,8 @@ ghost use Rattle.pattern_types.specs.Leaves.{leaves};
 ghost use Rattle.match_bindings.specs.NumberedPattern.{numbered_from};
 ghost use Rattle.match_bindings.specs.BindTree.{First, Second, Single};
 ghost use Rattle.match_bindings.specs.Log.{observed_in};
-ghost use Rattle.match_bindings.specs.inner.Candidates.{spanned_trees, spanned_with, ones, joins, repeats_of, candidates};
+ghost use Rattle.match_bindings.specs.inner.Candidates.{spanned_trees, spanned_with, ones, joins};
+ghost use Rattle.match_bindings.specs.inner.Candidates.{repeats_of, candidates};
 
 use crate::bounds::Bounds;
 use crate::join::{Join, singleton};

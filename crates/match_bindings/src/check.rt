@@ -8,7 +8,8 @@ ghost use Rattle.match_bindings.specs.BindTree.{tree_of, many_of, firsts};
 ghost use Rattle.match_bindings.specs.Log.{observed_in};
 ghost use Rattle.match_bindings.specs.Binding.{IsBinding};
 ghost use Rattle.match_bindings.specs.Test.{is_binding, are_repeats};
-ghost use Rattle.match_bindings.specs.inner.Candidates.{verified, span_if, span_of, joined_span, admits, lies_within, lies_between};
+ghost use Rattle.match_bindings.specs.inner.Candidates.{verified, span_if, span_of, joined_span};
+ghost use Rattle.match_bindings.specs.inner.Candidates.{admits, lies_within, lies_between};
 ghost use Rattle.match_bindings.specs.declared.join.Join.TheVariants as variant;
 
 use crate::join::Join;

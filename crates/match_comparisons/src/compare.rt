@@ -6,7 +6,8 @@ ghost use Rattle.std.specs.Ordering.{int_cmp, nat_cmp};
 ghost use Rattle.std.specs.declared.cmp.Ordering.{Ordering};
 ghost use Rattle.stix_times.specs.Reading.{IsTextOf};
 ghost use Rattle.stix_json.specs.DataOf.{data_of};
-ghost use Rattle.pattern_types.specs.declared.constant.Constant.TheVariants.{Integer, String, Boolean, Timestamp};
+ghost use Rattle.pattern_types.specs.declared.constant.Constant.TheVariants.{Integer, String};
+ghost use Rattle.pattern_types.specs.declared.constant.Constant.TheVariants.{Boolean, Timestamp};
 ghost use Rattle.match_comparisons.specs.Tests.{Compares};
 ghost use Rattle.match_comparisons.specs.inner.Bytes.{Represents};
 

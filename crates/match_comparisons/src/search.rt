@@ -11,7 +11,8 @@ ghost use Rattle.stix_json.specs.Ordered.{IsOrdered};
 ghost use Rattle.stix_bundles.specs.Objects.{data_in};
 ghost use Rattle.pattern_types.specs.declared.path.Step.{Step};
 ghost use Rattle.match_comparisons.specs.Tests.{IsAbsence};
-ghost use Rattle.match_comparisons.specs.inner.Search.{name_of, Finds, SomeFinds, FindsAt, IsSoundMemo, IsSearchState, IsSearchOf};
+ghost use Rattle.match_comparisons.specs.inner.Search.{name_of, Finds, SomeFinds, FindsAt};
+ghost use Rattle.match_comparisons.specs.inner.Search.{IsSoundMemo, IsSearchState, IsSearchOf};
 
 use crate::check::meets_unless_negated;
 use crate::last::last_name;

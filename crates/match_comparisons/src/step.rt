@@ -1,6 +1,7 @@
 //! One step of an object path (STIX 2.1, section 9.7).
 
-ghost use Rattle.std.specs.Prelude.{◌≡◌, ◌↔◌, ◌<◌, ◌≤◌, ◌^◌, None, MatchOption, IfSome, All, Contains, length, option_map, option_to_list, slice_get};
+ghost use Rattle.std.specs.Prelude.{◌≡◌, ◌↔◌, ◌<◌, ◌≤◌, ◌^◌, None, MatchOption, IfSome, All};
+ghost use Rattle.std.specs.Prelude.{Contains, length, option_map, option_to_list, slice_get};
 ghost use Rattle.serde_json.specs.Data.{Data};
 ghost use Rattle.serde_json.specs.Find.{as_str};
 ghost use Rattle.flow_values.specs.Answers.{FindsExactly};
@@ -8,7 +9,8 @@ ghost use Rattle.stix_json.specs.DataOf.{data_of};
 ghost use Rattle.stix_json.specs.Ordered.{IsOrdered};
 ghost use Rattle.stix_bundles.specs.Objects.{data_in};
 ghost use Rattle.stix_bundles.specs.Lookup.{Means};
-ghost use Rattle.match_comparisons.specs.Selection.{RefersTo, LeadsTo, members, StepSelects, StepReaches};
+ghost use Rattle.match_comparisons.specs.Selection.{RefersTo, LeadsTo, members, StepSelects};
+ghost use Rattle.match_comparisons.specs.Selection.{StepReaches};
 ghost use Rattle.match_comparisons.specs.inner.PropertyOf.{property_of};
 
 use crate::name::is_reference;

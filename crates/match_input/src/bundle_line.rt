@@ -1,13 +1,15 @@
 //! One line: from bytes to a bundle with its observations, or the rule by which it is refused.
 
-ghost use Rattle.std.specs.Prelude.{◌≡◌, ◌≤◌, ◌+◌, ◌^◌, ℤ, List, ℕ, Option, length, IfOk, IfErr, IfSome, IfNone};
+ghost use Rattle.std.specs.Prelude.{◌≡◌, ◌≤◌, ◌+◌, ◌^◌, ℤ, List, ℕ, Option, length, IfOk, IfErr};
+ghost use Rattle.std.specs.Prelude.{IfSome, IfNone};
 ghost use Rattle.stix_json.specs.DataOf.{data_of};
 ghost use Rattle.stix_json.specs.Ordered.{IsOrdered};
 ghost use Rattle.stix_json.specs.Reading.{IsJsonOf};
 ghost use Rattle.stix_bundles.specs.declared.outline.TheConstants.{MAX_OBJECTS};
 ghost use Rattle.stix_bundles.specs.Objects.{data_in};
 ghost use Rattle.stix_bundles.specs.Bundle.{IsBundle};
-ghost use Rattle.match_input.specs.Line.{IsTextOf, IsInOrder, Decreases, last_after, IsBundleLine, IsRefusedFor};
+ghost use Rattle.match_input.specs.Line.{IsTextOf, IsInOrder, Decreases, last_after, IsBundleLine};
+ghost use Rattle.match_input.specs.Line.{IsRefusedFor};
 
 use crate::InputRule;
 use flow_values::{Items, NoMemory};

@@ -1,4 +1,5 @@
-ghost use Rattle.std.specs.Prelude.{◌≡◌, ◌≢◌, ◌+◌, ◌≤◌, ◌<◌, ◌^◌, None, Ok, Err, IfOk, IfSome, OnOk, length};
+ghost use Rattle.std.specs.Prelude.{◌≡◌, ◌≢◌, ◌+◌, ◌≤◌, ◌<◌, ◌^◌, None, Ok, Err, IfOk, IfSome};
+ghost use Rattle.std.specs.Prelude.{OnOk, length};
 ghost use Rattle.flow_edges.specs.Faults.{Counted};
 ghost use Rattle.match_input.specs.Line.{last_after};
 ghost use Rattle.match_input.specs.Ahead.{IsOpen, HoldsLines, LacksLineIn, AnswersNext};

@@ -1,6 +1,7 @@
 ghost use Rattle.std.specs.Prelude.{◌≡◌, ◌≢◌, ◌≤◌, Err, Ok, None, IfOk, IfErr, IfSome};
 ghost use Rattle.flow_edges.specs.Faults.{Counted};
-ghost use Rattle.match_input.specs.Ahead.{reader_start, IsOpen, HoldsLines, LacksLineIn, AnswersNext};
+ghost use Rattle.match_input.specs.Ahead.{reader_start, IsOpen, HoldsLines, LacksLineIn};
+ghost use Rattle.match_input.specs.Ahead.{AnswersNext};
 
 use crate::progress::Progress;
 use crate::{Batch, Mode, ReadEnd, Stage};

@@ -5,7 +5,8 @@ ghost use Rattle.flow_edges.specs.Faults.{Counted};
 ghost use Rattle.flow_edges.specs.Flow.{WritesWhole, WritesPart};
 ghost use Rattle.stix_times.specs.Writing.{IsCanonicalTextOf};
 ghost use Rattle.match_input.specs.inner.Reason.{broken_words, reason_text, path_lead};
-ghost use Rattle.match_input.specs.Texts.{at_path, line_of_text, refused_line_text, IsInputRefusalText};
+ghost use Rattle.match_input.specs.Texts.{at_path, line_of_text, refused_line_text};
+ghost use Rattle.match_input.specs.Texts.{IsInputRefusalText};
 
 use crate::InputRule;
 use crate::reason::Reason;

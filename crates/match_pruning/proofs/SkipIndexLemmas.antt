@@ -11,7 +11,7 @@ use Rattle.match_bindings.specs.BindTree.{has, disjoint}
 use Rattle.match_pruning.specs.declared.join.Join.{Join}
 use Rattle.match_pruning.specs.declared.join.Join.TheVariants as join
 use Rattle.match_pruning.specs.declared.block.Block.{Block}
-use Rattle.match_pruning.specs.declared.key.Key.{Key}
+use Rattle.match_pruning.specs.declared.key.SortKey.{SortKey}
 use Rattle.match_pruning.specs.declared.partial_match.PartialMatch.{PartialMatch}
 use Rattle.match_pruning.specs.declared.query.Query.{Query}
 use Rattle.match_pruning.specs.PartialMatchTree.{PartialMatchTree}
@@ -166,7 +166,7 @@ up_to_end now ahead earliest_start j x ys d places at done all tried h before or
 -- ---- what is told of keys
 
 -- what has what a key tells has what its block does
-pub common_over : (block : Block) (key : Key) (partial_match : PartialMatchTree) → IsCommonTo block key → HasCommon key.numbers.items key.begin partial_match → HasCommon block.common.items block.begin partial_match
+pub common_over : (block : Block) (key : SortKey) (partial_match : PartialMatchTree) → IsCommonTo block key → HasCommon key.numbers.items key.begin partial_match → HasCommon block.common.items block.begin partial_match
 common_over block key partial_match over h = record {
   binds = λ n there. h.binds n (over.numbers n there);
   begins = le_trans partial_match.earliest key.begin block.begin h.begins over.begins;

@@ -7,10 +7,10 @@
 
 ghost use Rattle.std.specs.Prelude.{◌≡◌, ◌≤◌, ◌<◌, length, IfOk, IfSome};
 ghost use Rattle.std.specs.List.{Contains};
-ghost use Rattle.match_pruning.specs.declared.key.Key.{Key};
+ghost use Rattle.match_pruning.specs.declared.key.SortKey.{SortKey};
 ghost use Rattle.match_pruning.specs.inner.SkipIndexes.{IsCommonTo, IsBlockOf, AreBlocksOf};
 
-use crate::key::Key;
+use crate::key::SortKey;
 use flow_values::NoMemory;
 use std::alloc::Global;
 use stix_times::Instant;
@@ -29,7 +29,7 @@ pub struct Block {
 
 impl Block {
     /// The block of the keys from `start` up to `end`.
-    fn new(alloc: Global, keys: &[Key], start: usize, end: usize) -> Result<Block, NoMemory>
+    fn new(alloc: Global, keys: &[SortKey], start: usize, end: usize) -> Result<Block, NoMemory>
         requires { (start < end) × (end ≤ length keys.now) }
         ensures start { IfOk result (λ block. block.start ≡ start) }
         ensures keys { IfOk result (λ block. IsBlockOf keys.now block) }
@@ -51,8 +51,8 @@ impl Block {
 
     /// Extends the summary to one more key: keeps the numbers that the key has too, and the later
     /// begin.
-    fn add(&mut self, key: &Key)
-        ensures kept { (other : Key) → IsCommonTo self.old other → IsCommonTo self.new other }
+    fn add(&mut self, key: &SortKey)
+        ensures kept { (other : SortKey) → IsCommonTo self.old other → IsCommonTo self.new other }
         ensures added { IsCommonTo self.new key.now }
         ensures places { (self.new.start ≡ self.old.start) × (self.new.end ≡ self.old.end) }
     {
@@ -72,7 +72,7 @@ pub struct Blocks {
 
 impl Blocks {
     /// Cuts the keys into blocks of `size` keys. The last block may be shorter.
-    pub fn new(alloc: Global, keys: &[Key], size: usize) -> Result<Blocks, NoMemory>
+    pub fn new(alloc: Global, keys: &[SortKey], size: usize) -> Result<Blocks, NoMemory>
         requires { 0 < size }
         ensures { IfOk result (λ blocks. AreBlocksOf keys.now blocks) }
     {

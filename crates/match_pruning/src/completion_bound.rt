@@ -22,7 +22,8 @@ ghost use Rattle.match_pruning.specs.inner.Steps.{joined, may_join};
 ghost use Rattle.match_pruning.specs.inner.Picks.{HasPerfectMatching};
 ghost use Rattle.match_pruning.specs.inner.Needed.{is_needed};
 ghost use Rattle.match_pruning.specs.inner.PendingLefts.{pending_lefts_of};
-ghost use Rattle.match_pruning.specs.inner.CompletionBounds.{may_precede, IsInCandidateSet, IsReached};
+ghost use Rattle.match_pruning.specs.inner.CompletionBounds.{may_precede, IsInCandidateSet};
+ghost use Rattle.match_pruning.specs.inner.CompletionBounds.{IsReached};
 
 use crate::matching::Matching;
 use crate::numbers::{push_numbers, sort_dedup};

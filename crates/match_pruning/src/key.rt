@@ -10,7 +10,7 @@ use stix_times::Instant;
 
 /// The sort key of a right operand in a `SkipIndex`.
 #[derive(Drop)]
-pub struct Key {
+pub struct SortKey {
     /// The observation numbers that it binds, ascending.
     pub numbers: Vec<u64>,
     /// When it begins.
@@ -19,16 +19,16 @@ pub struct Key {
     pub place: usize,
 }
 
-impl Key {
+impl SortKey {
     /// The key of the partial match at this index.
-    pub fn new(alloc: Global, partial_match: &PartialMatch, place: usize) -> Result<Key, NoMemory>
+    pub fn new(alloc: Global, partial_match: &PartialMatch, place: usize) -> Result<SortKey, NoMemory>
         ensures place { IfOk result (λ key. key.place ≡ place) }
         ensures candidate { IfOk result
             (λ key. HasCommon key.numbers.items key.begin (partial_match_tree partial_match.now)) }
     {
         let mut numbers = numbers_of(alloc, &partial_match.bind)?;
         numbers.sort_unstable();
-        Ok(Key {
+        Ok(SortKey {
             numbers,
             begin: partial_match.earliest,
             place,

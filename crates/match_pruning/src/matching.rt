@@ -11,7 +11,8 @@
 //! to count. A mistake there could only make the test miss a violator, and the caller would search
 //! longer.
 
-ghost use Rattle.std.specs.Prelude.{◌≡◌, ◌≤◌, ◌∷◌, [], ℕ, List, nat_eq, true, false, length, IfOk, OnOk};
+ghost use Rattle.std.specs.Prelude.{◌≡◌, ◌≤◌, ◌∷◌, [], ℕ, List, nat_eq, true, false, length, IfOk};
+ghost use Rattle.std.specs.Prelude.{OnOk};
 ghost use Rattle.std.specs.List.{AllZip, Contains, IsDistinct};
 ghost use Rattle.match_bindings.specs.BindTree.{BindTree, has};
 ghost use Rattle.match_pruning.specs.inner.Picks.{HasPerfectMatching, MayPick, IsAmong};

@@ -9,15 +9,16 @@
 
 ghost use Rattle.std.specs.Prelude.{◌≡◌, ◌⊎◌, ◌≤◌, ◌<◌, ℕ, List, length, IfOk};
 ghost use Rattle.std.specs.List.{AllWithin, Contains};
-ghost use Rattle.match_pruning.specs.declared.key.Key.{Key};
+ghost use Rattle.match_pruning.specs.declared.key.SortKey.{SortKey};
 ghost use Rattle.match_pruning.specs.declared.partial_match.PartialMatch.{PartialMatch};
 ghost use Rattle.match_pruning.specs.inner.PartialMatches.{partial_match_tree};
-ghost use Rattle.match_pruning.specs.inner.SkipIndexes.{AreKeysOf, AreLevelsOf, AreTried, IsExcluded, IsSkipIndexOf};
+ghost use Rattle.match_pruning.specs.inner.SkipIndexes.{AreKeysOf, AreLevelsOf, AreTried};
+ghost use Rattle.match_pruning.specs.inner.SkipIndexes.{IsExcluded, IsSkipIndexOf};
 
 use crate::block::Blocks;
 use crate::earliest_start::EarliestStart;
 use crate::join::Join;
-use crate::key::Key;
+use crate::key::SortKey;
 use crate::partial_match::PartialMatch;
 use crate::query::Query;
 use flow_values::NoMemory;
@@ -33,7 +34,7 @@ const FEW: usize = 64;
 #[derive(Drop)]
 pub struct SkipIndex {
     /// Sorted by their numbers. Empty where the operands are tried one by one.
-    pub keys: Vec<Key>,
+    pub keys: Vec<SortKey>,
     /// The blocks of each size, the smallest first.
     pub levels: Vec<Blocks>,
 }
@@ -85,10 +86,10 @@ impl SkipIndex {
     fn found(&self, alloc: Global, query: &Query) -> Result<Vec<usize>, NoMemory>
         requires levels { AreLevelsOf self.now.keys.items self.now.levels.items }
         // A key that isn't found is excluded, so its operand can't join.
-        ensures others { IfOk result (λ places. (key : Key) → Contains self.now.keys.items key
+        ensures others { IfOk result (λ places. (key : SortKey) → Contains self.now.keys.items key
             → Contains places.items key.place ⊎ IsExcluded query.now key) }
         ensures from { IfOk result (λ places. (place : ℕ) → Contains places.items place
-            → (key : Key) × Contains self.now.keys.items key × (key.place ≡ place)) }
+            → (key : SortKey) × Contains self.now.keys.items key × (key.place ≡ place)) }
     {
         let mut places = Vec::new(alloc);
         let mut at = 0;
@@ -127,12 +128,12 @@ impl SkipIndex {
 }
 
 /// The keys of the operands, sorted by their numbers.
-fn sorted_keys(alloc: Global, candidates: &[PartialMatch]) -> Result<Vec<Key>, NoMemory>
+fn sorted_keys(alloc: Global, candidates: &[PartialMatch]) -> Result<Vec<SortKey>, NoMemory>
     ensures { IfOk result (λ keys. AreKeysOf candidates.now keys.items) }
 {
     let mut keys = Vec::with_capacity(alloc, candidates.len())?;
     'places: for place in 0..candidates.len() {
-        let key = Key::new(alloc, &candidates[place], place)?;
+        let key = SortKey::new(alloc, &candidates[place], place)?;
         keys.push(key)?;
     }
     keys.sort_unstable_by(|one, other| one.numbers.as_slice().cmp(other.numbers.as_slice()));
@@ -140,7 +141,7 @@ fn sorted_keys(alloc: Global, candidates: &[PartialMatch]) -> Result<Vec<Key>, N
 }
 
 /// The blocks of each size below the number of keys.
-fn levels(alloc: Global, keys: &[Key]) -> Result<Vec<Blocks>, NoMemory>
+fn levels(alloc: Global, keys: &[SortKey]) -> Result<Vec<Blocks>, NoMemory>
     ensures { IfOk result (λ levels. AreLevelsOf keys.now levels.items) }
 {
     let mut levels = Vec::new(alloc);

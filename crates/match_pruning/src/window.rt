@@ -1,8 +1,10 @@
 //! The windows of a pattern's stores.
 
 ghost use Rattle.std.specs.Prelude.{◌≡◌, false, [], ◌∷◌, ◌++◌, ℕ, IfOk, OnOk};
-ghost use Rattle.match_bindings.specs.NumberedPattern.{NumberedPattern, numbered_pattern, numbered_from};
-ghost use Rattle.match_pruning.specs.Stores.{window_of, stores_of, stores_under, levels, windows_in};
+ghost use Rattle.match_bindings.specs.NumberedPattern.{NumberedPattern, numbered_pattern};
+ghost use Rattle.match_bindings.specs.NumberedPattern.{numbered_from};
+ghost use Rattle.match_pruning.specs.Stores.{window_of, stores_of, stores_under, levels};
+ghost use Rattle.match_pruning.specs.Stores.{windows_in};
 
 use flow_values::{Items, NoMemory};
 use match_bindings::Bounds;

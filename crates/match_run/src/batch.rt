@@ -6,7 +6,8 @@ ghost use Rattle.stix_bundles.specs.Objects.{data_in};
 ghost use Rattle.pattern_types.specs.PlainPattern.{plain_pattern};
 ghost use Rattle.pattern_types.specs.Soundness.{IsSoundPattern};
 ghost use Rattle.match_run.specs.inner.MatchEnds.{HasCutLines};
-ghost use Rattle.match_run.specs.inner.Rows.{so_far, IsAtSome, GoesThrough, StopsAtOne, WritesBundle, StopsInBundle};
+ghost use Rattle.match_run.specs.inner.Rows.{so_far, IsAtSome, GoesThrough, StopsAtOne};
+ghost use Rattle.match_run.specs.inner.Rows.{WritesBundle, StopsInBundle};
 ghost use Rattle.match_run.specs.Reading.{MayFollow};
 ghost use Rattle.match_run.specs.Reading.{bundle_of};
 

@@ -4,12 +4,14 @@
 //! decides whether their partial matches are needed. That makes a wide `OR` cost one look per
 //! bracket instead of a node per bracket.
 
-ghost use Rattle.std.specs.Prelude.{◌≡◌, ◌+◌, ◌<◌, ◌≤ℤ◌, ◌≤◌, ◌^◌, ◌++◌, ◌∷◌, [], ℕ, true, false, IsTrue, IfOk, IfSome, OnOk, nat_eq};
+ghost use Rattle.std.specs.Prelude.{◌≡◌, ◌+◌, ◌<◌, ◌≤ℤ◌, ◌≤◌, ◌^◌, ◌++◌, ◌∷◌, [], ℕ, true, false};
+ghost use Rattle.std.specs.Prelude.{IsTrue, IfOk, IfSome, OnOk, nat_eq};
 ghost use Rattle.std.specs.List.{IsDistinct};
 ghost use Rattle.match_bindings.specs.BindTree.{Second, firsts, tree_of};
 ghost use Rattle.match_pruning.specs.inner.PartialMatches.{partial_match_tree, partial_match_trees};
 ghost use Rattle.match_pruning.specs.inner.Retains.{retains};
-ghost use Rattle.match_pruning.specs.inner.Steps.{held_with, a_leaf, a_choice, row_alone, truth_at, IsNonmatching, step_new};
+ghost use Rattle.match_pruning.specs.inner.Steps.{held_with, a_leaf, a_choice, row_alone, truth_at};
+ghost use Rattle.match_pruning.specs.inner.Steps.{IsNonmatching, step_new};
 ghost use Rattle.match_pruning.specs.inner.Needed.{is_needed, needed};
 ghost use Rattle.match_pruning.specs.inner.PendingLefts.{pending_lefts_of};
 ghost use Rattle.match_pruning.specs.inner.Numbers.{numbers};

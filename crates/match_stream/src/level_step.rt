@@ -5,13 +5,16 @@
 //! both contain this row, so they never stand in one set: joining old sets with new parts alone
 //! misses nothing.
 
-ghost use Rattle.std.specs.Prelude.{◌≡◌, ◌∷◌, ◌++◌, ◌+◌, ◌-◌, ◌<◌, ◌≤◌, [], map, length, IfOk, OnOk, Err, IfSome, IfNone};
+ghost use Rattle.std.specs.Prelude.{◌≡◌, ◌∷◌, ◌++◌, ◌+◌, ◌-◌, ◌<◌, ◌≤◌, [], map, length, IfOk};
+ghost use Rattle.std.specs.Prelude.{OnOk, Err, IfSome, IfNone};
 ghost use Rattle.match_bindings.specs.BindTree.{Single};
 ghost use Rattle.match_pruning.specs.declared.join.Join.TheVariants as join;
 ghost use Rattle.match_pruning.specs.declared.stop.Stop.TheVariants as stop;
 ghost use Rattle.match_stream.specs.RetainedPart.{held_count};
 ghost use Rattle.match_pruning.specs.inner.PartialMatches.{partial_match_tree, partial_match_trees};
-ghost use Rattle.match_pruning.specs.inner.Steps.{held_with, kept, stored, joins, levels_new, levels_after, levels_above, all_levels, risen, raised, counted};
+ghost use Rattle.match_pruning.specs.inner.Steps.{held_with, kept, stored, joins, levels_new};
+ghost use Rattle.match_pruning.specs.inner.Steps.{levels_after, levels_above, all_levels, risen};
+ghost use Rattle.match_pruning.specs.inner.Steps.{raised, counted};
 ghost use Rattle.match_pruning.specs.inner.Needed.{needed, chosen};
 ghost use Rattle.match_pruning.specs.inner.PendingLefts.{pending_lefts_of};
 ghost use Rattle.match_stream.specs.inner.Totals.{AdmitLevels};

@@ -1,4 +1,5 @@
-ghost use Rattle.std.specs.Prelude.{◌≡◌, ◌<◌, ◌≤◌, ◌+◌, ◌++◌, ◌^◌, ◌↔◌, ◌≤ℤ◌, ◌<ℤ◌, ℕ, ℤ, Some, None, Err, List, [], map, IfOk, OnOk};
+ghost use Rattle.std.specs.Prelude.{◌≡◌, ◌<◌, ◌≤◌, ◌+◌, ◌++◌, ◌^◌, ◌↔◌, ◌≤ℤ◌, ◌<ℤ◌, ℕ, ℤ, Some};
+ghost use Rattle.std.specs.Prelude.{None, Err, List, [], map, IfOk, OnOk};
 ghost use Rattle.pattern_types.specs.Leaves.{leaves};
 ghost use Rattle.match_bindings.specs.declared.log_entry.LogEntry.{LogEntry};
 ghost use Rattle.match_bindings.specs.BindTree.{tree_of};

@@ -7,15 +7,19 @@
 //! `step_state`, the plain definitions in `specs/inner/Steps`, with its early filters and its count
 //! of memory.
 
-ghost use Rattle.std.specs.Prelude.{◌≡◌, ◌+◌, ◌<◌, ◌≤ℤ◌, ◌^◌, ◌++◌, [], false, IsTrue, IfOk, IfSome, OnOk, Err, map, length};
+ghost use Rattle.std.specs.Prelude.{◌≡◌, ◌+◌, ◌<◌, ◌≤ℤ◌, ◌^◌, ◌++◌, [], false, IsTrue, IfOk};
+ghost use Rattle.std.specs.Prelude.{IfSome, OnOk, Err, map, length};
 ghost use Rattle.std.specs.Box.{box_value};
 ghost use Rattle.pattern_types.specs.Leaves.{leaves};
 ghost use Rattle.match_bindings.specs.NumberedPattern.{numbered_from};
 ghost use Rattle.match_bindings.specs.BindTree.{One, Second, firsts};
 ghost use Rattle.match_pruning.specs.inner.PartialMatches.{partial_match_tree, partial_match_trees};
 ghost use Rattle.match_pruning.specs.Stores.{window_of};
-ghost use Rattle.match_pruning.specs.inner.Steps.{held_with, a_leaf, a_join, a_choice, a_limit, a_chain, all_levels, empty_sides, step_new, step_state, empty_state, IsNonmatching};
-ghost use Rattle.match_pruning.specs.inner.Needed.{needed, closed, pending_lefts_right, pending_lefts_part};
+ghost use Rattle.match_pruning.specs.inner.Steps.{held_with, a_leaf, a_join, a_choice, a_limit};
+ghost use Rattle.match_pruning.specs.inner.Steps.{a_chain, all_levels, empty_sides, step_new};
+ghost use Rattle.match_pruning.specs.inner.Steps.{step_state, empty_state, IsNonmatching};
+ghost use Rattle.match_pruning.specs.inner.Needed.{needed, closed, pending_lefts_right};
+ghost use Rattle.match_pruning.specs.inner.Needed.{pending_lefts_part};
 ghost use Rattle.match_pruning.specs.inner.PendingLefts.{pending_left_trees, pending_lefts_of};
 ghost use Rattle.match_stream.specs.inner.Totals.{held_after, retained_at, Admits, IsOverAt};
 ghost use Rattle.match_stream.specs.inner.Nodes.{side_stores, leaves_of, levels_state, state_of};

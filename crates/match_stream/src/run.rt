@@ -1,4 +1,5 @@
-ghost use Rattle.std.specs.Prelude.{◌≡◌, ◌<◌, ◌+◌, ◌^◌, ◌↔◌, ℕ, ℤ, ◌≤ℤ◌, ◌<ℤ◌, Err, Some, map, IfOk, OnOk};
+ghost use Rattle.std.specs.Prelude.{◌≡◌, ◌<◌, ◌+◌, ◌^◌, ◌↔◌, ℕ, ℤ, ◌≤ℤ◌, ◌<ℤ◌, Err, Some, map};
+ghost use Rattle.std.specs.Prelude.{IfOk, OnOk};
 ghost use Rattle.match_bindings.specs.BindTree.{tree_of};
 ghost use Rattle.match_stream.specs.declared.ending.Ending.TheVariants as ending;
 ghost use Rattle.match_pruning.specs.PartialMatchTree.{trees_in};
@@ -28,7 +29,8 @@ pub(crate) struct Run {
 }
 
 impl Run {
-    ghost use Rattle.match_stream.specs.inner.Runs.{IsCleared, next_row, AreSteps, TookRow, IsOver, Passed};
+    ghost use Rattle.match_stream.specs.inner.Runs.{IsCleared, next_row, AreSteps, TookRow, IsOver};
+    ghost use Rattle.match_stream.specs.inner.Runs.{Passed};
 
     /// Removes what has expired at `now`. `Ending::OutOfOrder` where `now` is before the last row.
     /// Takes no memory.

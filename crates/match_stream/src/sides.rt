@@ -1,7 +1,8 @@
 ghost use Rattle.std.specs.Prelude.{◌≡◌, ◌+◌, ◌<◌, false, length, IfOk, OnOk, Err};
 ghost use Rattle.match_pruning.specs.Stores.{window_of};
 ghost use Rattle.match_pruning.specs.inner.PartialMatches.{partial_match_trees};
-ghost use Rattle.match_pruning.specs.inner.Steps.{joins_both, sides_kept, sides_stored, sides_count, empty_sides};
+ghost use Rattle.match_pruning.specs.inner.Steps.{joins_both, sides_kept, sides_stored};
+ghost use Rattle.match_pruning.specs.inner.Steps.{sides_count, empty_sides};
 ghost use Rattle.match_pruning.specs.inner.JoinFilters.{join_filtered};
 ghost use Rattle.match_pruning.specs.declared.stop.Stop.TheVariants as stop;
 ghost use Rattle.match_stream.specs.inner.Nodes.{side_stores};

@@ -1,7 +1,8 @@
 //! Limits on nesting, checked by counting tokens before parsing. The parser recurses only at an
 //! open parenthesis, so the count bounds its stack.
 
-ghost use Rattle.std.specs.Prelude.{◌≡◌, ◌<◌, ◌^◌, ◌↔◌, IsTrue, List, [], ◌∷◌, ◌++◌, length, IfSome, IfNone};
+ghost use Rattle.std.specs.Prelude.{◌≡◌, ◌<◌, ◌^◌, ◌↔◌, IsTrue, List, [], ◌∷◌, ◌++◌, length};
+ghost use Rattle.std.specs.Prelude.{IfSome, IfNone};
 ghost use Rattle.pattern_lexer.specs.declared.token.Token.{Token};
 ghost use Rattle.pattern_grammar.specs.Depth.{IsDeepOpen, IsDeepQualifier, IsTooMany, NoneTooMany};
 ghost use Rattle.pattern_grammar.specs.inner.Machine.{CountsOf, IsFirstAt};

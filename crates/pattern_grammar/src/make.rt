@@ -1,5 +1,6 @@
 ghost use Rattle.std.specs.Prelude.{◌≡◌, map, IfOk};
-ghost use Rattle.pattern_grammar.specs.Tree.{joined, compared, operand, group, shape, both, either, followed, qualified};
+ghost use Rattle.pattern_grammar.specs.Tree.{joined, compared, operand, group, shape, both, either};
+ghost use Rattle.pattern_grammar.specs.Tree.{followed, qualified};
 
 use crate::{ComparisonTree, Operand, PatternTree, Qualifier};
 use flow_values::{Items, NoMemory};

@@ -3,11 +3,14 @@
 //! backtracks, and its error is at the end of the longest viable prefix.
 
 ghost use Rattle.std.specs.Prelude.{List, IfOk, IfErr};
-ghost use Rattle.pattern_grammar.specs.Grammar.{IsPattern, IsOrs, IsAnds, IsUnit, IsStart, IsQualifier};
+ghost use Rattle.pattern_grammar.specs.Grammar.{IsPattern, IsOrs, IsAnds, IsUnit, IsStart};
+ghost use Rattle.pattern_grammar.specs.Grammar.{IsQualifier};
 ghost use Rattle.pattern_grammar.specs.Tree.{Tree, shape};
 ghost use Rattle.pattern_grammar.specs.Answer.{SyntaxError};
 ghost use Rattle.pattern_grammar.specs.Depth.{IsShallow};
-ghost use Rattle.pattern_grammar.specs.inner.Machine.{expects_pattern, expects_ors, expects_ands, expects_unit, expects_start, expects_qualifier};
+ghost use Rattle.pattern_grammar.specs.inner.Machine.{expects_pattern, expects_ors, expects_ands};
+ghost use Rattle.pattern_grammar.specs.inner.Machine.{expects_unit, expects_start};
+ghost use Rattle.pattern_grammar.specs.inner.Machine.{expects_qualifier};
 ghost use Rattle.pattern_grammar.specs.inner.Machine.{Found, Refused, Lacks, done};
 
 use crate::make::{make_both, make_either, make_qualified, make_then};

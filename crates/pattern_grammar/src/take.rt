@@ -1,4 +1,5 @@
-ghost use Rattle.std.specs.Prelude.{◌≡◌, ◌++◌, ◌∷◌, [], ◌⊎◌, IfSome, IfNone, IfOk, IfErr, IsOkAnd, IsErrAnd, MatchBool};
+ghost use Rattle.std.specs.Prelude.{◌≡◌, ◌++◌, ◌∷◌, [], ◌⊎◌, IfSome, IfNone, IfOk, IfErr, IsOkAnd};
+ghost use Rattle.std.specs.Prelude.{IsErrAnd, MatchBool};
 ghost use Rattle.pattern_grammar.specs.inner.Machine.{BeginsLine, Lacks};
 ghost use Rattle.pattern_grammar.specs.declared.stop.Stop.TheVariants.{Memory};
 

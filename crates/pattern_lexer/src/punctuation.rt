@@ -1,6 +1,7 @@
 ghost use Rattle.std.specs.Prelude.{◌≡◌, ◌≢◌, ◌∷◌, ℕ, List, Some, IsSome, IfSome, IfNone};
 ghost use Rattle.pattern_lexer.specs.Reading.{HasNoToken};
-ghost use Rattle.pattern_lexer.specs.inner.Steps.{BeginsToken, StartsAsPunctuation, single_kind, double_kind};
+ghost use Rattle.pattern_lexer.specs.inner.Steps.{BeginsToken, StartsAsPunctuation, single_kind};
+ghost use Rattle.pattern_lexer.specs.inner.Steps.{double_kind};
 
 use crate::TokenKind;
 use crate::first::First;

@@ -1,7 +1,8 @@
 ghost use Rattle.std.specs.Prelude.{◌≡◌, ℕ, ℤ, List, IfOk, IfSome, IfNone};
 ghost use Rattle.flow_values.specs.Answers.{FindsExactly};
 ghost use Rattle.pattern_lexer.specs.Spans.{IsCut, text_at, At, IsItself};
-ghost use Rattle.pattern_lexer.specs.Values.{IsIntegerText, IsStringText, IsHexText, IsBinaryText, IsTimestampText};
+ghost use Rattle.pattern_lexer.specs.Values.{IsIntegerText, IsStringText, IsHexText, IsBinaryText};
+ghost use Rattle.pattern_lexer.specs.Values.{IsTimestampText};
 
 use crate::{Token, binary_of, hex_of, integer_of, string_of, timestamp_of};
 use flow_values::{Items, NoMemory, Text};

@@ -1,7 +1,8 @@
 //! Consequences of the definitions: the contract is a theorem, and its function does nothing.
 
 ghost use Rattle.std.specs.Prelude.{◌≡◌, ℕ, ℤ, List};
-ghost use Rattle.pattern_lexer.specs.Values.{IsIntegerText, IsStringText, IsHexText, IsBinaryText, IsTimestampText};
+ghost use Rattle.pattern_lexer.specs.Values.{IsIntegerText, IsStringText, IsHexText, IsBinaryText};
+ghost use Rattle.pattern_lexer.specs.Values.{IsTimestampText};
 
 use stix_times::laws::one_instant;
 

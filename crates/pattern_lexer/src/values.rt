@@ -1,7 +1,9 @@
-ghost use Rattle.std.specs.Prelude.{◌≡◌, ◌≢◌, ◌++◌, ℕ, ℤ, List, codes, IfOk, IfSome, IfNone, IsTrue, ◌↔◌};
+ghost use Rattle.std.specs.Prelude.{◌≡◌, ◌≢◌, ◌++◌, ℕ, ℤ, List, codes, IfOk, IfSome, IfNone};
+ghost use Rattle.std.specs.Prelude.{IsTrue, ◌↔◌};
 ghost use Rattle.std.specs.Str.Parse.{without_leading_sign};
 ghost use Rattle.flow_values.specs.Answers.{FindsExactly};
-ghost use Rattle.pattern_lexer.specs.Values.{HasNoLeadingZero, IsIntegerText, IsStringText, IsHexText, IsBinaryText, IsTimestampText};
+ghost use Rattle.pattern_lexer.specs.Values.{HasNoLeadingZero, IsIntegerText, IsStringText};
+ghost use Rattle.pattern_lexer.specs.Values.{IsHexText, IsBinaryText, IsTimestampText};
 
 use crate::unescape::unescaped;
 use base64::DecodeAllocError;

@@ -3,7 +3,8 @@
 //! repeat that of its operands.
 
 ghost use Rattle.std.specs.Prelude.{◌≡◌, ◌↔◌, List, ℕ, IfOk};
-ghost use Rattle.pattern_grammar.specs.Tree.{Comparison, test, all, any, compared, conjunction, operand};
+ghost use Rattle.pattern_grammar.specs.Tree.{Comparison, test, all, any, compared, conjunction};
+ghost use Rattle.pattern_grammar.specs.Tree.{operand};
 ghost use Rattle.pattern_reader.specs.LeafMeaning.{IsNoAll, IsNoAny};
 ghost use Rattle.pattern_reader.specs.Refusals.{HasRoot, first_of, IsRootless};
 ghost use Rattle.pattern_reader.specs.Roots.{Has};

@@ -5,7 +5,8 @@ ghost use Rattle.pattern_types.specs.declared.path.TheConstants.{MAX_STEPS};
 ghost use Rattle.pattern_reader.specs.declared.value_refusal.ValueRefusal.TheVariants.{NoValue};
 ghost use Rattle.pattern_reader.specs.Meaning.{IsNameOf, IsStepOf, IsPathOf};
 ghost use Rattle.std.specs.List.{AllZip};
-ghost use Rattle.pattern_reader.specs.Refusals.{Lacks, IsLongPath, step_refusal, RefusalOfSteps, RefusalOfPath};
+ghost use Rattle.pattern_reader.specs.Refusals.{Lacks, IsLongPath, step_refusal, RefusalOfSteps};
+ghost use Rattle.pattern_reader.specs.Refusals.{RefusalOfPath};
 ghost use Rattle.pattern_reader.specs.inner.Analysis.{IsOutcome};
 
 use crate::ValueRefusal;

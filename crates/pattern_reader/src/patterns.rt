@@ -4,7 +4,8 @@ ghost use Rattle.pattern_reader.specs.Answer.{Answers};
 ghost use Rattle.pattern_reader.specs.inner.NarrowPattern.{tree_by};
 ghost use Rattle.pattern_reader.specs.Refusals.{IsSoundLimitOf};
 ghost use Rattle.pattern_grammar.specs.declared.qualifier.Qualifier.{Qualifier};
-ghost use Rattle.pattern_reader.specs.inner.NarrowPattern.{IsNarrow, IsNarrowPart, IsPartOf, IsPartOutcome};
+ghost use Rattle.pattern_reader.specs.inner.NarrowPattern.{IsNarrow, IsNarrowPart, IsPartOf};
+ghost use Rattle.pattern_reader.specs.inner.NarrowPattern.{IsPartOutcome};
 
 use crate::analysis::{Analysis, analyze};
 use crate::limits::{limit_of, limit_refusal};

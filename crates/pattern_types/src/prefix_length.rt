@@ -1,6 +1,7 @@
 //! Parses the prefix length of a block.
 ghost use Rattle.std.specs.Prelude.{◌≡◌, ℕ, ◌≤◌, ◌↔◌, IfSome, IsTrue};
-ghost use Rattle.pattern_types.specs.PrefixLength.{BeginsAsDecimal, IsDecimalAtMost, IsPrefixLength};
+ghost use Rattle.pattern_types.specs.PrefixLength.{BeginsAsDecimal, IsDecimalAtMost};
+ghost use Rattle.pattern_types.specs.PrefixLength.{IsPrefixLength};
 
 /// The prefix length, or all bits without a text. `None` if the text isn't a number of at most
 /// `width`.

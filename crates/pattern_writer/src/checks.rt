@@ -2,7 +2,8 @@ ghost use Rattle.std.specs.Prelude.{◌≡◌, ◌++◌, OnOk, codes};
 ghost use Rattle.pattern_writer.specs.Parts.{IsAfter, Adds};
 ghost use Rattle.pattern_writer.specs.Path.{IsPathText};
 ghost use Rattle.pattern_writer.specs.Constant.{IsConstantText};
-ghost use Rattle.pattern_writer.specs.Check.{not_text, operator_text, IsAsked, AreAmong, AreWords, IsTestText};
+ghost use Rattle.pattern_writer.specs.Check.{not_text, operator_text, IsAsked, AreAmong, AreWords};
+ghost use Rattle.pattern_writer.specs.Check.{IsTestText};
 
 use crate::constants::{write_constant, write_list};
 use crate::paths::write_path;

@@ -1,6 +1,7 @@
 ghost use Rattle.std.specs.Prelude.{◌↔◌, IsTrue, OnOk, []};
 ghost use Rattle.pattern_writer.specs.Parts.{Adds, AreJoined};
-ghost use Rattle.pattern_writer.specs.Path.{IsBare, IsNameText, IsStepText, IsFirstText, IsPathText};
+ghost use Rattle.pattern_writer.specs.Path.{IsBare, IsNameText, IsStepText, IsFirstText};
+ghost use Rattle.pattern_writer.specs.Path.{IsPathText};
 
 use crate::words::write_words;
 use flow_values::{NoMemory, Text};

@@ -2,13 +2,15 @@
 //! A tie goes to the later position, so after the last object the map is what specs/Lookup.antt
 //! defines.
 
-ghost use Rattle.std.specs.Prelude.{◌≡◌, ◌↔◌, ◌+◌, ◌≤◌, ◌<◌, length, take as first, Some, IsTrue, IfOk, OnOk};
+ghost use Rattle.std.specs.Prelude.{◌≡◌, ◌↔◌, ◌+◌, ◌≤◌, ◌<◌, length, take as first, Some, IsTrue};
+ghost use Rattle.std.specs.Prelude.{IfOk, OnOk};
 ghost use Rattle.stix_ids.specs.declared.id.Id.{Id};
 ghost use Rattle.stix_ids.specs.PartsOf.{id_of};
 ghost use Rattle.stix_bundles.specs.Objects.{data_in};
 ghost use Rattle.stix_bundles.specs.Lookup.{IsEarlier, IsOf, IsLatest};
 ghost use Rattle.stix_bundles.specs.declared.outline.TheConstants.{MAX_OBJECTS};
-ghost use Rattle.stix_bundles.specs.inner.Index.{IsPositionOf, ArePositionsOf, IsIndexOf, Supersedes};
+ghost use Rattle.stix_bundles.specs.inner.Index.{IsPositionOf, ArePositionsOf, IsIndexOf};
+ghost use Rattle.stix_bundles.specs.inner.Index.{Supersedes};
 
 use crate::index::{Index, MAX_UNINDEXED_OBJECTS};
 use crate::laws::one_modified;

@@ -1,7 +1,8 @@
 //! Consequences of the definitions: each contract is a theorem, and its function does nothing.
 //! Existence is stated weakly: as "not every candidate fails".
 
-ghost use Rattle.std.specs.Prelude.{◌≡◌, ◌⊎◌, ℕ, ℤ, List, [], Option, None, slice_get, Some, All, ◌≤ℤ◌};
+ghost use Rattle.std.specs.Prelude.{◌≡◌, ◌⊎◌, ℕ, ℤ, List, [], Option, None, slice_get, Some, All};
+ghost use Rattle.std.specs.Prelude.{◌≤ℤ◌};
 ghost use Rattle.serde_json.specs.Data.{Data};
 ghost use Rattle.stix_ids.specs.declared.id.Id.{Id};
 ghost use Rattle.stix_ids.specs.Identifier.{IsTextOf};

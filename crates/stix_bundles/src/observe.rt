@@ -1,4 +1,5 @@
-ghost use Rattle.std.specs.Prelude.{◌≡◌, ◌↔◌, IsTrue, ◌+◌, ◌≤◌, ◌^◌, [], length, All, filter_map, None, MatchOption, IfSome, IfNone, IfOk, IfErr, OnOk, codes};
+ghost use Rattle.std.specs.Prelude.{◌≡◌, ◌↔◌, IsTrue, ◌+◌, ◌≤◌, ◌^◌, [], length, All, filter_map};
+ghost use Rattle.std.specs.Prelude.{None, MatchOption, IfSome, IfNone, IfOk, IfErr, OnOk, codes};
 ghost use Rattle.serde_json.specs.Find.{as_str};
 ghost use Rattle.stix_json.specs.DataOf.{data_of};
 ghost use Rattle.stix_objects.specs.Breaks.{AreBreaksOf};
@@ -7,7 +8,9 @@ ghost use Rattle.stix_bundles.specs.Objects.{data_in};
 ghost use Rattle.stix_bundles.specs.declared.outline.TheConstants.{MAX_OBJECTS};
 ghost use Rattle.stix_objects.specs.Properties.{IsTimestampAt, HasId};
 ghost use Rattle.stix_bundles.specs.Lookup.{Means};
-ghost use Rattle.stix_bundles.specs.Observations.{how_many, NoneEmbeds, Embeds, IsFirstEmbedding, IsObservedData, references, AreResolved, IsObservationAt, AreObservations, AreRefused};
+ghost use Rattle.stix_bundles.specs.Observations.{how_many, NoneEmbeds, Embeds, IsFirstEmbedding};
+ghost use Rattle.stix_bundles.specs.Observations.{IsObservedData, references, AreResolved};
+ghost use Rattle.stix_bundles.specs.Observations.{IsObservationAt, AreObservations, AreRefused};
 ghost use Rattle.stix_bundles.specs.inner.LastTimes.{IsLastTimeOf, AreObservationsAt};
 
 use crate::last_time::{LastTime, last_times_in_order};

@@ -1,11 +1,13 @@
-ghost use Rattle.std.specs.Prelude.{◌≡◌, ◌⊎◌, ◌≤◌, ◌++◌, List, [], Err, length, map, All, IfOk, IfErr, OnOk};
+ghost use Rattle.std.specs.Prelude.{◌≡◌, ◌⊎◌, ◌≤◌, ◌++◌, List, [], Err, length, map, All, IfOk};
+ghost use Rattle.std.specs.Prelude.{IfErr, OnOk};
 ghost use Rattle.serde_json.specs.Data.{Data};
 ghost use Rattle.stix_json.specs.DataOf.{data_of};
 ghost use Rattle.stix_json.specs.Ordered.{IsOrdered};
 ghost use Rattle.stix_bundles.specs.declared.refusal.BundleRefusal.{BundleRefusal};
 ghost use Rattle.stix_bundles.specs.declared.outline.TheConstants.{MAX_OBJECTS};
 ghost use Rattle.stix_bundles.specs.Objects.{data_in};
-ghost use Rattle.stix_bundles.specs.Bundle.{IsObject, IsListOf, HasObjects, AreAllBreaks, break_of_object, IsBundle, IsBundleRefused};
+ghost use Rattle.stix_bundles.specs.Bundle.{IsObject, IsListOf, HasObjects, AreAllBreaks};
+ghost use Rattle.stix_bundles.specs.Bundle.{break_of_object, IsBundle, IsBundleRefused};
 
 use crate::latest::index_of;
 use crate::outline::first_failure;

@@ -1,6 +1,7 @@
 ghost use Rattle.std.specs.Prelude.{◌≡◌, ◌⊎◌, None, Some, IfOk, IfErr};
 ghost use Rattle.serde_json.specs.Data.{Members, object};
-ghost use Rattle.stix_json.specs.declared.refusal.JsonRefusal.TheVariants.{NotList, NoMemory as OutOfMemory};
+ghost use Rattle.stix_json.specs.declared.refusal.JsonRefusal.TheVariants.{NotList};
+ghost use Rattle.stix_json.specs.declared.refusal.JsonRefusal.TheVariants.{NoMemory as OutOfMemory};
 ghost use Rattle.stix_json.specs.Envelopes.{more_in, next_in, IsEnvelopeOf, HasNoEnvelopeAs};
 ghost use Rattle.stix_json.specs.inner.PropertyValue.{HoldsProperties};
 

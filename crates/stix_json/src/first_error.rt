@@ -4,7 +4,8 @@
 
 ghost use Rattle.std.specs.Prelude.{◌≡◌, ℕ, List, if◌then◌else◌, Some, IfOk, option_map};
 ghost use Rattle.stix_json.specs.Walk.{index_part};
-ghost use Rattle.stix_json.specs.inner.FirstErrors.{first_error_under, first_of, refusal_of_first_error};
+ghost use Rattle.stix_json.specs.inner.FirstErrors.{first_error_under, first_of};
+ghost use Rattle.stix_json.specs.inner.FirstErrors.{refusal_of_first_error};
 ghost use Rattle.stix_json.specs.declared.first_error.FirstError.TheVariants.{InvalidValue};
 ghost use Rattle.stix_json.specs.declared.location.Location.TheVariants.{Here as AtTop};
 

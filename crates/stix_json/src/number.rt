@@ -1,6 +1,7 @@
 //! Checks a JSON number: only integers in range are valid.
 
-ghost use Rattle.std.specs.Prelude.{◌≡◌, ◌==◌, ◌<◌, ℕ, true, false, None, Some, IfOk, IfErr, IsTrue, length, slice_index, option_map};
+ghost use Rattle.std.specs.Prelude.{◌≡◌, ◌==◌, ◌<◌, ℕ, true, false, None, Some, IfOk, IfErr};
+ghost use Rattle.std.specs.Prelude.{IsTrue, length, slice_index, option_map};
 ghost use Rattle.serde_json.specs.Data.{Num, number as number_data};
 ghost use Rattle.serde_json.specs.Find.{of_integer};
 ghost use Rattle.serde_json.specs.Read.{number_of as number_text_of, number_from, float_of};

@@ -2,7 +2,8 @@ ghost use Rattle.std.specs.Prelude.{◌≡◌, ◌↔◌, ◌+◌, ◌<◌, IsTr
 ghost use Rattle.serde_json.specs.View.{items_of};
 ghost use Rattle.stix_json.specs.declared.value.Field.{Field};
 ghost use Rattle.stix_json.specs.DataOf.{data_of, field_data, members_of};
-ghost use Rattle.stix_json.specs.Ordered.{IsNameBefore, IsOrdered, ItemsAreOrdered, MembersAreOrdered};
+ghost use Rattle.stix_json.specs.Ordered.{IsNameBefore, IsOrdered, ItemsAreOrdered};
+ghost use Rattle.stix_json.specs.Ordered.{MembersAreOrdered};
 
 use crate::{Field, Json};
 

@@ -1,14 +1,18 @@
 //! The properties of an object, with lists checked item by item: so one bad entry doesn't reject a
 //! page of objects.
 
-ghost use Rattle.std.specs.Prelude.{◌≡◌, ◌<◌, ◌∷◌, ◌++◌, [], suc, Some, IfOk, IfErr, IfSome, IfNone, OnOk, length, option_map};
+ghost use Rattle.std.specs.Prelude.{◌≡◌, ◌<◌, ◌∷◌, ◌++◌, [], suc, Some, IfOk, IfErr, IfSome};
+ghost use Rattle.std.specs.Prelude.{IfNone, OnOk, length, option_map};
 ghost use Rattle.json.specs.Json.{value, items, members};
 ghost use Rattle.json.specs.Reads.{token_of};
 ghost use Rattle.serde_json.specs.Data.{Data, Items as DataItems, Members, object, no_members};
 ghost use Rattle.serde_json.specs.Read.{of_json, of_items, of_members, converted};
 ghost use Rattle.stix_json.specs.Entries.{AreEntriesFor};
 ghost use Rattle.stix_json.specs.Reading.{IsValueOf};
-ghost use Rattle.stix_json.specs.inner.PropertyValue.{IsPropertyValue, HoldsProperties, MayBePropertyValue, IsNotReadAsProperties, IsNoObject, property_name, is_begin_array, is_begin_object};
+ghost use Rattle.stix_json.specs.inner.PropertyValue.{IsPropertyValue, HoldsProperties};
+ghost use Rattle.stix_json.specs.inner.PropertyValue.{MayBePropertyValue, IsNotReadAsProperties};
+ghost use Rattle.stix_json.specs.inner.PropertyValue.{IsNoObject, property_name, is_begin_array};
+ghost use Rattle.stix_json.specs.inner.PropertyValue.{is_begin_object};
 ghost use Rattle.stix_json.specs.inner.Insertion.{last_named};
 ghost use Rattle.stix_json.specs.inner.Checking.{IsReadError};
 ghost use Rattle.stix_json.specs.declared.property_value.TheConstants.{LEFT as LEVELS_LEFT};

@@ -2,7 +2,8 @@
 //! one name, the last counts, as in `serde_json`.
 
 ghost use Rattle.std.specs.Prelude.{◌≡◌, [], ◌∷◌, ◌++◌, IsTrue, IfOk, OnOk};
-ghost use Rattle.stix_json.specs.inner.Insertion.{insert_all, ends_with, NamesAscend, NamesAreSorted};
+ghost use Rattle.stix_json.specs.inner.Insertion.{insert_all, ends_with, NamesAscend};
+ghost use Rattle.stix_json.specs.inner.Insertion.{NamesAreSorted};
 ghost use Rattle.stix_json.specs.inner.Checking.{name_of};
 
 use crate::checked::Checked;

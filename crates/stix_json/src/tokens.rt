@@ -7,7 +7,8 @@
 ghost use Rattle.std.specs.Prelude.{◌≡◌, ◌<◌, ◌∷◌, ◌+◌, suc, Some, IfOk, IfErr, OnOk, length};
 ghost use Rattle.json.specs.Json.{value, items, members};
 ghost use Rattle.json.specs.Reads.{token_of};
-ghost use Rattle.serde_json.specs.Data.{Data, Items as DataItems, Members, array, object, no_members};
+ghost use Rattle.serde_json.specs.Data.{Data, Items as DataItems, Members, array, object};
+ghost use Rattle.serde_json.specs.Data.{no_members};
 ghost use Rattle.serde_json.specs.Read.{of_json, of_items, of_members, converted};
 ghost use Rattle.stix_json.specs.inner.Checking.{IsCheckedAs, IsReadError};
 

@@ -1,6 +1,7 @@
 //! The interpreter of rows: it evaluates one row of the tables on one object.
 
-ghost use Rattle.std.specs.Prelude.{◌≡◌, Some, None, IsTrue, if◌then◌else◌, option_map, option_to_list};
+ghost use Rattle.std.specs.Prelude.{◌≡◌, Some, None, IsTrue, if◌then◌else◌, option_map};
+ghost use Rattle.std.specs.Prelude.{option_to_list};
 ghost use Rattle.stix_objects.specs.declared.rule.Rule.TheVariants.{NeedsOneOf};
 ghost use Rattle.stix_json.specs.DataOf.{data_of};
 ghost use Rattle.serde_json.specs.Find.{get as member_of};

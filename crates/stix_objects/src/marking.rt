@@ -1,6 +1,9 @@
 ghost use Rattle.std.specs.Prelude.{◌≡◌, ◌↔◌, IsTrue, option_map};
 ghost use Rattle.stix_json.specs.DataOf.{data_of};
-ghost use Rattle.stix_objects.specs.Conditions.{defined_text as text_defined, defined_colour as colour_defined, number_of_colour, DefinesObjectOrNone, IsMarking, HasOwnIdOrNone, HasOtherColour};
+ghost use Rattle.stix_objects.specs.Conditions.{defined_text as text_defined};
+ghost use Rattle.stix_objects.specs.Conditions.{defined_colour as colour_defined, number_of_colour};
+ghost use Rattle.stix_objects.specs.Conditions.{DefinesObjectOrNone, IsMarking, HasOwnIdOrNone};
+ghost use Rattle.stix_objects.specs.Conditions.{HasOtherColour};
 ghost use Rattle.stix_objects.specs.Rows.{LacksStatement, LacksColour};
 
 use crate::identifier::{check_own_id, has_number};

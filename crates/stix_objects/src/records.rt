@@ -2,8 +2,10 @@ ghost use Rattle.std.specs.Prelude.{◌↔◌, IsTrue, option_map, map};
 ghost use Rattle.serde_json.specs.View.{items_of};
 ghost use Rattle.stix_json.specs.DataOf.{data_of};
 ghost use Rattle.stix_objects.specs.Form.{records};
-ghost use Rattle.stix_objects.specs.Forms.{ChecksHere, ChecksItems, LacksAll, ChecksUnder, ChecksPart, ChecksParts, ChecksForm};
-ghost use Rattle.stix_objects.specs.inner.Views.{single_view, part_view, item_break_view, value_break_view};
+ghost use Rattle.stix_objects.specs.Forms.{ChecksHere, ChecksItems, LacksAll, ChecksUnder};
+ghost use Rattle.stix_objects.specs.Forms.{ChecksPart, ChecksParts, ChecksForm};
+ghost use Rattle.stix_objects.specs.inner.Views.{single_view, part_view, item_break_view};
+ghost use Rattle.stix_objects.specs.inner.Views.{value_break_view};
 
 use crate::Rule;
 use crate::form::{Part, Single};

@@ -1,8 +1,10 @@
-ghost use Rattle.std.specs.Prelude.{◌≡◌, [], ◌∷◌, IfOk, OnOk, option_map, option_to_list, option_and_then, map};
+ghost use Rattle.std.specs.Prelude.{◌≡◌, [], ◌∷◌, IfOk, OnOk, option_map, option_to_list};
+ghost use Rattle.std.specs.Prelude.{option_and_then, map};
 ghost use Rattle.stix_json.specs.DataOf.{data_of};
 ghost use Rattle.stix_objects.specs.declared.rule.Rule.TheVariants.{NotObject};
 ghost use Rattle.stix_objects.specs.BreakAt.{here, break_of};
-ghost use Rattle.stix_objects.specs.Breaks.{type_of, AreBreaksBy, AreBreaksOf, rows_for, applicable};
+ghost use Rattle.stix_objects.specs.Breaks.{type_of, AreBreaksBy, AreBreaksOf, rows_for};
+ghost use Rattle.stix_objects.specs.Breaks.{applicable};
 ghost use Rattle.stix_objects.specs.Types.{group_in as group_of_type, rows_in as rows_of_type};
 ghost use Rattle.stix_objects.specs.CommonRows.{common_rows as shared_rows};
 ghost use Rattle.stix_objects.specs.inner.Adding.{Adds, AddsOne, applicable_rows};

@@ -1,7 +1,8 @@
 ghost use Rattle.std.specs.Prelude.{◌≡◌, IfOk};
 ghost use Rattle.stix_json.specs.Walk.{path_text, index_part};
 ghost use Rattle.stix_objects.specs.BreakAt.{here, under, break_of};
-ghost use Rattle.stix_objects.specs.inner.Views.{item_break_view, value_break_view, object_location_parts, row_break_view};
+ghost use Rattle.stix_objects.specs.inner.Views.{item_break_view, value_break_view};
+ghost use Rattle.stix_objects.specs.inner.Views.{object_location_parts, row_break_view};
 
 use crate::{Break, Rule};
 use flow_values::{NoMemory, Text};

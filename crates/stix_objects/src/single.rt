@@ -1,6 +1,7 @@
 ghost use Rattle.std.specs.Prelude.{◌≡◌, ◌↔◌, ℕ, List, IsTrue, map};
 ghost use Rattle.stix_json.specs.DataOf.{data_of, field_data, members_of};
-ghost use Rattle.stix_objects.specs.Form.{any_text, kind as kind_form, version as version_form, one_of, any_boolean, integer_in, object, texts_by_name};
+ghost use Rattle.stix_objects.specs.Form.{any_text, kind as kind_form, version as version_form};
+ghost use Rattle.stix_objects.specs.Form.{one_of, any_boolean, integer_in, object, texts_by_name};
 ghost use Rattle.stix_objects.specs.Singles.{AreTexts, ChecksTexts, ChecksSingle};
 ghost use Rattle.stix_objects.specs.inner.Views.{single_view};
 

@@ -1,7 +1,8 @@
 //! From an instant to a civil date and time: division by the length of a day, and the calendar of
 //! `jiff_core` for the days.
 
-ghost use Rattle.std.specs.Prelude.{◌≡◌, ◌<◌, ◌≤◌, ◌≤ℤ◌, ◌+ℤ◌, ◌*ℤ◌, pos, [], ◌++◌, length, take, drop};
+ghost use Rattle.std.specs.Prelude.{◌≡◌, ◌<◌, ◌≤◌, ◌≤ℤ◌, ◌+ℤ◌, ◌*ℤ◌, pos, [], ◌++◌, length, take};
+ghost use Rattle.std.specs.Prelude.{drop};
 ghost use Rattle.jiff_core.specs.Date.{epoch_day};
 ghost use Rattle.stix_times.specs.Timestamp.{IsShaped, date_text, time_text, text_of};
 ghost use Rattle.stix_times.specs.Civil.{IsCivilOf, timestamp_with, digits_of_fraction};

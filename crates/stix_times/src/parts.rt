@@ -1,4 +1,5 @@
-ghost use Rattle.std.specs.Prelude.{◌≡◌, ◌+◌, ◌<◌, ◌≤◌, length, slice_index, pos, neg_ℤ, ◌↔◌, IfOk, IfErr, IsSome, IfSome, IsTrue};
+ghost use Rattle.std.specs.Prelude.{◌≡◌, ◌+◌, ◌<◌, ◌≤◌, length, slice_index, pos, neg_ℤ, ◌↔◌, IfOk};
+ghost use Rattle.std.specs.Prelude.{IfErr, IsSome, IfSome, IsTrue};
 ghost use Rattle.std.specs.Char.{IsAsciiDigit};
 ghost use Rattle.jiff_core.specs.Calendar.{IsBetween};
 ghost use Rattle.stix_times.specs.Offsets.{pair_at, parts_at, AreDigits};

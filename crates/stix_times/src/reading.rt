@@ -1,6 +1,7 @@
 ghost use Rattle.std.specs.Prelude.{◌≡◌, ℤ, Result, IfOk, IfErr};
 ghost use Rattle.stix_times.specs.declared.refusal.TimeRefusal.{TimeRefusal};
-ghost use Rattle.stix_times.specs.Reading.{IsTextOf, IsRefused, Reads, IsMillisTextOf, IsRefusedMillis, ReadsMillis};
+ghost use Rattle.stix_times.specs.Reading.{IsTextOf, IsRefused, Reads, IsMillisTextOf};
+ghost use Rattle.stix_times.specs.Reading.{IsRefusedMillis, ReadsMillis};
 
 use crate::parts::Parts;
 use crate::{Instant, TimeRefusal};

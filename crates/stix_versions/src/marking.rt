@@ -3,7 +3,8 @@ ghost use Rattle.stix_json.specs.DataOf.{data_of};
 ghost use Rattle.stix_json.specs.Ordered.{IsOrdered};
 ghost use Rattle.stix_bundles.specs.Objects.{data_in};
 ghost use Rattle.stix_versions.specs.Markings.{Has, HasOne, RefersToMarking, IsBreakOf};
-ghost use Rattle.stix_versions.specs.inner.Selectors.{IsSelectorText, Misses, IsWellNamed, IsListAt};
+ghost use Rattle.stix_versions.specs.inner.Selectors.{IsSelectorText, Misses, IsWellNamed};
+ghost use Rattle.stix_versions.specs.inner.Selectors.{IsListAt};
 
 use crate::MarkingRule;
 use crate::selector::{is_selector, selected};

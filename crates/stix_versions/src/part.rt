@@ -1,10 +1,12 @@
-ghost use Rattle.std.specs.Prelude.{◌≡◌, ◌≢◌, ◌↔◌, ℕ, List, IsTrue, IfSome, IfNone, option_map, slice_get, All};
+ghost use Rattle.std.specs.Prelude.{◌≡◌, ◌≢◌, ◌↔◌, ℕ, List, IsTrue, IfSome, IfNone, option_map};
+ghost use Rattle.std.specs.Prelude.{slice_get, All};
 ghost use Rattle.std.specs.Char.{IsAsciiDigit};
 ghost use Rattle.std.specs.Str.Parse.{IsNumeral, digits_value};
 ghost use Rattle.serde_json.specs.Find.{at as at_place};
 ghost use Rattle.stix_json.specs.DataOf.{data_of};
 ghost use Rattle.stix_json.specs.Ordered.{IsOrdered};
-ghost use Rattle.stix_versions.specs.Selector.{Part, IsNameCharacter, IsName, IsIndex, in_brackets, chosen as chosen_by};
+ghost use Rattle.stix_versions.specs.Selector.{Part, IsNameCharacter, IsName, IsIndex, in_brackets};
+ghost use Rattle.stix_versions.specs.Selector.{chosen as chosen_by};
 ghost use Rattle.stix_versions.specs.inner.Paths.{IsPartOf};
 
 use stix_json::laws::ordered_parts;

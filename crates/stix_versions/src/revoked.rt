@@ -1,13 +1,15 @@
 //! The earliest revocation of each object: a running minimum of `modified` over its revoked
 //! versions. A version follows a revocation exactly if it follows the earliest one.
 
-ghost use Rattle.std.specs.Prelude.{◌↔◌, ◌+◌, ◌<◌, ℕ, List, length, IsTrue, IfOk, IfSome, IfNone, OnOk};
+ghost use Rattle.std.specs.Prelude.{◌↔◌, ◌+◌, ◌<◌, ℕ, List, length, IsTrue, IfOk, IfSome, IfNone};
+ghost use Rattle.std.specs.Prelude.{OnOk};
 ghost use Rattle.serde_json.specs.Data.{Data};
 ghost use Rattle.stix_bundles.specs.Objects.{data_in};
 ghost use Rattle.stix_versions.specs.declared.version_break.VersionRule.TheVariants as rule;
 ghost use Rattle.stix_versions.specs.Versions.{BreaksVersionRule};
 ghost use Rattle.stix_versions.specs.inner.Version.{IsVersionAs};
-ghost use Rattle.stix_versions.specs.inner.FirstVersions.{IsRevokedAs, IsNotRevoked, IsNextRevoked, AreRevokedBefore};
+ghost use Rattle.stix_versions.specs.inner.FirstVersions.{IsRevokedAs, IsNotRevoked, IsNextRevoked};
+ghost use Rattle.stix_versions.specs.inner.FirstVersions.{AreRevokedBefore};
 
 use crate::version::{Version, is_revoked, version_at};
 use flow_values::NoMemory;

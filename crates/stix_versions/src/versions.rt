@@ -1,7 +1,10 @@
-ghost use Rattle.std.specs.Prelude.{◌≡◌, ◌↔◌, ◌+◌, ◌<◌, ◌++◌, List, length, map, take, IsTrue, IfOk, OnOk};
+ghost use Rattle.std.specs.Prelude.{◌≡◌, ◌↔◌, ◌+◌, ◌<◌, ◌++◌, List, length, map, take, IsTrue};
+ghost use Rattle.std.specs.Prelude.{IfOk, OnOk};
 ghost use Rattle.stix_bundles.specs.Objects.{data_in};
 ghost use Rattle.stix_versions.specs.declared.version_break.VersionRule.{VersionRule};
-ghost use Rattle.stix_versions.specs.Versions.{BreaksVersionRule, AreBroken, rules_reported, break_of_version, AreVersionBreaksFrom, AreVersionBreaks};
+ghost use Rattle.stix_versions.specs.Versions.{BreaksVersionRule, AreBroken, rules_reported};
+ghost use Rattle.stix_versions.specs.Versions.{break_of_version, AreVersionBreaksFrom};
+ghost use Rattle.stix_versions.specs.Versions.{AreVersionBreaks};
 ghost use Rattle.stix_versions.specs.inner.FirstVersions.{AreCreatedBefore, AreRevokedBefore};
 ghost use Rattle.stix_versions.specs.inner.Duplicates.{AreDuplicatesBefore};
 ghost use Rattle.stix_versions.specs.inner.History.{AreVersionsBefore, only_if};

@@ -6,7 +6,9 @@ ghost use Rattle.stix_ids.specs.PartsOf.{id_of};
 ghost use Rattle.stix_json.specs.DataOf.{data_of};
 ghost use Rattle.stix_times.specs.Writing.{IsWhole};
 ghost use Rattle.taxii_rows.specs.Version.{IsVersionTime};
-ghost use Rattle.taxii_bodies.specs.Details.{at_path, refusal_message, IsMomentText, IsIdOrUnknown, IsVersionOrMoment, IsSuccessOf, IsFailureOf, IsRefusalOf};
+ghost use Rattle.taxii_bodies.specs.Details.{at_path, refusal_message, IsMomentText, IsIdOrUnknown};
+ghost use Rattle.taxii_bodies.specs.Details.{IsVersionOrMoment, IsSuccessOf, IsFailureOf};
+ghost use Rattle.taxii_bodies.specs.Details.{IsRefusalOf};
 ghost use Rattle.taxii_bodies.specs.Times.{IsWritable};
 
 use crate::times::{date_text, stated_text, version_text};

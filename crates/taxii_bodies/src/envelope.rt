@@ -1,7 +1,8 @@
 ghost use Rattle.std.specs.Prelude.{◌≡◌, ◌∷◌, ◌++◌, None, IfOk, OnOk, map};
 ghost use Rattle.std.specs.List.{last_or, flat_map};
 ghost use Rattle.taxii_rows.specs.StoreState.{dates_of};
-ghost use Rattle.taxii_bodies.specs.Envelope.{next_of as next_date, next_text, head_text, objects_text, envelope_text};
+ghost use Rattle.taxii_bodies.specs.Envelope.{next_of as next_date, next_text, head_text};
+ghost use Rattle.taxii_bodies.specs.Envelope.{objects_text, envelope_text};
 
 use flow_values::{NoMemory, Text};
 use std::alloc::Global;

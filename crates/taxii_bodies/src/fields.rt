@@ -1,5 +1,6 @@
 ghost use Rattle.std.specs.Prelude.{◌≡◌, ◌^◌, ◌<◌, ◌∷◌, ◌++◌, [], IfOk, OnOk, map};
-ghost use Rattle.serde_json.specs.Data.{boolean, unsigned, number as whole, string, array, object, item, no_items};
+ghost use Rattle.serde_json.specs.Data.{boolean, unsigned, number as whole, string, array, object};
+ghost use Rattle.serde_json.specs.Data.{item, no_items};
 ghost use Rattle.serde_json.specs.View.{items_of};
 ghost use Rattle.serde_json.specs.Written.{compact_text};
 ghost use Rattle.stix_json.specs.DataOf.{data_of, members_of};

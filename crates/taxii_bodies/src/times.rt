@@ -1,7 +1,8 @@
 ghost use Rattle.std.specs.Prelude.{◌≡◌, ◌≤◌, IfOk, Some, pos, ◌*◌};
 ghost use Rattle.stix_times.specs.Instant.{IsInstant};
 ghost use Rattle.stix_times.specs.Writing.{IsTextOfDigits, IsWhole};
-ghost use Rattle.taxii_bodies.specs.Times.{IsDateText, IsStatedText, IsVersionText, IsWritable, version_instant};
+ghost use Rattle.taxii_bodies.specs.Times.{IsDateText, IsStatedText, IsVersionText, IsWritable};
+ghost use Rattle.taxii_bodies.specs.Times.{version_instant};
 
 use flow_values::{NoMemory, Text};
 use std::alloc::Global;

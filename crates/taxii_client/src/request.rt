@@ -1,7 +1,8 @@
 ghost use Rattle.std.specs.Prelude.{◌≡◌, ◌++◌, codes, decimal, option_map, IfOk, OnOk};
 ghost use Rattle.form_urlencoded.specs.Form.{byte_serialize};
 ghost use Rattle.http_messages.specs.Lines.{field_line};
-ghost use Rattle.taxii_client.specs.Requests.{request_of, request_line, path_of, query_of, behind, since_pair, next_pair, host_of};
+ghost use Rattle.taxii_client.specs.Requests.{request_of, request_line, path_of, query_of, behind};
+ghost use Rattle.taxii_client.specs.Requests.{since_pair, next_pair, host_of};
 
 use crate::Target;
 use flow_values::{NoMemory, Text};

@@ -1,6 +1,7 @@
 ghost use Rattle.std.specs.Prelude.{◌≡◌, ◌⊎◌, ◌↔◌, IsTrue, IfOk, IfErr};
 ghost use Rattle.taxii_routes.specs.Query.{pairs_of, IsQueryOf};
-ghost use Rattle.taxii_exchange.specs.Checking.{allows as allow_it, IsAccepted, IsTyped, IsFit, IsRefusedFor};
+ghost use Rattle.taxii_exchange.specs.Checking.{allows as allow_it, IsAccepted, IsTyped, IsFit};
+ghost use Rattle.taxii_exchange.specs.Checking.{IsRefusedFor};
 ghost use Rattle.taxii_exchange.specs.declared.refusal.Refusal.TheVariants as Refused;
 
 use crate::{Allow, Refusal, Rights};

@@ -1,4 +1,5 @@
-ghost use Rattle.std.specs.Prelude.{◌≡◌, ◌+◌, ◌≤◌, [], ◌++◌, length, Option, List, ℕ, Some, option_map, IfSome, codes, decimal, if◌then◌else◌};
+ghost use Rattle.std.specs.Prelude.{◌≡◌, ◌+◌, ◌≤◌, [], ◌++◌, length, Option, List, ℕ, Some};
+ghost use Rattle.std.specs.Prelude.{option_map, IfSome, codes, decimal, if◌then◌else◌};
 ghost use Rattle.http_messages.specs.Lines.{status_line, field_line, line_if_some};
 ghost use Rattle.taxii_exchange.specs.declared.answer.TheConstants.{MAX_DATE};
 ghost use Rattle.taxii_exchange.specs.Answers.{media_type, methods_of, body_of, HasDates};

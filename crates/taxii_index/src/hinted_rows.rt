@@ -2,7 +2,8 @@
 //! as known. A hint that is set is true, so it can rule out `last` and `first` without a lookup. A
 //! missing hint rules out nothing, so hints never change a result.
 
-ghost use Rattle.std.specs.Prelude.{◌≡◌, ◌↔◌, IsTrue, [], ◌++◌, not, length, take, filter, option_map, map, true, IfOk, OnOk, OnErr};
+ghost use Rattle.std.specs.Prelude.{◌≡◌, ◌↔◌, IsTrue, [], ◌++◌, not, length, take, filter};
+ghost use Rattle.std.specs.Prelude.{option_map, map, true, IfOk, OnOk, OnErr};
 ghost use Rattle.std.specs.List.{Contains};
 ghost use Rattle.stix_ids.specs.declared.pick.Pick.TheVariants.{Last as LastOne, First as FirstOne};
 ghost use Rattle.taxii_rows.specs.StoreState.{dates_of, AscendFrom};

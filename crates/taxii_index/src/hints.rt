@@ -2,7 +2,8 @@ ghost use Rattle.std.specs.Prelude.{◌≡◌, ◌≢◌, ℕ, [], List, true, m
 ghost use Rattle.taxii_rows.specs.declared.stored_row.StoredRow.{StoredRow as Row};
 ghost use Rattle.taxii_rows.specs.StoreState.{AscendFrom};
 ghost use Rattle.taxii_rows.specs.Keeper.{is_date_in};
-ghost use Rattle.taxii_index.specs.Hints.{ComesBefore, AreTrueOf, forgotten as forgotten_hint, hints_without};
+ghost use Rattle.taxii_index.specs.Hints.{ComesBefore, AreTrueOf, forgotten as forgotten_hint};
+ghost use Rattle.taxii_index.specs.Hints.{hints_without};
 
 use crate::dates::is_among;
 use flow_values::NoMemory;

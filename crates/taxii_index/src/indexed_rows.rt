@@ -1,7 +1,9 @@
 //! A vector of rows sorted by date, with two ordered sets of keys: (object hash, version, date) and
 //! (text hash, 0, date). A key range gives candidates, and each candidate's row decides.
 
-ghost use Rattle.std.specs.Prelude.{◌≡◌, ◌↔◌, ◌-◌, IsTrue, true, [], ◌∷◌, ◌++◌, not, length, take, map, filter, find, option_map, filter_map, IfOk, OnOk, OnErr, IfSome};
+ghost use Rattle.std.specs.Prelude.{◌≡◌, ◌↔◌, ◌-◌, IsTrue, true, [], ◌∷◌, ◌++◌, not, length, take};
+ghost use Rattle.std.specs.Prelude.{map, filter, find, option_map, filter_map, IfOk, OnOk, OnErr};
+ghost use Rattle.std.specs.Prelude.{IfSome};
 ghost use Rattle.std.specs.List.{Contains, list_any};
 ghost use Rattle.taxii_rows.specs.declared.stored_row.StoredRow.{StoredRow as Stored};
 ghost use Rattle.stix_ids.specs.declared.pick.Pick.TheVariants.{Last as LastOne, First as FirstOne};
@@ -9,7 +11,8 @@ ghost use Rattle.taxii_rows.specs.StoreState.{dates_of, AscendFrom};
 ghost use Rattle.taxii_rows.specs.Keeper.{is_date_in};
 ghost use Rattle.taxii_rows.specs.Identity.{is_row_of as is_of};
 ghost use Rattle.taxii_rows.specs.Picking.{IsPicked, IsPickedBy};
-ghost use Rattle.taxii_index.specs.Presence.{is_duplicate as is_present, duplicate_of as first_duplicate};
+ghost use Rattle.taxii_index.specs.Presence.{is_duplicate as is_present};
+ghost use Rattle.taxii_index.specs.Presence.{duplicate_of as first_duplicate};
 ghost use Rattle.taxii_index.specs.Index.{has_row, key_dates, HasRowOf, AreRowsOf, row_where};
 ghost use Rattle.taxii_index.specs.Names.{id_of};
 ghost use Rattle.taxii_index.specs.Hints.{ComesBefore};

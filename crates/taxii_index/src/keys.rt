@@ -3,7 +3,8 @@ ghost use Rattle.std.specs.List.{Contains};
 ghost use Rattle.std.specs.declared.ops.Bound.TheVariants.{Included, Excluded};
 ghost use Rattle.std.specs.BTreeSet.{keys_between, IsOrdered};
 ghost use Rattle.taxii_rows.specs.StoreState.{AscendFrom};
-ghost use Rattle.taxii_index.specs.Keys.{Key as KeyValue, IsIn64Bits, HasKeys, HasKeysBut, IsUniqueIn, key_cmp};
+ghost use Rattle.taxii_index.specs.Keys.{Key as KeyValue, IsIn64Bits, HasKeys, HasKeysBut};
+ghost use Rattle.taxii_index.specs.Keys.{IsUniqueIn, key_cmp};
 
 use crate::dates::is_among;
 use flow_values::NoMemory;

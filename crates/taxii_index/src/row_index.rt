@@ -1,12 +1,15 @@
 //! An inverted index of rows. `by_version` finds the versions of an object, `by_text` the rows with
 //! one text of an object, both by keyed hash in ordered sets.
 
-ghost use Rattle.std.specs.Prelude.{◌≡◌, ℕ, [], ◌∷◌, ◌++◌, List, All, map, not, filter, IfOk, OnOk, OnErr};
+ghost use Rattle.std.specs.Prelude.{◌≡◌, ℕ, [], ◌∷◌, ◌++◌, List, All, map, not, filter, IfOk, OnOk};
+ghost use Rattle.std.specs.Prelude.{OnErr};
 ghost use Rattle.std.specs.List.{Contains};
 ghost use Rattle.taxii_rows.specs.declared.stored_row.StoredRow.{StoredRow as Row};
 ghost use Rattle.taxii_rows.specs.StoreState.{dates_of, AscendFrom};
 ghost use Rattle.taxii_rows.specs.Keeper.{is_date_in};
-ghost use Rattle.taxii_index.specs.Index.{version_key as version_key_of, text_key as text_key_of, IsIndexOf, IsIndexBut, IsAbsent, IsBefore, LeadsToSame, LeadsToThose, LeadsToObject};
+ghost use Rattle.taxii_index.specs.Index.{version_key as version_key_of, text_key as text_key_of};
+ghost use Rattle.taxii_index.specs.Index.{IsIndexOf, IsIndexBut, IsAbsent, IsBefore, LeadsToSame};
+ghost use Rattle.taxii_index.specs.Index.{LeadsToThose, LeadsToObject};
 ghost use Rattle.taxii_index.specs.Names.{id_of};
 ghost use Rattle.taxii_index.specs.Keys.{IsIn64Bits, HasKeys};
 

@@ -1,6 +1,7 @@
 ghost use Rattle.std.specs.Prelude.{◌≡◌, ◌↔◌, ◌⊎◌, IsTrue, All};
 ghost use Rattle.std.specs.List.{slice_split};
-ghost use Rattle.taxii_routes.specs.MediaType.{is_semicolon, IsTaxii, IsWildcard, IsVersion, NamesNoOtherVersion, Accepts};
+ghost use Rattle.taxii_routes.specs.MediaType.{is_semicolon, IsTaxii, IsWildcard, IsVersion};
+ghost use Rattle.taxii_routes.specs.MediaType.{NamesNoOtherVersion, Accepts};
 ghost use Rattle.taxii_routes.specs.MediaType as spec;
 
 use crate::whitespace::{is_named, trimmed};

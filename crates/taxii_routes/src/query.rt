@@ -1,4 +1,5 @@
-ghost use Rattle.std.specs.Prelude.{◌≡◌, ◌≢◌, ◌⊎◌, ◌↔◌, None, Some, Err, IsTrue, IsOk, IfOk, IfErr, OnOk, MatchOption};
+ghost use Rattle.std.specs.Prelude.{◌≡◌, ◌≢◌, ◌⊎◌, ◌↔◌, None, Some, Err, IsTrue, IsOk, IfOk, IfErr};
+ghost use Rattle.std.specs.Prelude.{OnOk, MatchOption};
 ghost use Rattle.taxii_routes.specs.declared.param.Param.{Param};
 ghost use Rattle.taxii_routes.specs.declared.refusal.QueryRefusal.TheVariants as QueryRefusal;
 ghost use Rattle.taxii_routes.specs.Query.{pairs_of, asked, IsQueryOf, IsRefusedAs};

@@ -1,7 +1,8 @@
 ghost use Rattle.std.specs.Prelude.{◌≡◌, ℕ, true, IfOk, IfSome, OnOk, OnErr, Err};
 ghost use Rattle.taxii_rows.specs.declared.fault_cause.FaultCause.{FaultCause as Cause};
 ghost use Rattle.taxii_rows.specs.StoreState.{AscendFrom};
-ghost use Rattle.taxii_rows.specs.Keeper.{Kept, row_after, with_rows, without, updated, CanAppend, IsAttached};
+ghost use Rattle.taxii_rows.specs.Keeper.{Kept, row_after, with_rows, without, updated, CanAppend};
+ghost use Rattle.taxii_rows.specs.Keeper.{IsAttached};
 ghost use Rattle.flow_edges.specs.Faults.{Counted};
 
 use crate::{FaultCause, KeeperRefusal, StoredRow};

@@ -6,7 +6,8 @@ ghost use Rattle.taxii_server.specs.Connections.{Pass};
 ghost use Rattle.taxii_server.specs.Environment.{link_view};
 ghost use Rattle.taxii_server.specs.declared.connection.TheConstants.{MAX_REQUESTS};
 ghost use Rattle.taxii_server.specs.inner.Serving.{ServesClient};
-ghost use Rattle.taxii_server.specs.Serving.{Client, exchanges_of, HaveConnections, PassThrough, IsWholeOf};
+ghost use Rattle.taxii_server.specs.Serving.{Client, exchanges_of, HaveConnections, PassThrough};
+ghost use Rattle.taxii_server.specs.Serving.{IsWholeOf};
 
 use crate::{Served, Server, serve_link};
 use flow_links::{Clock, Door};

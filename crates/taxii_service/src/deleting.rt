@@ -1,4 +1,5 @@
-ghost use Rattle.std.specs.Prelude.{◌≡◌, ◌≢◌, ◌⊎◌, ◌↔◌, ℕ, List, [], ◌∷◌, None, Some, true, IsTrue, IfOk, IfErr, OnErr, Err};
+ghost use Rattle.std.specs.Prelude.{◌≡◌, ◌≢◌, ◌⊎◌, ◌↔◌, ℕ, List, [], ◌∷◌, None, Some, true, IsTrue};
+ghost use Rattle.std.specs.Prelude.{IfOk, IfErr, OnErr, Err};
 ghost use Rattle.flow_edges.specs.Faults.{Counted};
 ghost use Rattle.http_messages.specs.declared.status.Status.TheVariants.{Okay};
 ghost use Rattle.stix_ids.specs.declared.pick.Pick.TheVariants.{All as PickAll};
@@ -8,7 +9,8 @@ ghost use Rattle.taxii_store.specs.Deleting.{AreDatesTaken};
 ghost use Rattle.taxii_bodies.specs.declared.problem.Problem.TheVariants as Trouble;
 ghost use Rattle.taxii_exchange.specs.declared.refusal.Refusal.TheVariants as Refused;
 ghost use Rattle.taxii_exchange.specs.AnswersToRequests.{bare_answer as bare};
-ghost use Rattle.taxii_service.specs.Deleting.{AreDeleted, AllowsStandard, deleted_picks, without_dates};
+ghost use Rattle.taxii_service.specs.Deleting.{AreDeleted, AllowsStandard, deleted_picks};
+ghost use Rattle.taxii_service.specs.Deleting.{without_dates};
 
 use crate::State;
 use flow_values::{Items, NoMemory};

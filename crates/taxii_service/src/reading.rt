@@ -13,7 +13,9 @@ ghost use Rattle.serde_json.specs.Written.{compact_text};
 ghost use Rattle.taxii_bodies.specs.declared.problem.Problem.TheVariants as Trouble;
 ghost use Rattle.taxii_exchange.specs.declared.refusal.Refusal.TheVariants as Refused;
 ghost use Rattle.taxii_service.specs.Finding.{Names};
-ghost use Rattle.taxii_service.specs.Reading.{HasBody, IsPageOf, IsEnvelope, IsPageOfObject, object_query, versions_query, IsReading, IsNoResource};
+ghost use Rattle.taxii_service.specs.Reading.{HasBody, IsPageOf, IsEnvelope, IsPageOfObject};
+ghost use Rattle.taxii_service.specs.Reading.{object_query, versions_query, IsReading};
+ghost use Rattle.taxii_service.specs.Reading.{IsNoResource};
 
 use crate::State;
 use crate::listing::{list_manifest, list_objects, list_versions};

@@ -1,4 +1,5 @@
-ghost use Rattle.std.specs.Prelude.{◌≡◌, ◌⊎◌, [], IfOk, IsOk, OnErr, option_map, unwrap_or, IsOkAnd};
+ghost use Rattle.std.specs.Prelude.{◌≡◌, ◌⊎◌, [], IfOk, IsOk, OnErr, option_map, unwrap_or};
+ghost use Rattle.std.specs.Prelude.{IsOkAnd};
 ghost use Rattle.flow_edges.specs.Faults.{Counted};
 ghost use Rattle.http_messages.specs.declared.status.Status.TheVariants as Code;
 ghost use Rattle.taxii_exchange.specs.Answers.{HasDates};

@@ -3,7 +3,9 @@ ghost use Rattle.sqlite_wal.specs.Files.{image_at};
 ghost use Rattle.sqlite_wal.specs.Reads.{AreClean};
 ghost use Rattle.sqlite.specs.Closing.{IsCopied};
 ghost use Rattle.taxii_rows.specs.StoreState.{AscendFrom};
-ghost use Rattle.taxii_sqlite.specs.Databases.{is_open, FindsNext, FindsWatermark, Appends, Removes, HasFile, CanFail, StaysAs, IsOpenAt, Leaves};
+ghost use Rattle.taxii_sqlite.specs.Databases.{is_open, FindsNext, FindsWatermark, Appends};
+ghost use Rattle.taxii_sqlite.specs.Databases.{Removes, HasFile, CanFail, StaysAs, IsOpenAt};
+ghost use Rattle.taxii_sqlite.specs.Databases.{Leaves};
 
 use crate::change::Change;
 use crate::failure::Failure;

@@ -1,6 +1,7 @@
 ghost use Rattle.std.specs.Prelude.{◌≡◌, IfOk, IfErr, OnOk, Ok, Err};
 ghost use Rattle.flow_edges.specs.Faults.{Counted};
-ghost use Rattle.taxii_sqlite.specs.Failing.{is_out_of_memory as is_memory_error, cause_of as cause_in, refused, last_cause_after};
+ghost use Rattle.taxii_sqlite.specs.Failing.{is_out_of_memory as is_memory_error};
+ghost use Rattle.taxii_sqlite.specs.Failing.{cause_of as cause_in, refused, last_cause_after};
 
 use sqlite::{Error, ErrorCode};
 use sqlite_resolve::CompileError;

@@ -3,7 +3,8 @@
 ghost use Rattle.std.specs.Prelude.{ℕ, List, Option};
 ghost use Rattle.taxii_rows.specs.declared.stored_row.StoredRow.{StoredRow as Row};
 ghost use Rattle.taxii_sqlite.specs.declared.connection.Database.{Database as Held};
-ghost use Rattle.taxii_sqlite.specs.Databases.{FindsNext, FindsWatermark, Appends, Removes, IsClosedByDisk, IsClean};
+ghost use Rattle.taxii_sqlite.specs.Databases.{FindsNext, FindsWatermark, Appends, Removes};
+ghost use Rattle.taxii_sqlite.specs.Databases.{IsClosedByDisk, IsClean};
 
 use sqlite_disk::Disk;
 

@@ -3,7 +3,9 @@
 ghost use Rattle.std.specs.Prelude.{◌≡◌, ◌<ℤ◌, Err, IfOk, OnOk};
 ghost use Rattle.sqlite.specs.Held.{state};
 ghost use Rattle.sqlite.specs.State.{HasCleanDisk};
-ghost use Rattle.taxii_sqlite.specs.Forms.{IsLayoutOf, AnswersLayout, AnswersVersion, MakesRows, NamesLayout, MakesTables, WritesVersion, Completes, Migrates, IsTaken};
+ghost use Rattle.taxii_sqlite.specs.Forms.{IsLayoutOf, AnswersLayout, AnswersVersion, MakesRows};
+ghost use Rattle.taxii_sqlite.specs.Forms.{NamesLayout, MakesTables, WritesVersion, Completes};
+ghost use Rattle.taxii_sqlite.specs.Forms.{Migrates, IsTaken};
 ghost use Rattle.taxii_sqlite.specs.Transactions.{IsStep};
 
 use crate::change::Change;

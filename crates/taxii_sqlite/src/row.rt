@@ -4,7 +4,8 @@ ghost use Rattle.sqlite_value.specs.Order.{column};
 ghost use Rattle.sqlite_value.specs.Value.{owned};
 ghost use Rattle.sqlite.specs.Values.{bound};
 ghost use Rattle.taxii_rows.specs.declared.stored_row.StoredRow.{StoredRow as WholeRow};
-ghost use Rattle.taxii_sqlite.specs.Columns.{HoldsRow, HoldsNumber, HoldsText, date_value, truth_value};
+ghost use Rattle.taxii_sqlite.specs.Columns.{HoldsRow, HoldsNumber, HoldsText, date_value};
+ghost use Rattle.taxii_sqlite.specs.Columns.{truth_value};
 ghost use Rattle.taxii_rows.specs.declared.fault_cause.FaultCause.{FaultCause as Cause};
 ghost use Rattle.taxii_sqlite.specs.declared.failure.Failure.TheVariants.{Fault as IsFault};
 

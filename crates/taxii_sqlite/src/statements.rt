@@ -5,7 +5,9 @@ ghost use Rattle.sqlite.specs.Held.{state};
 ghost use Rattle.sqlite.specs.State.{HasCleanDisk};
 ghost use Rattle.sqlite.specs.Values.{bound};
 ghost use Rattle.taxii_sqlite.specs.Forms.{IsReady};
-ghost use Rattle.taxii_sqlite.specs.Statements.{AnswersNext, AnswersWatermark, AnswersCount, Runs, Inserts, Deletes, WritesWatermark, ends_at, SetsWatermark, InTurn, Adds, DeletesAll};
+ghost use Rattle.taxii_sqlite.specs.Statements.{AnswersNext, AnswersWatermark, AnswersCount, Runs};
+ghost use Rattle.taxii_sqlite.specs.Statements.{Inserts, Deletes, WritesWatermark, ends_at};
+ghost use Rattle.taxii_sqlite.specs.Statements.{SetsWatermark, InTurn, Adds, DeletesAll};
 ghost use Rattle.taxii_sqlite.specs.Transactions.{IsStep};
 
 use crate::failure::Failure;

@@ -1,4 +1,5 @@
-ghost use Rattle.std.specs.Prelude.{◌≡◌, ◌+◌, ◌≤◌, ◌<◌, ◌++◌, ◌∷◌, [], None, Ok, All, IfOk, IfErr, IfSome, OnOk, OnErr, option_map, length};
+ghost use Rattle.std.specs.Prelude.{◌≡◌, ◌+◌, ◌≤◌, ◌<◌, ◌++◌, ◌∷◌, [], None, Ok, All, IfOk, IfErr};
+ghost use Rattle.std.specs.Prelude.{IfSome, OnOk, OnErr, option_map, length};
 ghost use Rattle.taxii_rows.specs.declared.stored_row.TheConstants.{LAST_DATE as last_date};
 ghost use Rattle.taxii_rows.specs.Described.{row_of};
 ghost use Rattle.taxii_index.specs.Presence.{duplicate_of};

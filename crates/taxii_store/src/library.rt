@@ -1,6 +1,8 @@
-ghost use Rattle.std.specs.Prelude.{◌≡◌, ◌↔◌, IsTrue, true, option_map, map, IsOk, IfOk, OnOk, OnErr, [], Err};
+ghost use Rattle.std.specs.Prelude.{◌≡◌, ◌↔◌, IsTrue, true, option_map, map, IsOk, IfOk, OnOk};
+ghost use Rattle.std.specs.Prelude.{OnErr, [], Err};
 ghost use Rattle.std.specs.List.{Contains};
-ghost use Rattle.taxii_rows.specs.Keeper.{row_after as first_later, row_at as first_then, with_rows};
+ghost use Rattle.taxii_rows.specs.Keeper.{row_after as first_later, row_at as first_then};
+ghost use Rattle.taxii_rows.specs.Keeper.{with_rows};
 ghost use Rattle.flow_edges.specs.Faults.{Counted};
 ghost use Rattle.taxii_rows.specs.Picking.{IsPicked, IsPickedBy};
 ghost use Rattle.stix_ids.specs.declared.pick.Pick.TheVariants.{Last as LastOne, First as FirstOne};

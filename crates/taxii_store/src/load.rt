@@ -1,4 +1,5 @@
-ghost use Rattle.std.specs.Prelude.{◌≡◌, ◌≤◌, ◌<◌, ◌↔◌, ℕ, true, IsTrue, Ok, Err, None, All, MatchOption, IfOk, IfErr, IfSome};
+ghost use Rattle.std.specs.Prelude.{◌≡◌, ◌≤◌, ◌<◌, ◌↔◌, ℕ, true, IsTrue, Ok, Err, None, All};
+ghost use Rattle.std.specs.Prelude.{MatchOption, IfOk, IfErr, IfSome};
 ghost use Rattle.flow_edges.specs.Faults.{Counted};
 ghost use Rattle.taxii_rows.specs.declared.stored_row.TheConstants.{LAST_DATE as last_date};
 ghost use Rattle.taxii_rows.specs.Keeper.{row_after};

@@ -1,7 +1,8 @@
 ghost use Rattle.std.specs.Prelude.{List, [], ◌∷◌, ◌++◌, ◌↔◌, IsTrue, IfOk, OnOk};
 ghost use Rattle.std.specs.List.{Contains};
 ghost use Rattle.stix_ids.specs.declared.pick.Pick.{Pick as Picked};
-ghost use Rattle.stix_ids.specs.declared.pick.Pick.TheVariants.{At, Last as LastOne, First as FirstOne};
+ghost use Rattle.stix_ids.specs.declared.pick.Pick.TheVariants.{At, Last as LastOne};
+ghost use Rattle.stix_ids.specs.declared.pick.Pick.TheVariants.{First as FirstOne};
 ghost use Rattle.taxii_rows.specs.Picking.{IsPicked, IsPickedBy};
 ghost use Rattle.taxii_store.specs.Picks.{HasPicks, Selects, SelectsEnd};
 

@@ -1,6 +1,7 @@
 //! Theorems about the definitions. Each `ensures` states one; the functions have no effect.
 
-ghost use Rattle.std.specs.Prelude.{◌≡◌, ◌≤◌, ◌<◌, ◌^◌, ◌++◌, ℕ, ℤ, Bool, List, Option, Some, None, All, length};
+ghost use Rattle.std.specs.Prelude.{◌≡◌, ◌≤◌, ◌<◌, ◌^◌, ◌++◌, ℕ, ℤ, Bool, List, Option, Some, None};
+ghost use Rattle.std.specs.Prelude.{All, length};
 ghost use Rattle.http_messages.specs.declared.status.Status.TheVariants.{Okay};
 ghost use Rattle.taxii_exchange.specs.declared.answer.Answer.{Answer};
 ghost use Rattle.taxii_exchange.specs.Answers.{IsAnswerText};
@@ -20,7 +21,8 @@ ghost use Rattle.taxii_client.specs.Pulls.{Page, IsPull};
 ghost use Rattle.taxii_client.specs.declared.target.Target.{Target};
 ghost use Rattle.taxii_client.specs.declared.cursor.Cursor.TheVariants.{Over};
 ghost use Rattle.taxii_theorems.specs.Reading.{IsReadAs};
-ghost use Rattle.taxii_theorems.specs.Asking.{IsServersOwn, IsVisibleToken, IsAnswered, IsUnderstood, IsInstantOf, wanted_after};
+ghost use Rattle.taxii_theorems.specs.Asking.{IsServersOwn, IsVisibleToken, IsAnswered};
+ghost use Rattle.taxii_theorems.specs.Asking.{IsUnderstood, IsInstantOf, wanted_after};
 ghost use Rattle.taxii_theorems.specs.Pulling.{AreServed, WritesEachRow};
 
 use crate::runs::clients_skip_no_row;

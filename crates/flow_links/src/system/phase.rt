@@ -4,7 +4,8 @@
 
 ghost use Rattle.std.specs.Prelude.{◌≡◌, ◌<◌, ◌↔◌, IsOk, IfOk};
 ghost use Rattle.std.specs.Duration.{as_nanos};
-ghost use Rattle.flow_links.specs.Phase.{left_of, request_time, read_time, write_time, after_read, after_write};
+ghost use Rattle.flow_links.specs.Phase.{left_of, request_time, read_time, write_time, after_read};
+ghost use Rattle.flow_links.specs.Phase.{after_write};
 
 use std::io;
 use std::io::ErrorKind;

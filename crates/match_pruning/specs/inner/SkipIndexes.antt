@@ -7,7 +7,7 @@ use Rattle.match_bindings.specs.BindTree.{has}
 use Rattle.match_pruning.specs.declared.block.Block.{Block}
 use Rattle.match_pruning.specs.declared.block.Blocks.{Blocks}
 use Rattle.match_pruning.specs.declared.join.Join.{Join}
-use Rattle.match_pruning.specs.declared.key.Key.{Key}
+use Rattle.match_pruning.specs.declared.key.SortKey.{SortKey}
 use Rattle.match_pruning.specs.declared.partial_match.PartialMatch.{PartialMatch}
 use Rattle.match_pruning.specs.declared.query.Query.{Query}
 use Rattle.match_pruning.specs.declared.skip_index.SkipIndex.{SkipIndex}
@@ -26,24 +26,24 @@ pub record HasCommon (numbers : List ℕ) (begin : ℤ) (partial_match : Partial
   pub begins : partial_match.earliest ≤ℤ begin
 
 -- the keys of a list of operands: each key describes one operand, and each operand has a key
-pub record AreKeysOf (candidates : List PartialMatch) (keys : List Key) : Type 0 where
-  pub each : (key : Key) → Contains keys key → (key.place < length candidates)
+pub record AreKeysOf (candidates : List PartialMatch) (keys : List SortKey) : Type 0 where
+  pub each : (key : SortKey) → Contains keys key → (key.place < length candidates)
       × ((d : PartialMatch) → HasCommon key.numbers.items key.begin (partial_match_tree (slice_index_or candidates key.place d)))
-  pub all : (place : ℕ) → place < length candidates → (key : Key) × Contains keys key × (key.place ≡ place)
+  pub all : (place : ℕ) → place < length candidates → (key : SortKey) × Contains keys key × (key.place ≡ place)
 
 -- a block's summary holds for a key: its numbers are the key's, and the key begins no later
-pub record IsCommonTo (block : Block) (key : Key) : Type 0 where
+pub record IsCommonTo (block : Block) (key : SortKey) : Type 0 where
   pub numbers : (n : ℕ) → Contains block.common.items n → Contains key.numbers.items n
   pub begins : key.begin ≤ℤ block.begin
 
-pub record IsBlockOf (keys : List Key) (block : Block) : Type 0 where
+pub record IsBlockOf (keys : List SortKey) (block : Block) : Type 0 where
   pub within : block.end ≤ length keys
   pub over : AllWithin (IsCommonTo block) keys block.start block.end
 
-abbrev pub AreBlocksOf : List Key → Blocks → Type 0
+abbrev pub AreBlocksOf : List SortKey → Blocks → Type 0
 AreBlocksOf keys blocks = (block : Block) → Contains blocks.blocks.items block → IsBlockOf keys block
 
-abbrev pub AreLevelsOf : List Key → List Blocks → Type 0
+abbrev pub AreLevelsOf : List SortKey → List Blocks → Type 0
 AreLevelsOf keys levels = (blocks : Blocks) → Contains levels blocks → AreBlocksOf keys blocks
 
 -- the skip index of a list of operands
@@ -63,7 +63,7 @@ abbrev pub CannotJoin : Query → PartialMatchTree → Type 0
 CannotJoin query second = (first : PartialMatchTree) → IsQueryOf query.join query.earliest_start.start first query → BeginsEarly query.earliest_start.start query.join first second
 
 -- nor any right operand with this key
-abbrev pub IsExcluded : Query → Key → Type 0
+abbrev pub IsExcluded : Query → SortKey → Type 0
 IsExcluded query key = (second : PartialMatchTree) → HasCommon key.numbers.items key.begin second → CannotJoin query second
 
 -- the indices, ascending, of all right operands that may join the left one to a result in time

@@ -5,7 +5,7 @@ use Rattle.std.specs.List.{Contains}
 use Rattle.std.proofs.lemmas.Bool.{cases_order}
 use Rattle.std.proofs.lemmas.List.Elements.{at_read, Contains-append_left, Contains-push, Contains-push_cases}
 use Rattle.std.proofs.lemmas.List.Sorted.{Contains-permutation, IsPermutation-sym}
-use Rattle.match_pruning.specs.declared.key.Key.{Key}
+use Rattle.match_pruning.specs.declared.key.SortKey.{SortKey}
 use Rattle.match_pruning.specs.declared.partial_match.PartialMatch.{PartialMatch}
 use Rattle.match_pruning.specs.inner.PartialMatches.{partial_match_tree}
 use Rattle.match_pruning.specs.inner.SkipIndexes.{HasCommon}
@@ -20,16 +20,16 @@ places-preserved c =
     = subst (λ i. (d : PartialMatch) → HasCommon key.numbers.items key.begin (partial_match_tree (slice_index_or candidates i d))) (sym c.in_ok-key.ensures.place)
     (at_read candidates (λ (p : PartialMatch). HasCommon key.numbers.items key.begin (partial_match_tree p)) at c.index-candidates-place.result here c.index-candidates-place.is c.in_ok-key.ensures.candidate) in
     record {
-      each = λ other there. elim (Contains-push_cases old key other (subst (λ (z : List Key). Contains z other) more there)) [
+      each = λ other there. elim (Contains-push_cases old key other (subst (λ (z : List SortKey). Contains z other) more there)) [
         | inl was ↦ before.each other was
-        | inr is ↦ subst (λ (k : Key). (k.place < length candidates) × ((d : PartialMatch) → HasCommon k.numbers.items k.begin (partial_match_tree (slice_index_or candidates k.place d)))) is
+        | inr is ↦ subst (λ (k : SortKey). (k.place < length candidates) × ((d : PartialMatch) → HasCommon k.numbers.items k.begin (partial_match_tree (slice_index_or candidates k.place d)))) is
             (subst (λ i. i < length candidates) (sym c.in_ok-key.ensures.place) here, candidate)
       ];
       all = λ place low. elim (cases_order place at) [
-        | inl e ↦ (key, subst (λ (z : List Key). Contains z key) (sym more) (Contains-push old key), c.in_ok-key.ensures.place ∙ sym e)
+        | inl e ↦ (key, subst (λ (z : List SortKey). Contains z key) (sym more) (Contains-push old key), c.in_ok-key.ensures.place ∙ sym e)
         | inr z ↦ elim z [
           | inl lt ↦ (let found = before.all place lt in
-              (found.0, subst (λ (y : List Key). Contains y found.0) (sym more) (Contains-append_left old (key ∷ []) found.0 found.1), found.2))
+              (found.0, subst (λ (y : List SortKey). Contains y found.0) (sym more) (Contains-append_left old (key ∷ []) found.0 found.1), found.2))
           | inr gt ↦ absurd (omega (arith, gt, low))
         ]
       ];

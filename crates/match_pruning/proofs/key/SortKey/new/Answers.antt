@@ -5,7 +5,7 @@ use Rattle.std.proofs.lemmas.List.Sorted.{Contains-permutation, IsPermutation-sy
 use Rattle.match_bindings.specs.BindTree.{tree_of}
 use Rattle.match_pruning.proofs.RetainsLemmas.{le_self}
 use Rattle.match_pruning.proofs.RowNumbersLemmas.{contains_numbers}
-use Rattle.match_pruning.proofs.key.Key.new.Goals as goal
+use Rattle.match_pruning.proofs.key.SortKey.new.Goals as goal
 
 pub returns-clause-candidate : goal.returns-clause-candidate
 returns-clause-candidate c =
