@@ -21,7 +21,11 @@ pub struct SortKey {
 
 impl SortKey {
     /// The key of the partial match at this index.
-    pub fn new(alloc: Global, partial_match: &PartialMatch, place: usize) -> Result<SortKey, NoMemory>
+    pub fn new(
+        alloc: Global,
+        partial_match: &PartialMatch,
+        place: usize,
+    ) -> Result<SortKey, NoMemory>
         ensures place { IfOk result (λ key. key.place ≡ place) }
         ensures candidate { IfOk result
             (λ key. HasCommon key.numbers.items key.begin (partial_match_tree partial_match.now)) }

@@ -1,13 +1,15 @@
 ghost use Rattle.std.specs.Prelude.{◌≡◌, ◌≢◌, IsOkAnd, IfOk, IfErr, IfSome, IfNone};
-ghost use Rattle.stix_ids.specs.declared.refusal.IdRefusal.TheVariants.{NoMemory};
-ghost use Rattle.stix_ids.specs.declared.id.Id.{Id};
+ghost use Rattle.stix_ids.specs.declared.refusal.IdRefusal.TheVariants.{NoMemory as OutOfMemory};
+ghost use Rattle.stix_ids.specs.declared.id.Id.{Id as Identifier};
 ghost use Rattle.stix_ids.specs.Identifier.{IsCut, HasSeparator, IsTextOf};
 ghost use Rattle.stix_ids.specs.Reading.{IsRefused};
 ghost use Rattle.stix_ids.specs.PartsOf.{id_of};
 
-use crate::IdRefusal;
 use crate::hyphenated::read_number;
 use crate::kind::read_kind;
+use crate::{Id, IdRefusal};
+use flow_values::{Name, NoMemory};
+use std::alloc::Global;
 
 /// The length of `--` and a UUID, in bytes.
 pub(crate) const SUFFIX_LENGTH: usize = 38;
@@ -23,8 +25,8 @@ impl<'a> IdRef<'a> {
     /// Reads an identifier without an allocation, so it never returns `NoMemory`.
     pub fn read(text: &'a str) -> Result<IdRef<'a>, IdRefusal>
         ensures ok { IfOk result (λ parts. IsTextOf text.now (id_of parts)) }
-        ensures err { IfErr result (λ refusal. (refusal ≢ NoMemory) × IsRefused text.now refusal) }
-        ensures named { (id : Id) → IsTextOf text.now id
+        ensures err { IfErr result (λ refusal. (refusal ≢ OutOfMemory) × IsRefused text.now refusal) }
+        ensures named { (id : Identifier) → IsTextOf text.now id
             → IsOkAnd result (λ parts. id_of parts ≡ id) }
     {
         let Some((kind, last)) = split_at_separator(text) else {
@@ -37,6 +39,17 @@ impl<'a> IdRef<'a> {
             Ok(()) => Ok(IdRef { kind, number }),
             Err(at) => Err(IdRefusal::BadKind { at }),
         }
+    }
+
+    /// The identifier, owned.
+    pub fn to_id(self, alloc: Global) -> Result<Id, NoMemory>
+        ensures { IfOk result (λ id. id ≡ id_of self) }
+    {
+        let kind = Name::from_text(alloc, self.kind)?;
+        Ok(Id {
+            kind,
+            number: self.number,
+        })
     }
 }
 

@@ -7,7 +7,6 @@ ghost use Rattle.stix_ids.specs.Reading.{IsRefused};
 
 use crate::parts::IdRef;
 use crate::{Id, IdRefusal};
-use flow_values::Name;
 use std::alloc::Global;
 
 /// Reads an identifier: a kind, `--` and a UUID in hyphenated form, with hex digits of either case.
@@ -22,12 +21,7 @@ pub fn read_id(alloc: Global, text: &str) -> Result<Id, IdRefusal>
     ensures refused { (refusal : IdRefusal) → refusal ≢ NoMemory → IsRefused text.now refusal
         → result ≡ Err refusal }
 {
-    let parts = IdRef::read(text)?;
-    let kind = Name::from_text(alloc, parts.kind)?;
-    Ok(Id {
-        kind,
-        number: parts.number,
-    })
+    Ok(IdRef::read(text)?.to_id(alloc)?)
 }
 
 /// Whether the text is an identifier of the kind. Allocates nothing.

@@ -1,5 +1,5 @@
 -- What a request to add objects does (TAXII 2.1, section 5.5).
-use Rattle.std.specs.Prelude.{◌≡◌, ℕ, List, ◌++◌, length, take}
+use Rattle.std.specs.Prelude.{◌≡◌, ◌⊎◌, ℕ, List, ◌++◌, length, take}
 use Rattle.std.specs.List.{Contains, AllZip}
 use Rattle.taxii_rows.specs.declared.stored_row.StoredRow.{StoredRow}
 use Rattle.taxii_rows.specs.Keeper.{with_rows}
@@ -11,12 +11,11 @@ use Rattle.taxii_bodies.specs.Details.{IsSuccessOf}
 use Rattle.taxii_bodies.specs.Status.{status_id_of, IsStatus}
 use Rattle.taxii_service.specs.declared.posted.Posted.{Posted}
 use Rattle.taxii_service.specs.declared.posted.TheConstants.{MAX_DETAILS}
-use Rattle.taxii_service.specs.declared.post_refusal.PostRefusal.TheVariants as post
 use Rattle.taxii_service.specs.Posted.{IsPosted, IsUnreadable}
 use Rattle.taxii_exchange.specs.Statuses.{next_number, with_status}
-use Rattle.taxii_bodies.specs.declared.problem.Problem.TheVariants.{BadValue, Repeated, Forbidden, NotFound, NotAcceptable, UnsupportedMediaType, NotJson, NotList, StoreFault, DatesUsedUp}
+use Rattle.taxii_bodies.specs.declared.problem.Problem.TheVariants.{DatesUsedUp}
 use Rattle.taxii_exchange.specs.declared.refusal.Refusal.{Refusal}
-use Rattle.taxii_exchange.specs.declared.refusal.Refusal.TheVariants.{NotAllowed, Problem, NoMemory}
+use Rattle.taxii_exchange.specs.declared.refusal.Refusal.TheVariants.{Problem}
 use Rattle.taxii_service.specs.declared.state.State.{State}
 
 -- the detail is that of the row of an outcome
@@ -58,15 +57,5 @@ pub record LacksDates (before : State) (collection moment : ℕ) (body : List �
 
 -- why nothing can be added
 abbrev pub CannotAdd : State → ℕ → ℕ → List ℕ → Refusal → Type 0
-CannotAdd before collection moment body (NotAllowed its) = ⊥
-CannotAdd before collection moment body (Problem (BadValue param)) = ⊥
-CannotAdd before collection moment body (Problem (Repeated param)) = ⊥
-CannotAdd before collection moment body (Problem Forbidden) = ⊥
-CannotAdd before collection moment body (Problem NotFound) = ⊥
-CannotAdd before collection moment body (Problem NotAcceptable) = ⊥
-CannotAdd before collection moment body (Problem UnsupportedMediaType) = ⊥
-CannotAdd before collection moment body (Problem NotJson) = IsUnreadable body post.NotJson
-CannotAdd before collection moment body (Problem NotList) = IsUnreadable body post.NotList
-CannotAdd before collection moment body (Problem StoreFault) = ⊥
-CannotAdd before collection moment body (Problem DatesUsedUp) = LacksDates before collection moment body
-CannotAdd before collection moment body NoMemory = ⊥
+CannotAdd before collection moment body refusal =
+    IsUnreadable body refusal ⊎ ((refusal ≡ Problem DatesUsedUp) × LacksDates before collection moment body)

@@ -1,50 +1,47 @@
--- Which resources there are (TAXII 2.1, sections 4 and 5), what a client may do with them, and
--- which methods they allow.
-use Rattle.std.specs.Prelude.{◌≡◌, ◌≢◌, ℕ, List, Any, Some, None}
+-- Which resource a route leads to (TAXII 2.1, sections 4 and 5): a status that is kept, a
+-- collection of the configuration, an object with a row in its collection.
+use Rattle.std.specs.Prelude.{◌≡◌, ◌≢◌, ℕ, List, Some, None}
+use Rattle.stix_ids.specs.declared.id.Id.{Id}
 use Rattle.stix_ids.specs.Identifier.{IsTextOf}
-use Rattle.taxii_exchange.specs.declared.answer.Allow.{Allow}
-use Rattle.taxii_exchange.specs.declared.answer.Allow.TheVariants.{Get, GetPost, GetDelete}
 use Rattle.taxii_routes.specs.declared.route.Route.{Route}
-use Rattle.taxii_routes.specs.declared.route.Route.TheVariants.{Discovery, Root, Status, Collections, Collection, Manifest, Objects, Object, Versions, None as NoRoute}
+use Rattle.taxii_routes.specs.declared.route.Route.TheVariants as route
 use Rattle.taxii_rows.specs.declared.stored_row.StoredRow.{StoredRow}
+use Rattle.taxii_index.specs.Index.{HasRowOf}
 use Rattle.taxii_bodies.specs.declared.collections.CollectionInfo.{CollectionInfo}
 use Rattle.taxii_exchange.specs.Statuses.{body_of}
+use Rattle.taxii_exchange.specs.Config.{collection_named}
 use Rattle.taxii_service.specs.declared.state.State.{State}
-use Rattle.taxii_exchange.specs.declared.rights.Rights.{Rights}
-use Rattle.taxii_exchange.specs.Config.{collection_named, rights_of, all_rights}
-
--- the methods that a resource allows
-abbrev pub allowed_of : Route → Allow
-allowed_of Discovery = Get
-allowed_of Root = Get
-allowed_of (Status id) = Get
-allowed_of Collections = Get
-allowed_of (Collection id) = Get
-allowed_of (Manifest id) = Get
-allowed_of (Objects id) = GetPost
-allowed_of (Object collection object) = GetDelete
-allowed_of (Versions collection object) = Get
-allowed_of NoRoute = Get
+use Rattle.taxii_service.specs.Resource.{Resource, Discovery, Root, Status, Collections, Collection, Manifest, Objects, Object, Versions}
 
 -- the text names the collection, and this is it
 abbrev pub Names : List ℕ → List CollectionInfo → CollectionInfo → Type 0
 Names text infos info = collection_named text infos ≡ Some info
 
--- the text is the identifier of a row of the collection
-abbrev pub NamesRowOf : List ℕ → ℕ → List StoredRow → Type 0
-NamesRowOf text collection rows = Any (λ row. (row.collection ≡ collection) × IsTextOf text row.id) rows
+-- the text is the identifier of an object with a row in the collection
+pub record NamesObject (text : List ℕ) (info : CollectionInfo) (rows : List StoredRow) (id : Id) : Type 0 where
+  pub text_of : IsTextOf text id
+  pub stored : HasRowOf rows info.id id
 
--- the resource of the route is there, and a client may do that with it
-abbrev pub IsFound : List CollectionInfo → State → Route → Rights → Type 0
-IsFound infos state Discovery rights = rights ≡ all_rights
-IsFound infos state Root rights = rights ≡ all_rights
-IsFound infos state (Status id) rights = (rights ≡ all_rights) × (body_of id state.statuses ≢ None)
-IsFound infos state Collections rights = rights ≡ all_rights
-IsFound infos state (Collection id) rights = (rights ≡ all_rights) × (collection_named id infos ≢ None)
-IsFound infos state (Manifest id) rights = (info : CollectionInfo) × Names id infos info × (rights ≡ rights_of info)
-IsFound infos state (Objects id) rights = (info : CollectionInfo) × Names id infos info × (rights ≡ rights_of info)
-IsFound infos state (Object collection object) rights =
-    (info : CollectionInfo) × Names collection infos info × (rights ≡ rights_of info) × NamesRowOf object info.id state.library.rows
-IsFound infos state (Versions collection object) rights =
-    (info : CollectionInfo) × Names collection infos info × (rights ≡ rights_of info) × NamesRowOf object info.id state.library.rows
-IsFound infos state NoRoute rights = ⊥
+-- the route leads to the resource, and the resource is there
+abbrev pub IsResource : List CollectionInfo → State → Route → Resource → Type 0
+IsResource infos state route.Discovery resource = resource ≡ Discovery
+IsResource infos state route.Root resource = resource ≡ Root
+IsResource infos state (route.Status id) resource = (resource ≡ Status id) × (body_of id state.statuses ≢ None)
+IsResource infos state route.Collections resource = resource ≡ Collections
+IsResource infos state (route.Collection name) resource =
+    (info : CollectionInfo) × Names name infos info × (resource ≡ Collection info)
+IsResource infos state (route.Manifest name) resource =
+    (info : CollectionInfo) × Names name infos info × (resource ≡ Manifest info)
+IsResource infos state (route.Objects name) resource =
+    (info : CollectionInfo) × Names name infos info × (resource ≡ Objects info)
+IsResource infos state (route.Object name text) resource =
+    (info : CollectionInfo) × (id : Id) × Names name infos info × NamesObject text info state.library.rows id
+    × (resource ≡ Object info id)
+IsResource infos state (route.Versions name text) resource =
+    (info : CollectionInfo) × (id : Id) × Names name infos info × NamesObject text info state.library.rows id
+    × (resource ≡ Versions info id)
+IsResource infos state route.None resource = ⊥
+
+-- the route leads to no resource
+abbrev pub HasNoResource : List CollectionInfo → State → Route → Type 0
+HasNoResource infos state route = (resource : Resource) → ¬ IsResource infos state route resource

@@ -1,10 +1,12 @@
 pub mod Starting
+pub mod Resource
 pub mod Finding
 pub mod Reading
 pub mod Posted
 pub mod Adding
 pub mod Deleting
 pub mod inner
+pub mod Operation
 pub mod Step
 pub mod Exchanges
 pub mod Visits

@@ -15,8 +15,9 @@ use Rattle.taxii_bodies.specs.declared.details.Detail.{Detail}
 use Rattle.taxii_bodies.specs.Details.{IsFailureOf, IsRefusalOf}
 use Rattle.taxii_service.specs.declared.posted.Posted.{Posted}
 use Rattle.taxii_service.specs.declared.posted.TheConstants.{MAX_DETAILS}
-use Rattle.taxii_service.specs.declared.post_refusal.PostRefusal.{PostRefusal}
-use Rattle.taxii_service.specs.declared.post_refusal.PostRefusal.TheVariants.{NotJson, NotList, NoMemory}
+use Rattle.taxii_bodies.specs.declared.problem.Problem.TheVariants.{NotJson, NotList}
+use Rattle.taxii_exchange.specs.declared.refusal.Refusal.{Refusal}
+use Rattle.taxii_exchange.specs.declared.refusal.Refusal.TheVariants.{Problem}
 
 -- the value has breaks, and this is the first of them
 pub record BreaksFirst (value : Data) (first : Break) : Type 0 where
@@ -59,8 +60,15 @@ pub record IsPosted (body : List ℕ) (moment : ℕ) (posted : Posted) : Type 0 
   pub entries_are : AreEntriesOf body (codes "objects") entries
   pub holds : Holds moment entries posted
 
--- why the body has no list of objects; memory may run out at any time
-abbrev pub IsUnreadable : List ℕ → PostRefusal → Type 0
-IsUnreadable body NotJson = HasNoValue body
-IsUnreadable body NotList = HasNoList body (codes "objects")
-IsUnreadable body NoMemory = ⊤
+-- the body is not UTF-8, is no JSON, or nests more than 127 levels
+abbrev pub IsNotJson : List ℕ → Type 0
+IsNotJson body = HasNoValue body
+
+-- the body is no object, or its `objects` is no list
+abbrev pub HasNoObjects : List ℕ → Type 0
+HasNoObjects body = HasNoList body (codes "objects")
+
+-- why the body has no list of objects
+abbrev pub IsUnreadable : List ℕ → Refusal → Type 0
+IsUnreadable body refusal =
+    ((refusal ≡ Problem NotJson) × IsNotJson body) ⊎ ((refusal ≡ Problem NotList) × HasNoObjects body)

@@ -4,15 +4,11 @@ use Rattle.std.specs.Prelude.{◌≡◌, ℕ, List, [], ◌∷◌, Bool, Option,
 use Rattle.serde_json.specs.Written.{compact_text}
 use Rattle.stix_ids.specs.declared.id.Id.{Id}
 use Rattle.stix_ids.specs.declared.pick.Pick.TheVariants.{All}
-use Rattle.stix_ids.specs.Identifier.{IsTextOf}
 use Rattle.http_messages.specs.declared.status.Status.TheVariants.{Okay}
 use Rattle.taxii_exchange.specs.declared.answer.Answer.{Answer}
 use Rattle.taxii_routes.specs.declared.query.Query.{Query}
-use Rattle.taxii_routes.specs.declared.route.Route.{Route}
-use Rattle.taxii_routes.specs.declared.route.Route.TheVariants.{Discovery, Root, Status, Collections, Collection, Manifest, Objects, Object, Versions, None as NoRoute}
 use Rattle.taxii_rows.specs.declared.stored_row.StoredRow.{StoredRow}
 use Rattle.taxii_store.specs.Page.{IsPage}
-use Rattle.taxii_bodies.specs.declared.collections.CollectionInfo.{CollectionInfo}
 use Rattle.taxii_bodies.specs.Discovery.{discovery_data, root_data}
 use Rattle.taxii_bodies.specs.Collections.{collection_data, collections_data}
 use Rattle.taxii_bodies.specs.Envelope.{envelope_text}
@@ -22,8 +18,7 @@ use Rattle.taxii_exchange.specs.Statuses.{body_of}
 use Rattle.taxii_service.specs.declared.state.State.{State}
 use Rattle.taxii_exchange.specs.declared.config.Config.{Config}
 use Rattle.taxii_exchange.specs.AnswersToRequests.{body_answer, page_answer}
-use Rattle.taxii_exchange.specs.declared.rights.Rights.{Rights}
-use Rattle.taxii_service.specs.Finding.{Names, IsFound}
+use Rattle.taxii_service.specs.Resource.{Resource, Discovery, Root, Status, Collections, Collection, Manifest, Objects, Object, Versions}
 
 -- the answer has that body and no more
 abbrev pub HasBody : List ℕ → Answer → Type 0
@@ -66,29 +61,19 @@ versions_query query = record {
   specs = query.specs;
 }
 
--- a page of the one object that the text is the identifier of
-abbrev pub IsPageOfObject : List StoredRow → ℕ → List ℕ → Query → (List StoredRow → Bool → List ℕ → Type 0) → Answer → Type 0
-IsPageOfObject rows collection text query IsBody answer =
-    (id : Id) × IsTextOf text id × IsPageOf rows collection (Some id) query IsBody answer
-
--- the answer to a GET of the resource of a route, whose query asks for this
-abbrev pub IsReading : Config → State → Route → Query → Answer → Type 0
+-- the answer to a GET of a resource, whose query asks for this
+abbrev pub IsReading : Config → State → Resource → Query → Answer → Type 0
 IsReading config state Discovery query answer = HasBody (compact_text (discovery_data config.base)) answer
 IsReading config state Root query answer = HasBody (compact_text root_data) answer
-IsReading config state (Status id) query answer = (body : List ℕ) × (body_of id state.statuses ≡ Some body) × HasBody body answer
+IsReading config state (Status id) query answer =
+    (body : List ℕ) × (body_of id state.statuses ≡ Some body) × HasBody body answer
 IsReading config state Collections query answer = HasBody (compact_text (collections_data config.collections)) answer
-IsReading config state (Collection id) query answer =
-    (info : CollectionInfo) × Names id config.collections info × HasBody (compact_text (collection_data info)) answer
-IsReading config state (Manifest id) query answer =
-    (info : CollectionInfo) × Names id config.collections info × IsPageOf state.library.rows info.id None query IsManifest answer
-IsReading config state (Objects id) query answer =
-    (info : CollectionInfo) × Names id config.collections info × IsPageOf state.library.rows info.id None query IsEnvelope answer
-IsReading config state (Object collection object) query answer =
-    (info : CollectionInfo) × Names collection config.collections info × IsPageOfObject state.library.rows info.id object (object_query query) IsEnvelope answer
-IsReading config state (Versions collection object) query answer =
-    (info : CollectionInfo) × Names collection config.collections info × IsPageOfObject state.library.rows info.id object (versions_query query) AreVersions answer
-IsReading config state NoRoute query answer = ⊥
-
--- no client may do anything with the resource of the route: it is not there
-abbrev pub IsNoResource : Config → State → Route → Type 0
-IsNoResource config state route = (rights : Rights) → ¬ IsFound config.collections state route rights
+IsReading config state (Collection info) query answer = HasBody (compact_text (collection_data info)) answer
+IsReading config state (Manifest info) query answer =
+    IsPageOf state.library.rows info.id None query IsManifest answer
+IsReading config state (Objects info) query answer =
+    IsPageOf state.library.rows info.id None query IsEnvelope answer
+IsReading config state (Object info id) query answer =
+    IsPageOf state.library.rows info.id (Some id) (object_query query) IsEnvelope answer
+IsReading config state (Versions info id) query answer =
+    IsPageOf state.library.rows info.id (Some id) (versions_query query) AreVersions answer

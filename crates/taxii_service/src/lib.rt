@@ -15,27 +15,25 @@
 
 mod adding;
 mod deleting;
-mod finding;
 pub mod history_laws;
 mod listing;
+mod operation;
 mod outcome;
 mod outcomes;
 mod perform;
 mod post_body;
-mod post_refusal;
 mod posted;
 mod prepared;
 mod reading;
+mod resource;
 mod response;
 mod state;
 pub mod step_laws;
 
 pub use adding::add_objects;
 pub use deleting::delete_object;
-pub use finding::{allow_of, rights_for};
 pub use post_body::read_posted;
-pub use post_refusal::PostRefusal;
 pub use posted::{MAX_DETAILS, Posted};
-pub use reading::read;
+pub use resource::Resource;
 pub use response::respond;
 pub use state::State;

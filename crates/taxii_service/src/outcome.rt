@@ -6,8 +6,9 @@ ghost use Rattle.taxii_store.specs.Agreement.{Agrees, without_rows};
 ghost use Rattle.taxii_service.specs.Step.{IsRefused, IsDone};
 ghost use Rattle.taxii_service.specs.inner.Performing.{RouteChanges};
 
+use crate::operation::Operation;
 use crate::perform::perform;
-use crate::{State, allow_of, rights_for};
+use crate::{Resource, State};
 use http_messages::Request;
 use taxii_bodies::Problem;
 use taxii_exchange::{Answer, Config, Refusal, check};
@@ -40,9 +41,17 @@ pub(crate) fn outcome<K: Keeper>(
     ensures causes { Counted (result ≡ Err (Refused.Problem Trouble.StoreFault))
         (K.faults keeper.old) (K.faults keeper.new) }
 {
-    let Some(rights) = rights_for(config, state, route) else {
+    let Some(resource) = Resource::find(config, state, route) else {
         return Err(Refusal::Problem(Problem::NotFound));
     };
-    let asked = check(config.alloc, request, query, allow_of(route), rights)?;
-    perform(config, state, keeper, moment, request, route, asked)
+    let query = check(
+        config.alloc,
+        request,
+        query,
+        resource.allow(),
+        resource.rights(),
+    )?;
+    let operation = Operation::of(request.method, resource);
+    let body = request.body.as_slice();
+    perform(config, state, keeper, moment, body, query, operation)
 }

@@ -1,27 +1,49 @@
-ghost use Rattle.std.specs.Prelude.{◌+◌, ◌<◌, ◌^◌, All, IfOk, IfErr, length};
+ghost use Rattle.std.specs.Prelude.{◌≡◌, ◌⊎◌, ◌+◌, ◌<◌, ◌^◌, ℕ, List, All, IfOk, IfErr, length, codes};
+ghost use Rattle.stix_json.specs.Entries.{HasNoEntriesAs};
+ghost use Rattle.taxii_exchange.specs.declared.refusal.Refusal.TheVariants as Refused;
 ghost use Rattle.taxii_store.specs.Planned.{IsSound};
 ghost use Rattle.taxii_service.specs.Posted.{Holds, IsPosted, IsUnreadable};
 ghost use Rattle.taxii_service.specs.inner.Posting.{IsTaken};
 
-use crate::{PostRefusal, Posted};
+use crate::Posted;
 use flow_values::NoMemory;
 use std::alloc::Global;
-use stix_json::{Entry, read_entries};
+use stix_json::{Entry, JsonRefusal, read_entries};
+use taxii_bodies::Problem;
+use taxii_exchange::Refusal;
 
 /// Parses the body of a POST (section 5.5) that arrived at a moment (microseconds since 1970). An
 /// entry that is no JSON value or violates a rule is a failure; its detail names the first
 /// violation. Any other entry is an object. Without `objects` there are no entries. `NotJson` if
 /// the body is no JSON, `NotList` if `objects` is no list.
-pub fn read_posted(alloc: Global, body: &[u8], moment: u64) -> Result<Posted, PostRefusal>
+pub fn read_posted(alloc: Global, body: &[u8], moment: u64) -> Result<Posted, Refusal>
     ensures ok { IfOk result (IsPosted body.now moment) }
     ensures sound { IfOk result (λ posted. All IsSound posted.objects.items) }
     ensures few { IfOk result
         (λ posted. length posted.objects.items + posted.failure_count < 2 ^ 63) }
-    ensures err { IfErr result (IsUnreadable body.now) }
+    ensures err { IfErr result (λ refusal. (refusal ≡ Refused.NoMemory)
+        ⊎ IsUnreadable body.now refusal) }
 {
     match read_entries(alloc, body, "objects") {
         Ok(entries) => Ok(check_entries(alloc, entries.into_vec(), moment)?),
-        Err(refusal) => Err(PostRefusal::of(refusal)),
+        Err(refusal) => Err(refusal_of_body(refusal)),
+    }
+}
+
+/// The reader's refusal of a body as that of the request.
+fn refusal_of_body(refusal: JsonRefusal) -> Refusal
+    ensures { (body : List ℕ) → HasNoEntriesAs body (codes "objects") refusal
+        → (result ≡ Refused.NoMemory) ⊎ IsUnreadable body result }
+{
+    match refusal {
+        JsonRefusal::NotList => Refusal::Problem(Problem::NotList),
+        JsonRefusal::NoMemory => Refusal::NoMemory,
+        // refusals with a path concern an entry, never the whole body
+        JsonRefusal::NotJson
+        | JsonRefusal::TooDeep { .. }
+        | JsonRefusal::NotWhole { .. }
+        | JsonRefusal::Null { .. }
+        | JsonRefusal::OutOfRange { .. } => Refusal::Problem(Problem::NotJson),
     }
 }
 

@@ -1,6 +1,5 @@
 ghost use Rattle.std.specs.Prelude.{◌≡◌, ◌⊎◌, ◌+◌, ◌<◌, ◌^◌, All, IfOk, IfErr, length};
-ghost use Rattle.taxii_service.specs.Posted.{IsPosted, IsUnreadable};
-ghost use Rattle.taxii_service.specs.declared.post_refusal.PostRefusal.TheVariants as Unread;
+ghost use Rattle.taxii_service.specs.Posted.{IsPosted};
 ghost use Rattle.taxii_store.specs.Addition.{IsAddition, UsesUpDates};
 ghost use Rattle.taxii_store.specs.Planned.{IsSound};
 ghost use Rattle.taxii_bodies.specs.Status.{status_id_of};
@@ -10,7 +9,7 @@ ghost use Rattle.taxii_exchange.specs.Statuses.{next_number};
 ghost use Rattle.taxii_service.specs.Adding.{IsAdding, CannotAdd};
 
 use crate::outcomes::report_of;
-use crate::{PostRefusal, Posted, State, read_posted};
+use crate::{Posted, State, read_posted};
 use flow_values::Text;
 use std::alloc::Global;
 use taxii_bodies::{Problem, status_body};
@@ -47,7 +46,7 @@ impl Prepared {
         ensures err { IfErr result (λ refusal. (refusal ≡ Refused.NoMemory)
             ⊎ CannotAdd state.now collection moment body.now refusal) }
     {
-        let posted = posted_of(alloc, body, moment)?;
+        let posted = read_posted(alloc, body, moment)?;
         let Posted {
             objects,
             failures,
@@ -73,24 +72,6 @@ impl Prepared {
             status,
             body: text,
         })
-    }
-}
-
-/// Parses the body.
-fn posted_of(alloc: Global, body: &[u8], moment: u64) -> Result<Posted, Refusal>
-    ensures ok { IfOk result (IsPosted body.now moment) }
-    ensures sound { IfOk result (λ posted. All IsSound posted.objects.items) }
-    ensures few { IfOk result
-        (λ posted. length posted.objects.items + posted.failure_count < 2 ^ 63) }
-    ensures err { IfErr result (λ refusal. (refusal ≡ Refused.NoMemory)
-        ⊎ (((refusal ≡ Refused.Problem Trouble.NotJson) × IsUnreadable body.now Unread.NotJson)
-        ⊎ ((refusal ≡ Refused.Problem Trouble.NotList) × IsUnreadable body.now Unread.NotList))) }
-{
-    match read_posted(alloc, body, moment) {
-        Ok(posted) => Ok(posted),
-        Err(PostRefusal::NotJson) => Err(Refusal::Problem(Problem::NotJson)),
-        Err(PostRefusal::NotList) => Err(Refusal::Problem(Problem::NotList)),
-        Err(PostRefusal::NoMemory) => Err(Refusal::NoMemory),
     }
 }
 
