@@ -7,7 +7,7 @@ use Rattle.std.proofs.lemmas.Int.{ints, clamps}
 use Rattle.match_bindings.specs.declared.log_entry.LogEntry.{LogEntry}
 use Rattle.match_bindings.specs.NumberedPattern.{Leaf}
 use Rattle.match_bindings.specs.BindTree.{BindTree, One, Pair, First, Second, Empty, Single, More, has, AreDisjoint, greatest}
-use Rattle.match_bindings.specs.Log.{Observed, observed_in, IsInOrder, numbered, first_time, last_time, truth}
+use Rattle.match_bindings.specs.Log.{Observed, observed_in, IsInOrder, numbered_row, first_time, last_time, truth}
 use Rattle.match_bindings.specs.Span.{earliest, latest, later_by}
 use Rattle.match_bindings.specs.Binding.{AreRepeats, IsBinding}
 use Rattle.alert_window.specs.declared.matching_row.MatchingRow.{MatchingRow}
@@ -258,7 +258,7 @@ count_matching x t hit i (row ∷ log) same =
           omega arith
     ]
 
-numbered_at : (log : List LogEntry) (i : ℕ) → numbered log (suc (0 + i)) ≡ slice_get log i
+numbered_at : (log : List LogEntry) (i : ℕ) → numbered_row log (suc (0 + i)) ≡ slice_get log i
 numbered_at log i = let at : 0 + i ≡ i = omega arith in ap (λ k. slice_get log k) at
 
 -- the recent ones among the matching rows are the recent numbers
@@ -281,8 +281,8 @@ pub length_more : (log : List LogEntry) (row : LogEntry) → length (log ++ row 
 length_more [] row = refl
 length_more (r ∷ log) row = ap suc (length_more log row)
 
-pub last_row : (log : List LogEntry) (row : LogEntry) → numbered (log ++ row ∷ []) (length (log ++ row ∷ [])) ≡ Some row
-last_row log row = ap (λ k. numbered (log ++ row ∷ []) k) (length_more log row) ∙ last_number log row
+pub last_row : (log : List LogEntry) (row : LogEntry) → numbered_row (log ++ row ∷ []) (length (log ++ row ∷ [])) ≡ Some row
+last_row log row = ap (λ k. numbered_row (log ++ row ∷ []) k) (length_more log row) ∙ last_number log row
 
 -- in a log in order no row ends after the last one
 first_upto_last : (r : LogEntry) (log : List LogEntry) (row : LogEntry) → IsInOrder (r ∷ (log ++ row ∷ [])) → r.last ≤ℤ row.last
@@ -307,7 +307,7 @@ alert_at_last n x log row some order =
     let o = observed_in more in
     let number = length more in
     let t = row.last in
-    let there : numbered more number ≡ Some row = last_row log row in
+    let there : numbered_row more number ≡ Some row = last_row log row in
     let here : t ≡ o.last number = ap last_time (sym there) in
     let later : (i : ℕ) → o.holds 0 i ≡ true → o.last i ≤ℤ t = λ i h. none_later_at i h in
     let ends = ends_where_enough o x t n number some refl here later in
@@ -324,6 +324,6 @@ alert_at_last n x log row some order =
           let near = subst (λ (r : Option LogEntry). t <ℤ later_by x (first_time r)) (sym there) enough.1 in
           ends.1 (recent_from o x t number holds near, omega arith),
     ) where
-      none_later_at : (i : ℕ) → truth (numbered (log ++ row ∷ []) i) 0 ≡ true → last_time (numbered (log ++ row ∷ []) i) ≤ℤ row.last
+      none_later_at : (i : ℕ) → truth (numbered_row (log ++ row ∷ []) i) 0 ≡ true → last_time (numbered_row (log ++ row ∷ []) i) ≤ℤ row.last
       none_later_at zero h = absurd (false≢true h)
       none_later_at (suc i) h = none_later log row order i 0 h

@@ -15,7 +15,7 @@ use Rattle.std.proofs.lemmas.List.{append-nil, append_assoc}
 use Rattle.match_bindings.specs.declared.log_entry.LogEntry.{LogEntry}
 use Rattle.match_bindings.specs.Log.{truth}
 use Rattle.alert_window.specs.declared.matching_row.MatchingRow.{MatchingRow}
-use Rattle.alert_window.specs.MatchingRows.{matching_row, matching_from, matching_rows, row_cmp, AreLast}
+use Rattle.alert_window.specs.MatchingRows.{matching_row, matching_from, matching_rows, row_cmp, AreLastRows}
 use Rattle.alert_window.specs.inner.Kept.{keep}
 use Rattle.alert_window.proofs.OrderLemmas.{In, Apart, IsOrder, Ascend, IsLast, last_continues, keep_tail}
 
@@ -99,14 +99,14 @@ unfolding IsStrictlySortedBy
 sorted_from_ascend [] up = tt
 sorted_from_ascend (r ∷ rows) up = (all_from (λ s. row_cmp r s ≡ Less) rows up.0, sorted_from_ascend rows up.1)
 
-pub is_last : (n : ℕ) (rows last : List MatchingRow) → AreLast n rows last → IsLast row_cmp n rows last
+pub is_last : (n : ℕ) (rows last : List MatchingRow) → AreLastRows n rows last → IsLast row_cmp n rows last
 is_last n rows last h = record {
   ascend = ascend_from_sorted last h.order;
   from = λ y i. let at = (h.each y).0 (contains_from_in y last i) in (in_from_contains y rows at.0, at.1);
   all = λ y i few. in_from_contains y last ((h.each y).1 (contains_from_in y rows i, few));
 }
 
-are_last : (n : ℕ) (rows last : List MatchingRow) → IsLast row_cmp n rows last → AreLast n rows last
+are_last : (n : ℕ) (rows last : List MatchingRow) → IsLast row_cmp n rows last → AreLastRows n rows last
 are_last n rows last h = record {
   order = sorted_from_ascend last h.ascend;
   each = λ y. (
@@ -184,7 +184,7 @@ new_row log row i = let at = matching_numbers 1 log (row_at (length log + 1) row
 
 -- ---- the last n over a log and a row more
 
-pub kept_more : (n : ℕ) (log : List LogEntry) (row : LogEntry) (kept : List MatchingRow) → truth (Some row) 0 ≡ true → AreLast n (matching_rows log) kept → AreLast n (matching_rows (log ++ row ∷ [])) (keep n (insert_key row_cmp kept (row_at (length log + 1) row)))
+pub kept_more : (n : ℕ) (log : List LogEntry) (row : LogEntry) (kept : List MatchingRow) → truth (Some row) 0 ≡ true → AreLastRows n (matching_rows log) kept → AreLastRows n (matching_rows (log ++ row ∷ [])) (keep n (insert_key row_cmp kept (row_at (length log + 1) row)))
 kept_more n log row kept holds h =
     let r : MatchingRow = row_at (length log + 1) row in
     let more = last_continues row_order n r (matching_rows log) kept (matching_apart 1 log) (new_row log row) (is_last n (matching_rows log) kept h) in
@@ -192,8 +192,8 @@ kept_more n log row kept holds h =
     subst (λ (rows : List MatchingRow). IsLast row_cmp n rows (keep n (insert_key row_cmp kept r))) (sym (matching_more log row holds)) more
     )
 
-pub kept_same : (n : ℕ) (log : List LogEntry) (row : LogEntry) (kept : List MatchingRow) → truth (Some row) 0 ≡ false → AreLast n (matching_rows log) kept → AreLast n (matching_rows (log ++ row ∷ [])) kept
-kept_same n log row kept fails h = subst (λ (rows : List MatchingRow). AreLast n rows kept) (sym (matching_same log row fails)) h
+pub kept_same : (n : ℕ) (log : List LogEntry) (row : LogEntry) (kept : List MatchingRow) → truth (Some row) 0 ≡ false → AreLastRows n (matching_rows log) kept → AreLastRows n (matching_rows (log ++ row ∷ [])) kept
+kept_same n log row kept fails h = subst (λ (rows : List MatchingRow). AreLastRows n rows kept) (sym (matching_same log row fails)) h
 
 pub popped : {K : Type 0} (n : ℕ) (xs ys : List K) (r : Option K) → IfSome r (λ x. xs ≡ x ∷ ys) → (IsSome r ↔ (0 < length xs)) → length xs ≡ n + 1 → keep n xs ≡ ys
 popped n xs ys None removal some long = absurd (false≢true (some.1 (omega arith)))

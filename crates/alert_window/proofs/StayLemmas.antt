@@ -4,7 +4,7 @@ use Rattle.std.proofs.lemmas.Bool.{false≢true}
 use Rattle.match_bindings.specs.declared.log_entry.LogEntry.{LogEntry}
 use Rattle.match_bindings.specs.NumberedPattern.{Leaf}
 use Rattle.match_bindings.specs.BindTree.{BindTree, One, Single, More, greatest}
-use Rattle.match_bindings.specs.Log.{Observed, observed_in, numbered, first_time, last_time, truth}
+use Rattle.match_bindings.specs.Log.{Observed, observed_in, numbered_row, first_time, last_time, truth}
 use Rattle.match_bindings.specs.Span.{earliest, latest, later_by}
 use Rattle.match_bindings.specs.Binding.{AreRepeats, IsBinding}
 use Rattle.alert_window.specs.Alert.{IsAlert}
@@ -25,13 +25,13 @@ inside [] i h = absurd (false≢true h)
 inside (row ∷ log) zero h = omega arith
 inside (row ∷ log) (suc i) h = let deeper = inside log i h in omega arith
 
-row_inside : (log : List LogEntry) (i : ℕ) → truth (numbered log i) 0 ≡ true → (1 ≤ i) × (i ≤ length log)
+row_inside : (log : List LogEntry) (i : ℕ) → truth (numbered_row log i) 0 ≡ true → (1 ≤ i) × (i ≤ length log)
 row_inside log zero h = absurd (false≢true h)
 row_inside log (suc i) h = let there = inside log i h in (omega arith, omega arith)
 
 pub alert_is_row : (n x number : ℕ) (log : List LogEntry) → IsAlert n x log number → (1 ≤ number) × (number ≤ length log)
 alert_is_row n x number log alert =
-    row_inside log number (subst (λ k. truth (numbered log k) 0 ≡ true) alert.2 (holds_at_end (observed_in log) n alert.0 alert.1.0))
+    row_inside log number (subst (λ k. truth (numbered_row log k) 0 ≡ true) alert.2 (holds_at_end (observed_in log) n alert.0 alert.1.0))
 
 -- ---- where two logs agree up to a number
 
@@ -67,7 +67,7 @@ get_stays [] more i h = absurd (omega arith)
 get_stays (r ∷ log) more zero h = refl
 get_stays (r ∷ log) more (suc i) h = get_stays log more i (omega arith)
 
-row_stays : (log more : List LogEntry) (i : ℕ) → i ≤ length log → numbered (log ++ more) i ≡ numbered log i
+row_stays : (log more : List LogEntry) (i : ℕ) → i ≤ length log → numbered_row (log ++ more) i ≡ numbered_row log i
 row_stays log more zero h = refl
 row_stays log more (suc i) h = get_stays log more i (omega arith)
 
@@ -76,7 +76,7 @@ alert_stays n x number log more upto = (
   λ alert. alert_moves (observed_in (log ++ more)) (observed_in log) n x number shorter alert,
   λ alert. alert_moves (observed_in log) (observed_in (log ++ more)) n x number longer alert,
 ) where
-  same : (i : ℕ) → i ≤ number → numbered (log ++ more) i ≡ numbered log i
+  same : (i : ℕ) → i ≤ number → numbered_row (log ++ more) i ≡ numbered_row log i
   same i h = row_stays log more i (omega arith)
 
   shorter : AgreeUpto (observed_in (log ++ more)) (observed_in log) number

@@ -10,21 +10,21 @@ use Rattle.match_bindings.specs.declared.log_entry.LogEntry.{LogEntry}
 use Rattle.match_bindings.specs.Log.{IsInOrder}
 use Rattle.match_bindings.specs.Span.{later_by}
 use Rattle.alert_window.specs.declared.matching_row.MatchingRow.{MatchingRow}
-use Rattle.alert_window.specs.MatchingRows.{matching_rows, row_cmp, AreLast}
-use Rattle.alert_window.specs.WatchState.{WatchState, last_of, Represents, with_row, AnswersRow}
-use Rattle.alert_window.specs.inner.Kept.{keep, earliest_if_full, IsReached}
+use Rattle.alert_window.specs.MatchingRows.{matching_rows, row_cmp, AreLastRows}
+use Rattle.alert_window.specs.WatchState.{WatchState, window_end, WatchRepresents, with_window_row, AnswersAlertRow}
+use Rattle.alert_window.specs.inner.Kept.{keep, earliest_if_full, IsCountReached}
 use Rattle.alert_window.proofs.OrderLemmas.{FullFrom, enough_is_full}
 use Rattle.alert_window.proofs.KeptLemmas.{row_order, begins_later, is_last, matching_apart, row_at, kept_more, kept_same}
 use Rattle.alert_window.proofs.AlertLemmas.{begins_within, lt_from_test, test_from_lt, alert_at_last, length_more}
 
 -- ---- a log and a row more
 
-order_more : (log : List LogEntry) (row : LogEntry) → IsInOrder log → row.first ≤ℤ row.last → ((before : ℤ) → last_of log ≡ Some before → before ≤ℤ row.last) → IsInOrder (log ++ row ∷ [])
+order_more : (log : List LogEntry) (row : LogEntry) → IsInOrder log → row.first ≤ℤ row.last → ((before : ℤ) → window_end log ≡ Some before → before ≤ℤ row.last) → IsInOrder (log ++ row ∷ [])
 order_more [] row order span after = span
 order_more (r ∷ []) row order span after = (order, after r.last refl, span)
 order_more (r ∷ s ∷ log) row order span after = (order.0, order.1, order_more (s ∷ log) row order.2 span after)
 
-last_more : (log : List LogEntry) (row : LogEntry) → last_of (log ++ row ∷ []) ≡ Some row.last
+last_more : (log : List LogEntry) (row : LogEntry) → window_end (log ++ row ∷ []) ≡ Some row.last
 last_more [] row = refl
 last_more (r ∷ []) row = refl
 last_more (r ∷ s ∷ log) row = last_more (s ∷ log) row
@@ -58,7 +58,7 @@ within_continues x t r s h k =
     )
 
 -- n matching rows begin late enough exactly where the kept ones are full and do
-enough_is_kept : (n x : ℕ) (t : ℤ) (log : List LogEntry) (kept : List MatchingRow) → 1 ≤ n → AreLast n (matching_rows log) kept
+enough_is_kept : (n x : ℕ) (t : ℤ) (log : List LogEntry) (kept : List MatchingRow) → 1 ≤ n → AreLastRows n (matching_rows log) kept
     → (n ≤ count_by (begins_within x t) (matching_rows log)) ↔ IsSomeAnd (earliest_if_full n kept) (λ e. t <ℤ later_by x e)
 enough_is_kept n x t log kept some h =
     let full = enough_is_full row_order (begins_within x t) (within_continues x t) n (matching_rows log) kept some (matching_apart 1 log) (is_last n (matching_rows log) kept h) in
@@ -76,7 +76,7 @@ pub record Follows (before after : WatchState) (last : ℤ) : Type 0 where
   pub rows : after.rows ≡ before.rows + 1
   pub last_is : after.last ≡ Some last
 
-represents : (before after : WatchState) (log : List LogEntry) (row : LogEntry) → Represents before log → Follows before after row.last → AreLast before.n (matching_rows (log ++ row ∷ [])) after.kept → Represents after (log ++ row ∷ [])
+represents : (before after : WatchState) (log : List LogEntry) (row : LogEntry) → WatchRepresents before log → Follows before after row.last → AreLastRows before.n (matching_rows (log ++ row ∷ [])) after.kept → WatchRepresents after (log ++ row ∷ [])
 represents before after log row h follows kept =
     let long = length_more log row in
     let was = h.rows in
@@ -84,11 +84,11 @@ represents before after log row h follows kept =
     record {
       rows = omega arith;
       last = follows.last_is ∙ sym (last_more log row);
-      kept = subst (λ (n : ℕ). AreLast n (matching_rows (log ++ row ∷ [])) after.kept) (sym follows.n) kept;
+      kept = subst (λ (n : ℕ). AreLastRows n (matching_rows (log ++ row ∷ [])) after.kept) (sym follows.n) kept;
     }
 
-pub answer_matching : (before after : WatchState) (log : List LogEntry) (first last : ℤ) (answer : Bool) → 1 ≤ before.n → Represents before log → IsInOrder log → first ≤ℤ last → ((b : ℤ) → before.last ≡ Some b → b ≤ℤ last)
-    → Follows before after last → after.kept ≡ keep before.n (insert_key row_cmp before.kept (record { first = first; number = before.rows + 1 })) → IsTrue answer ↔ IsReached before.n before.x after.kept first last → AnswersRow before after (with_row log first last true) answer
+pub answer_matching : (before after : WatchState) (log : List LogEntry) (first last : ℤ) (answer : Bool) → 1 ≤ before.n → WatchRepresents before log → IsInOrder log → first ≤ℤ last → ((b : ℤ) → before.last ≡ Some b → b ≤ℤ last)
+    → Follows before after last → after.kept ≡ keep before.n (insert_key row_cmp before.kept (record { first = first; number = before.rows + 1 })) → IsTrue answer ↔ IsCountReached before.n before.x after.kept first last → AnswersAlertRow before after (with_window_row log first last true) answer
 answer_matching before after log first last answer some h order span later follows kept_is reached =
     let row : LogEntry = record { first = first; last = last; truths = true ∷ [] } in
     let n = before.n in
@@ -96,8 +96,8 @@ answer_matching before after log first last answer some h order span later follo
     let kept_here : keep n (insert_key row_cmp before.kept (row_at (length log + 1) row)) ≡ after.kept =
     ap (λ (k : ℕ). keep n (insert_key row_cmp before.kept (row_at k row))) number ∙ sym kept_is
     in
-    let kept : AreLast n (matching_rows (log ++ row ∷ [])) after.kept =
-    subst (λ (rows : List MatchingRow). AreLast n (matching_rows (log ++ row ∷ [])) rows) kept_here (kept_more n log row before.kept refl h.kept)
+    let kept : AreLastRows n (matching_rows (log ++ row ∷ [])) after.kept =
+    subst (λ (rows : List MatchingRow). AreLastRows n (matching_rows (log ++ row ∷ [])) rows) kept_here (kept_more n log row before.kept refl h.kept)
     in
     let ordered : IsInOrder (log ++ row ∷ []) = order_more log row order span (λ b e. later b (h.last ∙ e)) in
     let enough = enough_is_kept n before.x last (log ++ row ∷ []) after.kept some kept in
@@ -111,12 +111,12 @@ answer_matching before after log first last answer some h order span later follo
       );
     }
 
-pub answer_other : (before after : WatchState) (log : List LogEntry) (first last : ℤ) → 1 ≤ before.n → Represents before log → IsInOrder log → first ≤ℤ last → ((b : ℤ) → before.last ≡ Some b → b ≤ℤ last)
-    → Follows before after last → after.kept ≡ before.kept → AnswersRow before after (with_row log first last false) false
+pub answer_other : (before after : WatchState) (log : List LogEntry) (first last : ℤ) → 1 ≤ before.n → WatchRepresents before log → IsInOrder log → first ≤ℤ last → ((b : ℤ) → before.last ≡ Some b → b ≤ℤ last)
+    → Follows before after last → after.kept ≡ before.kept → AnswersAlertRow before after (with_window_row log first last false) false
 answer_other before after log first last some h order span later follows kept_is =
     let row : LogEntry = record { first = first; last = last; truths = false ∷ [] } in
-    let kept : AreLast before.n (matching_rows (log ++ row ∷ [])) after.kept =
-    subst (λ (rows : List MatchingRow). AreLast before.n (matching_rows (log ++ row ∷ [])) rows) (sym kept_is) (kept_same before.n log row before.kept refl h.kept)
+    let kept : AreLastRows before.n (matching_rows (log ++ row ∷ [])) after.kept =
+    subst (λ (rows : List MatchingRow). AreLastRows before.n (matching_rows (log ++ row ∷ [])) rows) (sym kept_is) (kept_same before.n log row before.kept refl h.kept)
     in
     let ordered : IsInOrder (log ++ row ∷ []) = order_more log row order span (λ b e. later b (h.last ∙ e)) in
     let alert = alert_at_last before.n before.x log row some ordered in

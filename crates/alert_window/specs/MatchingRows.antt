@@ -29,6 +29,6 @@ abbrev pub count_after : MatchingRow → List MatchingRow → ℕ
 count_after row rows = count_by (λ other. is_lt (row_cmp row other)) rows
 
 -- the last n of the rows, each once, in order: those with fewer than n after them
-pub record AreLast (n : ℕ) (rows last : List MatchingRow) : Type 0 where
+pub record AreLastRows (n : ℕ) (rows last : List MatchingRow) : Type 0 where
   pub order : IsStrictlySortedBy row_cmp last
   pub each : (row : MatchingRow) → Contains last row ↔ (Contains rows row × (count_after row rows < n))

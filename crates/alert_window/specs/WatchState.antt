@@ -3,7 +3,7 @@ use Rattle.std.specs.Prelude.{◌≡◌, ◌↔◌, ℕ, ℤ, Bool, Option, Some
 use Rattle.match_bindings.specs.declared.log_entry.LogEntry.{LogEntry}
 use Rattle.match_bindings.specs.Log.{IsInOrder}
 use Rattle.alert_window.specs.declared.matching_row.MatchingRow.{MatchingRow}
-use Rattle.alert_window.specs.MatchingRows.{matching_rows, AreLast}
+use Rattle.alert_window.specs.MatchingRows.{matching_rows, AreLastRows}
 use Rattle.alert_window.specs.Alert.{IsAlert}
 
 pub record WatchState : Type 0 where
@@ -18,25 +18,25 @@ pub record WatchState : Type 0 where
   pub kept : List MatchingRow
 
 -- the end of the last row
-abbrev pub last_of : List LogEntry → Option ℤ
-last_of [] = None
-last_of (row ∷ []) = Some row.last
-last_of (row ∷ next ∷ rows) = last_of (next ∷ rows)
+abbrev pub window_end : List LogEntry → Option ℤ
+window_end [] = None
+window_end (row ∷ []) = Some row.last
+window_end (row ∷ next ∷ rows) = window_end (next ∷ rows)
 
 -- a watch represents a log: it knows the length and the end of it, and keeps the last n of its
 -- matching rows
-pub record Represents (state : WatchState) (log : List LogEntry) : Type 0 where
+pub record WatchRepresents (state : WatchState) (log : List LogEntry) : Type 0 where
   pub rows : state.rows ≡ length log
-  pub last : state.last ≡ last_of log
-  pub kept : AreLast state.n (matching_rows log) state.kept
+  pub last : state.last ≡ window_end log
+  pub kept : AreLastRows state.n (matching_rows log) state.kept
 
 -- a log with one more row, with the truth of the bracket
-abbrev pub with_row : List LogEntry → ℤ → ℤ → Bool → List LogEntry
-with_row log first last holds = log ++ record { first = first; last = last; truths = holds ∷ [] } ∷ []
+abbrev pub with_window_row : List LogEntry → ℤ → ℤ → Bool → List LogEntry
+with_window_row log first last holds = log ++ record { first = first; last = last; truths = holds ∷ [] } ∷ []
 
 -- a watch answers the last row of a log: it then represents the log, whose rows are in order, and
 -- reports whether that row is an alert
-pub record AnswersRow (before after : WatchState) (log : List LogEntry) (answer : Bool) : Type 0 where
-  pub represents : Represents after log
+pub record AnswersAlertRow (before after : WatchState) (log : List LogEntry) (answer : Bool) : Type 0 where
+  pub represents : WatchRepresents after log
   pub order : IsInOrder log
   pub alert : IsTrue answer ↔ IsAlert before.n before.x log (length log)

@@ -6,8 +6,8 @@ ghost use Rattle.match_bindings.specs.Span.{later_by};
 ghost use Rattle.alert_window.specs.declared.refusal.WatchRefusal.TheVariants as refused;
 ghost use Rattle.std.specs.BTreeSet.{insert_key};
 ghost use Rattle.alert_window.specs.MatchingRows.{row_cmp};
-ghost use Rattle.alert_window.specs.WatchState.{Represents, AnswersRow, with_row};
-ghost use Rattle.alert_window.specs.inner.Kept.{keep, IsReached};
+ghost use Rattle.alert_window.specs.WatchState.{WatchRepresents, AnswersAlertRow, with_window_row};
+ghost use Rattle.alert_window.specs.inner.Kept.{keep, IsCountReached};
 
 use crate::kept_rows::KeptRows;
 use crate::{MatchingRow, WatchRefusal};
@@ -53,7 +53,7 @@ impl Watch {
         requires seconds { 1 ≤ x }
         // It can't fail: it takes no memory.
         ensures made { IsOk result }
-        ensures represents { IfOk result (λ watch. Represents watch []) }
+        ensures represents { IfOk result (λ watch. WatchRepresents watch []) }
         ensures n { IfOk result (λ watch. watch.n ≡ n) }
         ensures x { IfOk result (λ watch. watch.x ≡ x) }
     {
@@ -70,8 +70,8 @@ impl Watch {
     pub fn take(&mut self, first: Instant, last: Instant, holds: bool) -> Result<bool, WatchRefusal>
         requires span { first ≤ℤ last }
         requires room { self.old.rows + 1 < 2 ^ 64 }
-        ensures answers { (log : List LogEntry) → Represents self.old log → IsInOrder log
-            → IfOk result (AnswersRow self.old self.new (with_row log first last holds)) }
+        ensures answers { (log : List LogEntry) → WatchRepresents self.old log → IsInOrder log
+            → IfOk result (AnswersAlertRow self.old self.new (with_window_row log first last holds)) }
         ensures out_of_order { (before now : ℤ) → (result ≡ Err (refused.OutOfOrder before now))
             ↔ ((self.old.last ≡ Some before) × (now ≡ last) × (now <ℤ before)) }
         // After an error the watch is unchanged.
@@ -100,7 +100,7 @@ impl Watch {
               (record { first = first; number = number }));
         }) }
         ensures reached { IfOk result (λ alert. IsTrue alert
-            ↔ IsReached self.old.n self.old.x self.new.kept first last) }
+            ↔ IsCountReached self.old.n self.old.x self.new.kept first last) }
         ensures err { OnErr result (self.new ≡ self.old) }
     {
         self.kept.add(MatchingRow { first, number })?;
@@ -109,7 +109,7 @@ impl Watch {
 
     /// Whether n rows are kept, and all of them and this row lie within the seconds.
     fn is_reached(&self, first: Instant, last: Instant) -> bool
-        ensures { IsTrue result ↔ IsReached self.now.n self.now.x self.now.kept first last }
+        ensures { IsTrue result ↔ IsCountReached self.now.n self.now.x self.now.kept first last }
     {
         match self.kept.earliest_if_full() {
             Some(earliest) => {

@@ -1,8 +1,8 @@
 ghost use Rattle.std.specs.Prelude.{◌≡◌, ◌↔◌, codes, None, Some, IfNone, IfSome};
 ghost use Rattle.flow_edges.specs.Faults.{Counted};
-ghost use Rattle.command_line.specs.CommandLines.{texts};
+ghost use Rattle.command_line.specs.CommandLines.{argument_texts};
 ghost use Rattle.command_reasons.specs.Reasons.{WritesReason};
-ghost use Rattle.command_about.specs.About.{Asks, AsksNothing, IsAnswered};
+ghost use Rattle.command_about.specs.About.{AsksAbout, AsksNothing, IsAnsweredAbout};
 
 use command_reasons::write_write_fault;
 use flow_edges::{Sink, write_whole};
@@ -26,10 +26,10 @@ pub fn answer_about<O: Sink, E: Sink>(
     output: &mut O,
     faults: &mut E,
 ) -> Option<u8>
-    ensures nothing { (result ≡ None) ↔ AsksNothing (texts arguments.now) }
+    ensures nothing { (result ≡ None) ↔ AsksNothing (argument_texts arguments.now) }
     ensures untouched { result ≡ None → (output.new ≡ output.old) × (faults.new ≡ faults.old) }
     // status 0 means that the text was written, 6 that a prefix of it was
-    ensures written { IfSome result (λ status. IsAnswered about.now (texts arguments.now) status
+    ensures written { IfSome result (λ status. IsAnsweredAbout about.now (argument_texts arguments.now) status
         (O.written output.old) (O.written output.new)) }
     ensures output { Counted (result ≡ Some 6) (O.faults output.old) (O.faults output.new) }
     ensures reason { result ≡ Some 6
@@ -49,8 +49,8 @@ pub fn answer_about<O: Sink, E: Sink>(
 
 /// The text that the arguments ask for.
 fn about_text<'a>(arguments: &[String], about: &About<'a>) -> Option<&'a str>
-    ensures some { IfSome result (λ text. Asks about.now (texts arguments.now) text.now) }
-    ensures none { IfNone result (AsksNothing (texts arguments.now)) }
+    ensures some { IfSome result (λ text. AsksAbout about.now (argument_texts arguments.now) text.now) }
+    ensures none { IfNone result (AsksNothing (argument_texts arguments.now)) }
 {
     let [argument] = arguments else {
         return None;

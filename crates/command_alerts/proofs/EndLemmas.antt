@@ -12,22 +12,22 @@ use Rattle.match_run.specs.Watching.{SeesAll, Says, BreaksOff, StopsWithin as En
 use Rattle.match_run.specs.declared.watch_end.WatchEnd.{WatchEnd}
 use Rattle.match_run.specs.declared.watch_end.WatchEnd.TheVariants.{Done, Input, ReadFault, WriteFault, Stopped, NoMemory}
 use Rattle.command_alerts.specs.Alerts.{ReportsLog}
-use Rattle.command_alerts.specs.Telling.{ReportsBundles, StopsWithin, AnswersAlerts}
-use Rattle.command_alerts.specs.inner.Seeing.{AlerterState, IsBehind, TakesRows, SeesBundle, BeginsBundle}
+use Rattle.command_alerts.specs.Telling.{ReportsBundles, AlerterStopsWithin, AnswersAlerts}
+use Rattle.command_alerts.specs.inner.Seeing.{AlerterState, IsBehind, TakesLogRows, AlerterSeesBundle, SeesFirstOfBundle}
 use Rattle.command_alerts.proofs.TellingLemmas.{AlertsStay, takes-none, takes-more}
 
 -- bundles were seen in turn, and this text is reported of them
 record SeesBundles (bundles : List BundleOf) (before after : AlerterState) (text : List ℕ) : Type 0 where
   rows : List LogEntry
   entries : AreEntries (plain_pattern before.pattern) bundles rows
-  takes : TakesRows rows before after text
+  takes : TakesLogRows rows before after text
 
 bundles-seen : AlertsStay → (bundles : List BundleOf) (before after : AlerterState) (text : List ℕ)
-    → SeesAll SeesBundle before bundles after text → SeesBundles bundles before after text
+    → SeesAll AlerterSeesBundle before bundles after text → SeesBundles bundles before after text
 bundles-seen stay [] before after text (behind, is) = record {
   rows = [];
   entries = refl;
-  takes = subst (λ (state : AlerterState). TakesRows [] before state text) (sym behind) (subst (TakesRows [] before before) (sym is) (takes-none before));
+  takes = subst (λ (state : AlerterState). TakesLogRows [] before state text) (sym behind) (subst (TakesLogRows [] before before) (sym is) (takes-none before));
 }
 bundles-seen stay (bundle ∷ bundles) before after text (next, own, later, sees, others, is) =
     let rest = bundles-seen stay bundles next after later others in record {
@@ -39,18 +39,18 @@ bundles-seen stay (bundle ∷ bundles) before after text (next, own, later, sees
         subst (λ (p : Pattern). AreEntries (plain_pattern p) bundles rest.rows) sees.takes.pattern_is rest.entries,
         refl,
       );
-      takes = subst (TakesRows (sees.rows ++ rest.rows) before after) (sym is)
+      takes = subst (TakesLogRows (sees.rows ++ rest.rows) before after) (sym is)
           (takes-more stay sees.rows rest.rows before next after own later sees.takes rest.takes);
     }
 
 -- a run from its start, where nothing was seen
 module _ (stay : AlertsStay) (start : AlerterState) (new : IsBehind start.watch []) where
-  log-reported : (rows : List LogEntry) (after : AlerterState) (text : List ℕ) → TakesRows rows start after text
+  log-reported : (rows : List LogEntry) (after : AlerterState) (text : List ℕ) → TakesLogRows rows start after text
       → ReportsLog start.watch.n start.watch.x rows text
   log-reported rows after text takes = (takes.reports [] new).reports
 
   bundles-reported : (bundles : List BundleOf) (after : AlerterState) (written written_after : Option (List ℕ))
-      → Says (SeesAll SeesBundle start bundles after) written written_after
+      → Says (SeesAll AlerterSeesBundle start bundles after) written written_after
       → ReportsBundles start.pattern start.watch.n start.watch.x bundles written written_after
   bundles-reported bundles after written written_after (text, sees, is) =
       let seen = bundles-seen stay bundles start after text sees in record {
@@ -65,12 +65,12 @@ module _ (stay : AlertsStay) (start : AlerterState) (new : IsBehind start.watch 
     abbrev before : Streams
     before = record { left = first; began = began; written = written }
 
-    within : EndsWithin SeesBundle (λ at bundle. BreaksOff (BeginsBundle at bundle)) first [] start written after
-        → StopsWithin start.pattern start.watch.n start.watch.x before after
+    within : EndsWithin AlerterSeesBundle (λ at bundle. BreaksOff (SeesFirstOfBundle at bundle)) first [] start written after
+        → AlerterStopsWithin start.pattern start.watch.n start.watch.x before after
     within ends = go ends.says ends.within
       where
-        go : Says (SeesAll SeesBundle start ends.bundles ends.at) written ends.before → BreaksOff (BeginsBundle ends.at ends.bundle) ends.before after.written
-            → StopsWithin start.pattern start.watch.n start.watch.x before after
+        go : Says (SeesAll AlerterSeesBundle start ends.bundles ends.at) written ends.before → BreaksOff (SeesFirstOfBundle ends.at ends.bundle) ends.before after.written
+            → AlerterStopsWithin start.pattern start.watch.n start.watch.x before after
         go (text, sees, is) (more, firsts, prefix) =
             let seen = bundles-seen stay ends.bundles start ends.at text sees in
             let own = firsts.sees in record {
@@ -93,7 +93,7 @@ module _ (stay : AlertsStay) (start : AlerterState) (new : IsBehind start.watch 
               prefix = subst (λ (w : Option (List ℕ)). WritesPrefix more w after.written) is prefix;
             }
 
-    pub end-reported : (end : WatchEnd Infallible) → AnswersWatch SeesBundle (λ _ _ _ _. ⊥) BeginsBundle first [] start behind written after end
+    pub end-reported : (end : WatchEnd Infallible) → AnswersWatch AlerterSeesBundle (λ _ _ _ _. ⊥) SeesFirstOfBundle first [] start behind written after end
         → AnswersAlerts start.pattern start.watch.n start.watch.x before after end
     end-reported Done whole = record {
       bundles = whole.bundles;

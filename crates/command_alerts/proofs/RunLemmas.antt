@@ -7,8 +7,8 @@ use Rattle.pattern_reader.specs.Read.{IsReadAs}
 use Rattle.match_run.specs.declared.watch_end.WatchEnd.TheVariants as end
 use Rattle.command_alerts.specs.declared.ending.AlertEnding.{AlertEnding}
 use Rattle.command_alerts.specs.declared.ending.AlertEnding.TheVariants.{Usage, PatternRefused, NotLeaf, Ended, NoMemory}
-use Rattle.command_alerts.specs.Tasks.{AlertTask, AskFor, IsReadAsNoLeaf}
-use Rattle.command_alerts.specs.Endings.{EndsTask, EndsAlerts, alert_status}
+use Rattle.command_alerts.specs.Tasks.{AlertTask, AskForAlerts, IsReadAsNoLeaf}
+use Rattle.command_alerts.specs.Endings.{EndsAlertTask, EndsAlerts, alert_status}
 use Rattle.command_alerts.specs.Runs.{ReportsRefusals}
 
 -- the law that a text is read as one pattern
@@ -16,14 +16,14 @@ abbrev pub OnePattern : Type 0
 OnePattern = (text : List ℕ) (p q : Pattern) → IsReadAs text p → IsReadAs text q → plain_pattern p ≡ plain_pattern q
 
 -- arguments ask for the alerts of one text
-one-text : (arguments : List (List ℕ)) (task other : AlertTask) → AskFor arguments task → AskFor arguments other → task.pattern ≡ other.pattern
+one-text : (arguments : List (List ℕ)) (task other : AlertTask) → AskForAlerts arguments task → AskForAlerts arguments other → task.pattern ≡ other.pattern
 one-text arguments task other asked same =
     let is : task.pattern ∷ asked.n_text ∷ asked.seconds_text ∷ [] ≡ other.pattern ∷ same.n_text ∷ same.seconds_text ∷ [] = sym asked.arguments_are ∙ same.arguments_are in
     cc
 
 module _ (arguments : List (List ℕ)) (before after : Streams) where
   -- the statuses of what is asked for
-  usage-task : (task : AlertTask) (ending : AlertEnding) → EndsTask before after ending task → alert_status ending ≢ 2
+  usage-task : (task : AlertTask) (ending : AlertEnding) → EndsAlertTask before after ending task → alert_status ending ≢ 2
   usage-task task Usage ends is = ends
   usage-task task (PatternRefused refusal) ends is = omega arith
   usage-task task NotLeaf ends is = omega arith
@@ -35,7 +35,7 @@ module _ (arguments : List (List ℕ)) (before after : Streams) where
   usage-task task (Ended end.NoMemory) ends is = omega arith
   usage-task task NoMemory ends is = omega arith
 
-  refused-task : OnePattern → (task : AlertTask) (ending : AlertEnding) → EndsTask before after ending task → alert_status ending ≡ 3 → IsReadAsNoLeaf task.pattern
+  refused-task : OnePattern → (task : AlertTask) (ending : AlertEnding) → EndsAlertTask before after ending task → alert_status ending ≡ 3 → IsReadAsNoLeaf task.pattern
   refused-task one task Usage ends is = absurd ends
   refused-task one task (PatternRefused refusal) ends is = λ p read. ends.0.unread p read.0
   refused-task one task NotLeaf ends is = λ p read.
@@ -49,7 +49,7 @@ module _ (arguments : List (List ℕ)) (before after : Streams) where
   refused-task one task (Ended end.NoMemory) ends is = absurd (omega arith)
   refused-task one task NoMemory ends is = absurd (omega arith)
 
-  no_leaf-task : (task : AlertTask) (ending : AlertEnding) → EndsTask before after ending task → IsReadAsNoLeaf task.pattern
+  no_leaf-task : (task : AlertTask) (ending : AlertEnding) → EndsAlertTask before after ending task → IsReadAsNoLeaf task.pattern
       → (alert_status ending ≡ 3) ⊎ (alert_status ending ≡ 1)
   no_leaf-task task Usage ends none = absurd ends
   no_leaf-task task (PatternRefused refusal) ends none = inl refl

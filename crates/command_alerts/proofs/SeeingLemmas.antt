@@ -19,10 +19,10 @@ use Rattle.match_run.proofs.ReadingLemmas.{last_after-append}
 use Rattle.match_run.specs.Entries.{AreEntriesOf}
 use Rattle.match_run.proofs.LogLemmas.{entries_of-more, entries_of-length}
 use Rattle.alert_window.specs.Alert.{IsAlert}
-use Rattle.alert_window.specs.WatchState.{Represents, AnswersRow, with_row, last_of}
+use Rattle.alert_window.specs.WatchState.{WatchRepresents, AnswersAlertRow, with_window_row, window_end}
 use Rattle.command_alerts.specs.Tasks.{IsOneLeaf}
-use Rattle.command_alerts.specs.Alerts.{IsLineOf, ReportsRow}
-use Rattle.command_alerts.specs.inner.Seeing.{AlerterState, IsBehind, IsReady, TakesRows, Sees, SeesFirst, row_of}
+use Rattle.command_alerts.specs.Alerts.{IsAlertLine, ReportsAlertRow}
+use Rattle.command_alerts.specs.inner.Seeing.{AlerterState, IsBehind, IsReadyAlerter, TakesLogRows, Sees, SeesFirst, alert_row}
 use Rattle.command_alerts.proofs.TellingLemmas.{AlertsStay, row-alone, takes-none, takes-more}
 
 -- a value of which more is known
@@ -38,42 +38,42 @@ no-fall before last time now none is same falls = none (subst (λ (l : Option �
 module _ (before after : AlerterState) (o : Observation) (holds : Bool) (same : after.pattern ≡ before.pattern)
     (kept : (after.watch.n ≡ before.watch.n) × (after.watch.x ≡ before.watch.x)) (number : o.number ≡ before.watch.rows + 1) where
   abbrev Answers : Bool → Type 0
-  Answers alert = (log : List LogEntry) → Represents before.watch log → IsInOrder log
-      → AnswersRow before.watch after.watch (with_row log o.first o.last holds) alert
+  Answers alert = (log : List LogEntry) → WatchRepresents before.watch log → IsInOrder log
+      → AnswersAlertRow before.watch after.watch (with_window_row log o.first o.last holds) alert
 
   takes : (text : List ℕ)
-      → ((log : List LogEntry) → IsBehind before.watch log → IsBehind after.watch (log ++ row_of o holds ∷ [])
-      × ReportsRow (IsAlert before.watch.n before.watch.x (log ++ row_of o holds ∷ [])) (length log + 1) (row_of o holds) text)
-      → TakesRows (row_of o holds ∷ []) before after text
+      → ((log : List LogEntry) → IsBehind before.watch log → IsBehind after.watch (log ++ alert_row o holds ∷ [])
+      × ReportsAlertRow (IsAlert before.watch.n before.watch.x (log ++ alert_row o holds ∷ [])) (length log + 1) (alert_row o holds) text)
+      → TakesLogRows (alert_row o holds ∷ []) before after text
   takes text reports = record {
     pattern_is = same;
     n_is = kept.0;
     x_is = kept.1;
     reports = λ log behind. record {
       behind = (reports log behind).0;
-      reports = row-alone (IsAlert before.watch.n before.watch.x (log ++ row_of o holds ∷ [])) (length log + 1) (row_of o holds) text (reports log behind).1;
+      reports = row-alone (IsAlert before.watch.n before.watch.x (log ++ alert_row o holds ∷ [])) (length log + 1) (alert_row o holds) text (reports log behind).1;
     };
   }
 
-  pub takes-alert : (line : List ℕ) → Answers true → IsLineOf o.number o.last line → TakesRows (row_of o holds ∷ []) before after line
+  pub takes-alert : (line : List ℕ) → Answers true → IsAlertLine o.number o.last line → TakesLogRows (alert_row o holds ∷ []) before after line
   takes-alert line answers is = takes line (λ log behind.
       let answer = answers log behind.represents behind.order in
-      let count : length (log ++ row_of o holds ∷ []) ≡ length log + 1 = omega (arith, length-append log (row_of o holds ∷ [])) in
+      let count : length (log ++ alert_row o holds ∷ []) ≡ length log + 1 = omega (arith, length-append log (alert_row o holds ∷ [])) in
       let own : o.number ≡ length log + 1 = number ∙ ap (λ (k : ℕ). k + 1) behind.represents.rows in (
         record { represents = answer.represents; order = answer.order },
         inl (
-          subst (IsAlert before.watch.n before.watch.x (log ++ row_of o holds ∷ [])) count (answer.alert.0 refl),
-          subst (λ (k : ℕ). IsLineOf k o.last line) own is,
+          subst (IsAlert before.watch.n before.watch.x (log ++ alert_row o holds ∷ [])) count (answer.alert.0 refl),
+          subst (λ (k : ℕ). IsAlertLine k o.last line) own is,
         ),
       ))
 
-  pub takes-other : Answers false → TakesRows (row_of o holds ∷ []) before after []
+  pub takes-other : Answers false → TakesLogRows (alert_row o holds ∷ []) before after []
   takes-other answers = takes [] (λ log behind.
       let answer = answers log behind.represents behind.order in
-      let count : length (log ++ row_of o holds ∷ []) ≡ length log + 1 = omega (arith, length-append log (row_of o holds ∷ [])) in (
+      let count : length (log ++ alert_row o holds ∷ []) ≡ length log + 1 = omega (arith, length-append log (alert_row o holds ∷ [])) in (
         record { represents = answer.represents; order = answer.order },
         inr (
-          (λ alert. let yes = answer.alert.1 (subst (IsAlert before.watch.n before.watch.x (log ++ row_of o holds ∷ [])) (sym count) alert) in cc),
+          (λ alert. let yes = answer.alert.1 (subst (IsAlert before.watch.n before.watch.x (log ++ alert_row o holds ∷ [])) (sym count) alert) in cc),
           refl,
         ),
       ))
@@ -85,34 +85,34 @@ sees-none objects state = record { rows = []; entries = refl; takes = takes-none
 -- one more
 pub sees-more : AlertsStay → (objects : List Data) (observations : List Observation) (o : Observation) (holds : Bool) (before between after : AlerterState)
     (text more : List ℕ) → Sees objects observations before between text → AreTruths objects o.roots (plain_pattern before.pattern) (holds ∷ [])
-    → TakesRows (row_of o holds ∷ []) between after more → Sees objects (observations ++ o ∷ []) before after (text ++ more)
+    → TakesLogRows (alert_row o holds ∷ []) between after more → Sees objects (observations ++ o ∷ []) before after (text ++ more)
 sees-more stay objects observations o holds before between after text more sees are takes = record {
-  rows = sees.rows ++ row_of o holds ∷ [];
+  rows = sees.rows ++ alert_row o holds ∷ [];
   entries = entries_of-more (plain_pattern before.pattern) objects observations sees.rows o (holds ∷ []) sees.entries are;
-  takes = takes-more stay sees.rows (row_of o holds ∷ []) before between after text more sees.takes takes;
+  takes = takes-more stay sees.rows (alert_row o holds ∷ []) before between after text more sees.takes takes;
 }
 
 -- ---- what is true after some observations
 
-last_of-more : (log : List LogEntry) (row : LogEntry) → last_of (log ++ row ∷ []) ≡ Some row.last
+last_of-more : (log : List LogEntry) (row : LogEntry) → window_end (log ++ row ∷ []) ≡ Some row.last
 last_of-more [] row = refl
 last_of-more (first ∷ []) row = refl
 last_of-more (first ∷ next ∷ log) row = last_of-more (next ∷ log) row
 
 last-entries : (p : PlainPattern) (objects : List Data) (observations : List Observation) (log rows : List LogEntry)
-    → AreEntriesOf p objects observations rows → last_of (log ++ rows) ≡ last_after (last_of log) observations
-last-entries p objects [] log rows entries = ap (λ (l : List LogEntry). last_of (log ++ l)) entries ∙ ap last_of (append-nil log)
+    → AreEntriesOf p objects observations rows → window_end (log ++ rows) ≡ last_after (window_end log) observations
+last-entries p objects [] log rows entries = ap (λ (l : List LogEntry). window_end (log ++ l)) entries ∙ ap window_end (append-nil log)
 last-entries p objects (o ∷ observations) log rows (truths, rest, are, others, is) =
     let row : LogEntry = record { first = o.first; last = o.last; truths = truths } in
-    ap (λ (l : List LogEntry). last_of (log ++ l)) is
-    ∙ sym (ap last_of (append_assoc log (row ∷ []) rest))
+    ap (λ (l : List LogEntry). window_end (log ++ l)) is
+    ∙ sym (ap window_end (append_assoc log (row ∷ []) rest))
     ∙ last-entries p objects observations (log ++ row ∷ []) rest others
     ∙ ap (λ (last : Option ℤ). last_after last observations) (last_of-more log row)
-    ∙ sym (last_after-append (last_of log) (o ∷ []) observations)
+    ∙ sym (last_after-append (window_end log) (o ∷ []) observations)
 
 -- one is ready again
 pub ready-after : (objects : List Data) (observations : List Observation) (before after : AlerterState) (text : List ℕ)
-    → IsReady before → Sees objects observations before after text → IsReady after
+    → IsReadyAlerter before → Sees objects observations before after text → IsReadyAlerter after
 ready-after objects observations before after text ready sees = record {
   sound = subst (λ (p : Pattern). IsSoundPattern (plain_pattern p)) (sym sees.takes.pattern_is) ready.sound;
   one = subst IsOneLeaf (sym sees.takes.pattern_is) ready.one;
@@ -121,7 +121,7 @@ ready-after objects observations before after text ready sees = record {
 }
 
 pub rows-after : (objects : List Data) (observations : List Observation) (before after : AlerterState) (text : List ℕ)
-    → IsReady before → Sees objects observations before after text → after.watch.rows ≡ before.watch.rows + length observations
+    → IsReadyAlerter before → Sees objects observations before after text → after.watch.rows ≡ before.watch.rows + length observations
 rows-after objects observations before after text ready sees =
     let represents = (sees.takes.reports ready.log ready.behind).behind.represents in
     omega (
@@ -133,7 +133,7 @@ rows-after objects observations before after text ready sees =
     )
 
 pub last-after : (objects : List Data) (observations : List Observation) (before after : AlerterState) (text : List ℕ)
-    → IsReady before → Sees objects observations before after text → after.watch.last ≡ last_after before.watch.last observations
+    → IsReadyAlerter before → Sees objects observations before after text → after.watch.last ≡ last_after before.watch.last observations
 last-after objects observations before after text ready sees =
     let represents = (sees.takes.reports ready.log ready.behind).behind.represents in
     represents.last ∙ last-entries (plain_pattern before.pattern) objects observations ready.log sees.rows sees.entries
@@ -141,12 +141,12 @@ last-after objects observations before after text ready sees =
 
 -- what may follow after one row
 pub follow-after : (before after : AlerterState) (o : Observation) (holds : Bool) (text : List ℕ) (observations : List Observation)
-    → IsReady before → TakesRows (row_of o holds ∷ []) before after text
+    → IsReadyAlerter before → TakesLogRows (alert_row o holds ∷ []) before after text
     → MayFollow (Some o.last) ((before.watch.rows + 1) + 1) observations → MayFollow after.watch.last (after.watch.rows + 1) observations
 follow-after before after o holds text observations ready takes follow =
     let represents = (takes.reports ready.log ready.behind).behind.represents in
-    let rows : after.watch.rows ≡ before.watch.rows + 1 = omega (arith, represents.rows, ready.behind.represents.rows, length-append ready.log (row_of o holds ∷ [])) in
-    let last : after.watch.last ≡ Some o.last = represents.last ∙ last_of-more ready.log (row_of o holds) in
+    let rows : after.watch.rows ≡ before.watch.rows + 1 = omega (arith, represents.rows, ready.behind.represents.rows, length-append ready.log (alert_row o holds ∷ [])) in
+    let last : after.watch.last ≡ Some o.last = represents.last ∙ last_of-more ready.log (alert_row o holds) in
     subst (λ (l : Option ℤ). MayFollow l (after.watch.rows + 1) observations) (sym last)
     (subst (λ (n : ℕ). MayFollow (Some o.last) (n + 1) observations) (sym rows) follow)
 

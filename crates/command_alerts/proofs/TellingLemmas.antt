@@ -3,15 +3,15 @@ use Rattle.std.proofs.Common.{◌≡◌, ◌↔◌, inl, inr, ℕ, suc, ◌+◌,
 use Rattle.std.proofs.lemmas.List.{append-nil}
 use Rattle.match_bindings.specs.declared.log_entry.LogEntry.{LogEntry}
 use Rattle.alert_window.specs.Alert.{IsAlert}
-use Rattle.command_alerts.specs.Alerts.{ReportsRow, ReportsRows}
-use Rattle.command_alerts.specs.inner.Seeing.{AlerterState, IsBehind, ReportsBehind, TakesRows}
+use Rattle.command_alerts.specs.Alerts.{ReportsAlertRow, ReportsRows}
+use Rattle.command_alerts.specs.inner.Seeing.{AlerterState, IsBehind, ReportsBehind, TakesLogRows}
 
 -- the law on alerts and longer logs
 abbrev pub AlertsStay : Type 0
 AlertsStay = (n x number : ℕ) (log more : List LogEntry) → number ≤ length log → IsAlert n x (log ++ more) number ↔ IsAlert n x log number
 
 -- two ways to be an alert that agree on the rows
-row-same : (P Q : ℕ → Type 0) (number : ℕ) (row : LogEntry) (text : List ℕ) → P number ↔ Q number → ReportsRow P number row text → ReportsRow Q number row text
+row-same : (P Q : ℕ → Type 0) (number : ℕ) (row : LogEntry) (text : List ℕ) → P number ↔ Q number → ReportsAlertRow P number row text → ReportsAlertRow Q number row text
 row-same P Q number row text same (inl (alert, line)) = inl (same.0 alert, line)
 row-same P Q number row text same (inr (none, is)) = inr ((λ alert. none (same.1 alert)), is)
 
@@ -42,7 +42,7 @@ rows-append P number (row ∷ rows) others text more (own, later, reports, rest,
     )
 
 -- one row
-pub row-alone : (P : ℕ → Type 0) (number : ℕ) (row : LogEntry) (text : List ℕ) → ReportsRow P number row text → ReportsRows P number (row ∷ []) text
+pub row-alone : (P : ℕ → Type 0) (number : ℕ) (row : LogEntry) (text : List ℕ) → ReportsAlertRow P number row text → ReportsRows P number (row ∷ []) text
 row-alone P number row text reports = (text, [], reports, refl, sym (append-nil text))
 
 -- what is reported of rows after a log, and of others after these
@@ -60,7 +60,7 @@ behind-more stay n x log rows others text more reports behind =
     (subst (λ (i : ℕ). ReportsRows (IsAlert n x ((log ++ rows) ++ others)) i others more) next behind))
 
 -- no rows
-pub takes-none : (state : AlerterState) → TakesRows [] state state []
+pub takes-none : (state : AlerterState) → TakesLogRows [] state state []
 takes-none state = record {
   pattern_is = refl;
   n_is = refl;
@@ -70,7 +70,7 @@ takes-none state = record {
 
 -- rows and then others
 pub takes-more : AlertsStay → (rows others : List LogEntry) (before between after : AlerterState) (text more : List ℕ)
-    → TakesRows rows before between text → TakesRows others between after more → TakesRows (rows ++ others) before after (text ++ more)
+    → TakesLogRows rows before between text → TakesLogRows others between after more → TakesLogRows (rows ++ others) before after (text ++ more)
 takes-more stay rows others before between after text more takes then = record {
   pattern_is = then.pattern_is ∙ takes.pattern_is;
   n_is = then.n_is ∙ takes.n_is;

@@ -5,19 +5,19 @@ use Rattle.match_bindings.specs.declared.log_entry.LogEntry.{LogEntry}
 use Rattle.alert_window.specs.Alert.{IsAlert}
 
 -- alert I at TIME
-pub record IsLineOf (number : ℕ) (last : ℤ) (line : List ℕ) : Type 0 where
+pub record IsAlertLine (number : ℕ) (last : ℤ) (line : List ℕ) : Type 0 where
   pub time : List ℕ
   pub time_is : IsCanonicalTextOf time last
   pub line_is : line ≡ codes "alert " ++ (decimal number ++ (codes " at " ++ (time ++ codes "\n")))
 
 -- for the row with this number: its line with its last time, if it is an alert, or nothing
-abbrev pub ReportsRow : (ℕ → Type 0) → ℕ → LogEntry → List ℕ → Type 0
-ReportsRow IsAlertAt number row text = (IsAlertAt number × IsLineOf number row.last text) ⊎ ((¬ IsAlertAt number) × (text ≡ []))
+abbrev pub ReportsAlertRow : (ℕ → Type 0) → ℕ → LogEntry → List ℕ → Type 0
+ReportsAlertRow IsAlertAt number row text = (IsAlertAt number × IsAlertLine number row.last text) ⊎ ((¬ IsAlertAt number) × (text ≡ []))
 
 -- for rows in order, the first of which has this number
 abbrev pub ReportsRows : (ℕ → Type 0) → ℕ → List LogEntry → List ℕ → Type 0
 ReportsRows IsAlertAt number [] text = text ≡ []
-ReportsRows IsAlertAt number (row ∷ rows) text = (own : List ℕ) × (later : List ℕ) × ReportsRow IsAlertAt number row own
+ReportsRows IsAlertAt number (row ∷ rows) text = (own : List ℕ) × (later : List ℕ) × ReportsAlertRow IsAlertAt number row own
     × ReportsRows IsAlertAt (number + 1) rows later × (text ≡ own ++ later)
 
 -- for a log: in order, the line of each row that is an alert over the whole log, and nothing else

@@ -10,13 +10,13 @@ use Rattle.match_run.specs.declared.watch_end.WatchEnd.TheVariants as end
 use Rattle.command_reasons.specs.Reasons.{IsRefusedPattern, pattern_reason}
 use Rattle.command_alerts.specs.declared.ending.AlertEnding.{AlertEnding}
 use Rattle.command_alerts.specs.declared.ending.AlertEnding.TheVariants.{Usage, PatternRefused, NotLeaf, Ended, NoMemory}
-use Rattle.command_alerts.specs.Tasks.{AlertTask, AskFor, AskForNothing, IsReadAsLeaf, IsReadAsMore}
+use Rattle.command_alerts.specs.Tasks.{AlertTask, AskForAlerts, AskForNoAlerts, IsReadAsLeaf, IsReadAsMore}
 use Rattle.command_alerts.specs.Telling.{AnswersAlerts}
 
 -- the arguments request a task, for which that holds
-pub record AskSo (arguments : List (List ℕ)) (Holds : AlertTask → Type 0) : Type 0 where
+pub record AskForAlertsWhere (arguments : List (List ℕ)) (Holds : AlertTask → Type 0) : Type 0 where
   pub task : AlertTask
-  pub asked : AskFor arguments task
+  pub asked : AskForAlerts arguments task
   pub holds : Holds task
 
 -- the text is read as one observation expression, and the alerts of the input were reported
@@ -26,17 +26,17 @@ pub record FollowsInput (before after : Streams) (ended : WatchEnd Infallible) (
   pub answers : AnswersAlerts pattern task.n task.seconds before after ended
 
 -- what an ending implies for what is requested
-abbrev pub EndsTask : Streams → Streams → AlertEnding → AlertTask → Type 0
-EndsTask before after Usage task = ⊥
-EndsTask before after (PatternRefused refusal) task = IsRefusedPattern task.pattern refusal × AreUntouched before after
-EndsTask before after NotLeaf task = IsReadAsMore task.pattern × AreUntouched before after
-EndsTask before after (Ended ended) task = FollowsInput before after ended task
-EndsTask before after NoMemory task = AreUntouched before after
+abbrev pub EndsAlertTask : Streams → Streams → AlertEnding → AlertTask → Type 0
+EndsAlertTask before after Usage task = ⊥
+EndsAlertTask before after (PatternRefused refusal) task = IsRefusedPattern task.pattern refusal × AreUntouched before after
+EndsAlertTask before after NotLeaf task = IsReadAsMore task.pattern × AreUntouched before after
+EndsAlertTask before after (Ended ended) task = FollowsInput before after ended task
+EndsAlertTask before after NoMemory task = AreUntouched before after
 
 -- the arguments are no command line, and that is the ending; or they request a task, for which it
 -- says that
 abbrev pub EndsAlerts : List (List ℕ) → Streams → Streams → AlertEnding → Type 0
-EndsAlerts arguments before after ending = (AskForNothing arguments × (ending ≡ Usage) × AreUntouched before after) ⊎ AskSo arguments (EndsTask before after ending)
+EndsAlerts arguments before after ending = (AskForNoAlerts arguments × (ending ≡ Usage) × AreUntouched before after) ⊎ AskForAlertsWhere arguments (EndsAlertTask before after ending)
 
 abbrev pub alert_status : AlertEnding → ℕ
 alert_status (Ended end.Done) = 0

@@ -15,11 +15,11 @@ pub record AlertTask : Type 0 where
   pub seconds : ℕ
 
 -- what is requested
-abbrev pub task_of : AlertRequest → AlertTask
-task_of request = record { pattern = request.pattern.now; n = request.n; seconds = request.seconds }
+abbrev pub alert_task : AlertRequest → AlertTask
+alert_task request = record { pattern = request.pattern.now; n = request.n; seconds = request.seconds }
 
 -- the arguments are PATTERN N SECONDS
-pub record AskFor (arguments : List (List ℕ)) (task : AlertTask) : Type 0 where
+pub record AskForAlerts (arguments : List (List ℕ)) (task : AlertTask) : Type 0 where
   pub n_text : List ℕ
   pub seconds_text : List ℕ
   pub arguments_are : arguments ≡ task.pattern ∷ n_text ∷ seconds_text ∷ []
@@ -27,8 +27,8 @@ pub record AskFor (arguments : List (List ℕ)) (task : AlertTask) : Type 0 wher
   pub seconds_is : IsNumberIn 1 MAX_SECONDS seconds_text task.seconds
 
 -- the arguments are nothing of the kind
-abbrev pub AskForNothing : List (List ℕ) → Type 0
-AskForNothing arguments = (task : AlertTask) → ¬ AskFor arguments task
+abbrev pub AskForNoAlerts : List (List ℕ) → Type 0
+AskForNoAlerts arguments = (task : AlertTask) → ¬ AskForAlerts arguments task
 
 -- the numbers are such as may be asked for
 abbrev pub IsInRange : AlertTask → Type 0

@@ -49,7 +49,7 @@ pub record ReportsTaken (p : Pattern) (n x : ℕ) (before after : Streams) : Typ
 
 -- the run stopped within a bundle, and read no further than its line: the alerts of the bundles
 -- before were reported, and of what is reported of its first observations a prefix was written
-pub record StopsWithin (p : Pattern) (n x : ℕ) (before after : Streams) : Type 0 where
+pub record AlerterStopsWithin (p : Pattern) (n x : ℕ) (before after : Streams) : Type 0 where
   pub earlier : List BundleOf
   pub bundle : BundleOf
   pub begins : HasPrefix Lines before.left (earlier ++ bundle ∷ [])
@@ -68,7 +68,7 @@ pub record StopsWithin (p : Pattern) (n x : ℕ) (before after : Streams) : Type
   pub prefix : WritesPrefix more (written_with text before.written) after.written
 
 -- the run stopped between two bundles: the alerts of those before were reported
-pub record StopsBetween (p : Pattern) (n x : ℕ) (before after : Streams) : Type 0 where
+pub record AlertsStopBetween (p : Pattern) (n x : ℕ) (before after : Streams) : Type 0 where
   pub bundles : List BundleOf
   pub begins : HasPrefix Lines before.left bundles
   pub reports : ReportsBundles p n x bundles before.written after.written
@@ -78,6 +78,6 @@ abbrev pub AnswersAlerts : Pattern → ℕ → ℕ → Streams → Streams → W
 AnswersAlerts p n x before after Done = ReportsWhole p n x before after
 AnswersAlerts p n x before after (Input line why) = ReportsBefore p n x before after line why
 AnswersAlerts p n x before after ReadFault = ReportsTaken p n x before after
-AnswersAlerts p n x before after WriteFault = StopsWithin p n x before after
+AnswersAlerts p n x before after WriteFault = AlerterStopsWithin p n x before after
 AnswersAlerts p n x before after (Stopped never) = ⊥
-AnswersAlerts p n x before after NoMemory = StopsBetween p n x before after ⊎ StopsWithin p n x before after
+AnswersAlerts p n x before after NoMemory = AlertsStopBetween p n x before after ⊎ AlerterStopsWithin p n x before after

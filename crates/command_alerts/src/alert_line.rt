@@ -1,5 +1,5 @@
 ghost use Rattle.std.specs.Prelude.{IfOk};
-ghost use Rattle.command_alerts.specs.Alerts.{IsLineOf};
+ghost use Rattle.command_alerts.specs.Alerts.{IsAlertLine};
 
 use flow_values::NoMemory;
 use itoa::Buffer;
@@ -8,7 +8,7 @@ use stix_times::{Instant, write};
 
 /// The line of an alert: the observation's number, and its last time.
 pub(crate) fn line_of(alloc: Global, number: u64, last: Instant) -> Result<Vec<u8>, NoMemory>
-    ensures { IfOk result (λ line. IsLineOf number last line.items) }
+    ensures { IfOk result (λ line. IsAlertLine number last line.items) }
 {
     let mut time = [0; 32];
     let length = write(last, &mut time);

@@ -4,8 +4,9 @@ ghost use Rattle.stix_bundles.specs.Objects.{data_in};
 ghost use Rattle.pattern_types.specs.PlainPattern.{plain_pattern};
 ghost use Rattle.match_stream.specs.MatcherState.{Falls};
 ghost use Rattle.match_run.specs.Reading.{MayFollow};
-ghost use Rattle.command_alerts.specs.inner.Seeing.{IsReady, TakesRows, SeesBundle, BeginsBundle};
-ghost use Rattle.command_alerts.specs.inner.Seeing.{SeesSoFar, SeesPart, row_of};
+ghost use Rattle.command_alerts.specs.inner.Seeing.{IsReadyAlerter, TakesLogRows};
+ghost use Rattle.command_alerts.specs.inner.Seeing.{AlerterSeesBundle, SeesFirstOfBundle};
+ghost use Rattle.command_alerts.specs.inner.Seeing.{SeesSoFar, SeesPart, alert_row};
 
 use crate::alert_line::line_of;
 use alert_window::laws::alerts_persist;
@@ -63,7 +64,7 @@ impl<'p> Alerter<'p> {
         pending: &mut Pending,
         output: &mut O,
     ) -> Result<(), CutShort>
-        requires ready { IsReady self.old }
+        requires ready { IsReadyAlerter self.old }
         requires follow { MayFollow self.old.watch.last
             (self.old.watch.rows + 1) batch.now.observations }
         requires empty { pending.old ≡ [] }
@@ -93,12 +94,12 @@ impl<'p> Alerter<'p> {
     /// Processes the next observation, for which `holds` says whether the expression matches.
     /// Returns its line if it is an alert, else nothing.
     fn reported_of(&mut self, observation: &Observation, holds: bool) -> Result<Vec<u8>, NoMemory>
-        requires ready { IsReady self.old }
+        requires ready { IsReadyAlerter self.old }
         requires span { observation.now.first ≤ℤ observation.now.last }
         requires number { observation.now.number ≡ self.old.watch.rows + 1 }
         requires order { ¬ (Falls self.old.watch.last observation.now.last) }
         ensures { IfOk result
-            (λ text. TakesRows (row_of observation.now holds ∷ []) self.old self.new text.items) }
+            (λ text. TakesLogRows (alert_row observation.now holds ∷ []) self.old self.new text.items) }
     {
         let number = observation.number;
         match self.watch.take(observation.first, observation.last, holds) {
@@ -121,17 +122,17 @@ fn holds_alone(truths: &[bool]) -> bool
 impl<'p> Watcher for Alerter<'p> {
     type Stop = Infallible;
 
-    ghost ready = { IsReady };
+    ghost ready = { IsReadyAlerter };
 
     ghost seen = { λ alerter. alerter.watch.rows };
 
     ghost last = { λ alerter. alerter.watch.last };
 
-    ghost sees = { SeesBundle };
+    ghost sees = { AlerterSeesBundle };
 
     ghost stops = { λ _ _ _ _. ⊥ };
 
-    ghost begins = { BeginsBundle };
+    ghost begins = { SeesFirstOfBundle };
 
     fn see<O: Sink>(&mut self, batch: &Batch, output: &mut O) -> Result<(), SeeEnd<Infallible>> {
         let mut pending = Pending::new(self.alloc);

@@ -1,8 +1,8 @@
 //! The arguments `PATTERN N SECONDS`.
 
 ghost use Rattle.std.specs.Prelude.{IfNone, IfSome};
-ghost use Rattle.command_line.specs.CommandLines.{texts};
-ghost use Rattle.command_alerts.specs.Tasks.{AskFor, AskForNothing, IsInRange, task_of};
+ghost use Rattle.command_line.specs.CommandLines.{argument_texts};
+ghost use Rattle.command_alerts.specs.Tasks.{AskForAlerts, AskForNoAlerts, IsInRange, alert_task};
 
 use command_line::number_in;
 
@@ -22,9 +22,9 @@ pub(crate) struct AlertRequest<'a> {
 
 /// Parses the arguments after the program's name; `None` if they are no command line.
 pub(crate) fn read_request<'a>(arguments: &'a [String]) -> Option<AlertRequest<'a>>
-    ensures some { IfSome result (λ request. AskFor (texts arguments.entry.now) (task_of request)) }
-    ensures range { IfSome result (λ request. IsInRange (task_of request)) }
-    ensures none { IfNone result (AskForNothing (texts arguments.entry.now)) }
+    ensures some { IfSome result (λ request. AskForAlerts (argument_texts arguments.entry.now) (alert_task request)) }
+    ensures range { IfSome result (λ request. IsInRange (alert_task request)) }
+    ensures none { IfNone result (AskForNoAlerts (argument_texts arguments.entry.now)) }
 {
     let [pattern, n, seconds] = arguments else {
         return None;

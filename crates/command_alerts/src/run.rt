@@ -2,12 +2,13 @@ ghost use Rattle.std.specs.Prelude.{◌≡◌, ◌≢◌, ◌⊎◌, ℕ, List, 
 ghost use Rattle.flow_edges.specs.Faults.{Counted};
 ghost use Rattle.flow_edges.specs.Streams.{streams};
 ghost use Rattle.pattern_reader.specs.Read.{IsReadAs};
-ghost use Rattle.command_line.specs.CommandLines.{texts};
+ghost use Rattle.command_line.specs.CommandLines.{argument_texts};
 ghost use Rattle.command_reasons.specs.Reasons.{WritesReason};
-ghost use Rattle.command_alerts.specs.Tasks.{IsInRange, IsReadAsLeaf, task_of};
+ghost use Rattle.command_alerts.specs.Tasks.{IsInRange, IsReadAsLeaf, alert_task};
 ghost use Rattle.command_alerts.specs.Telling.{AnswersAlerts};
-ghost use Rattle.command_alerts.specs.Endings.{EndsTask, EndsAlerts, alert_status, IsAlertReason};
-ghost use Rattle.command_alerts.specs.Runs.{Ends, ReportsRefusals, ReportsInput};
+ghost use Rattle.command_alerts.specs.Endings.{EndsAlertTask, EndsAlerts, alert_status};
+ghost use Rattle.command_alerts.specs.Endings.{IsAlertReason};
+ghost use Rattle.command_alerts.specs.Runs.{EndsAlertRun, ReportsRefusals, ReportsInput};
 
 use crate::alerter::Alerter;
 use crate::arguments::{AlertRequest, read_request};
@@ -34,7 +35,7 @@ fn watch_input<I: Source, O: Sink>(
     output: &mut O,
 ) -> Result<WatchEnd<Infallible>, NoMemory>
     requires read { IsReadAsLeaf request.pattern.now pattern.now }
-    requires range { IsInRange (task_of request) }
+    requires range { IsInRange (alert_task request) }
     ensures end { IfOk result
         (AnswersAlerts pattern.now request.entry.n request.entry.seconds
         (streams (I.left input.old) (I.began input.old) (O.written output.old))
@@ -62,10 +63,10 @@ fn report_alerts<I: Source, O: Sink>(
     output: &mut O,
 ) -> AlertEnding
     requires read { IsReadAs request.pattern.now pattern.now }
-    requires range { IsInRange (task_of request) }
-    ensures end { EndsTask (streams (I.left input.old) (I.began input.old) (O.written output.old))
+    requires range { IsInRange (alert_task request) }
+    ensures end { EndsAlertTask (streams (I.left input.old) (I.began input.old) (O.written output.old))
         (streams (I.left input.new) (I.began input.new) (O.written output.new)) result
-        (task_of request.entry) }
+        (alert_task request.entry) }
     ensures untouched { (alert_status result ≡ 2) ⊎ (alert_status result ≡ 3)
         → (input.new ≡ input.old) × (output.new ≡ output.old) }
     ensures input { Counted (alert_status result ≡ 5) (I.faults input.old) (I.faults input.new) }
@@ -87,10 +88,10 @@ fn answer<I: Source, O: Sink>(
     input: &mut I,
     output: &mut O,
 ) -> AlertEnding
-    requires range { IsInRange (task_of request) }
-    ensures end { EndsTask (streams (I.left input.old) (I.began input.old) (O.written output.old))
+    requires range { IsInRange (alert_task request) }
+    ensures end { EndsAlertTask (streams (I.left input.old) (I.began input.old) (O.written output.old))
         (streams (I.left input.new) (I.began input.new) (O.written output.new)) result
-        (task_of request.entry) }
+        (alert_task request.entry) }
     ensures untouched { (alert_status result ≡ 2) ⊎ (alert_status result ≡ 3)
         → (input.new ≡ input.old) × (output.new ≡ output.old) }
     ensures input { Counted (alert_status result ≡ 5) (I.faults input.old) (I.faults input.new) }
@@ -115,7 +116,7 @@ fn execute<I: Source, O: Sink>(
     input: &mut I,
     output: &mut O,
 ) -> AlertEnding
-    ensures end { EndsAlerts (texts arguments.now)
+    ensures end { EndsAlerts (argument_texts arguments.now)
         (streams (I.left input.old) (I.began input.old) (O.written output.old))
         (streams (I.left input.new) (I.began input.new) (O.written output.new)) result }
     ensures untouched { (alert_status result ≡ 2) ⊎ (alert_status result ≡ 3)
@@ -149,17 +150,17 @@ pub fn run_alerts<I: Source, O: Sink, E: Sink>(
     output: &mut O,
     faults: &mut E,
 ) -> u8
-    ensures ends { Ends (texts arguments.now)
+    ensures ends { EndsAlertRun (argument_texts arguments.now)
         (streams (I.left input.old) (I.began input.old) (O.written output.old))
         (streams (I.left input.new) (I.began input.new) (O.written output.new)) result
         (λ reason. WritesReason reason (E.written faults.old) (E.written faults.new)
         (E.faults faults.old) (E.faults faults.new)) }
     // what the statuses 2 and 3 mean
-    ensures refusals { ReportsRefusals (texts arguments.now) result }
+    ensures refusals { ReportsRefusals (argument_texts arguments.now) result }
     // with status 0 or 4 exactly the alerts of the bundles before the end, or the refused line,
     // were written
     ensures reported { (result ≡ 0) ⊎ (result ≡ 4)
-        → ReportsInput (texts arguments.now)
+        → ReportsInput (argument_texts arguments.now)
         (streams (I.left input.old) (I.began input.old) (O.written output.old))
         (streams (I.left input.new) (I.began input.new) (O.written output.new)) result }
     ensures untouched { (result ≡ 2) ⊎ (result ≡ 3)

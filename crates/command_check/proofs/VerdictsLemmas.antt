@@ -5,7 +5,7 @@ use Rattle.stix_json.specs.declared.value.Json.{Json}
 use Rattle.stix_json.specs.declared.refusal.JsonRefusal.{JsonRefusal}
 use Rattle.stix_json.specs.declared.refusal.JsonRefusal.TheVariants as refused
 use Rattle.stix_json.specs.DataOf.{data_of}
-use Rattle.stix_json.specs.Refusal.{refusal_of}
+use Rattle.stix_json.specs.Refusal.{data_refusal}
 use Rattle.stix_json.specs.Reading.{IsValueOf, IsJsonOf, IsJsonRefusedAs}
 use Rattle.stix_bundles.specs.declared.refusal.BundleRefusal.{BundleRefusal}
 use Rattle.stix_bundles.specs.declared.refusal.BundleRefusal.TheVariants.{NotBundle, Breaks, NoMemory}
@@ -108,7 +108,7 @@ validated_once versions markings one d a b x y = elim (refused_as d a x) [
 -- bytes that are refused as JSON: they have no value, or it is refused
 abbrev IsRefusalOf : List ℕ → JsonRefusal → Type 0
 IsRefusalOf bytes refusal = ((refusal ≡ refused.NotJson) × ((d : Data) → ¬ (IsValueOf bytes d)))
-    ⊎ ((d : Data) × IsValueOf bytes d × (refusal_of d ≡ Some refusal))
+    ⊎ ((d : Data) × IsValueOf bytes d × (data_refusal d ≡ Some refusal))
 
 refusal_of_bytes : (bytes : List ℕ) (refusal : JsonRefusal) → refusal ≢ refused.NoMemory → IsJsonRefusedAs bytes refusal → IsRefusalOf bytes refusal
 refusal_of_bytes bytes refused.NotJson other why = inl (refl, why)
@@ -123,7 +123,7 @@ no_json : (bytes : List ℕ) (value : Json) (refusal : JsonRefusal) → IsJsonOf
 no_json bytes value refusal is (inl none) = none.1 (data_of value) is.value
 no_json bytes value refusal is (inr some) =
     let same : some.0 ≡ data_of value = one_value bytes some.0 (data_of value) some.1 is.value in
-    let clash : Some refusal ≡ None = sym some.2 ∙ ap refusal_of same ∙ is.good in
+    let clash : Some refusal ≡ None = sym some.2 ∙ ap data_refusal same ∙ is.good in
     cc
 
 one_refusal : (bytes : List ℕ) (r s : JsonRefusal) → IsRefusalOf bytes r → IsRefusalOf bytes s → r ≡ s
@@ -132,7 +132,7 @@ one_refusal bytes r s (inl a) (inr b) = absurd (a.1 b.0 b.1)
 one_refusal bytes r s (inr a) (inl b) = absurd (b.1 a.0 a.1)
 one_refusal bytes r s (inr a) (inr b) =
     let same : a.0 ≡ b.0 = one_value bytes a.0 b.0 a.1 b.1 in
-    ap (λ (o : Option JsonRefusal). unwrap_or o r) (sym a.2 ∙ ap refusal_of same ∙ b.2)
+    ap (λ (o : Option JsonRefusal). unwrap_or o r) (sym a.2 ∙ ap data_refusal same ∙ b.2)
 
 -- bytes are validated by their value, or have none
 record NoJsonFor (bytes : List ℕ) (a : Verdict) : Type 0 where

@@ -4,7 +4,7 @@ use Rattle.std.specs.Prelude.{◌≡◌, ℕ, ◌+◌, List, [], ◌++◌, flat_
 use Rattle.flow_edges.specs.declared.source.TheConstants.{MAX_READ}
 use Rattle.flow_edges.specs.Flow.{TakesAtMost, written_with, WritesPrefix}
 use Rattle.flow_lines.specs.declared.whole_input.TheConstants.{MAX_WHOLE_INPUT}
-use Rattle.flow_lines.specs.WholeInput.{IsWhole, IsTooLong}
+use Rattle.flow_lines.specs.WholeInput.{IsWholeInput, IsTooLong}
 use Rattle.stix_bundles.specs.declared.object_break.ObjectBreak.{ObjectBreak}
 use Rattle.stix_versions.specs.declared.version_break.VersionBreak.{VersionBreak}
 use Rattle.stix_versions.specs.declared.marking_break.MarkingBreak.{MarkingBreak}
@@ -41,7 +41,7 @@ verdict_text (verdict.Refused rule) = []
 -- the whole input was read, and that is the verdict on it
 pub record IsVerdictOn (before after : Streams) (found : Verdict) : Type 0 where
   pub bytes : List ℕ
-  pub whole : IsWhole bytes before.left after.left
+  pub whole : IsWholeInput bytes before.left after.left
   pub validated : IsValidated bytes found
 
 -- at most the allowed number of bytes, and one more read, are taken from the input

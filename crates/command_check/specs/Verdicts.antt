@@ -45,17 +45,17 @@ abbrev pub HasJson : List ℕ → (Data → Type 0) → Type 0
 HasJson bytes P = (value : Json) × IsJsonOf bytes value × P (data_of value)
 
 -- why bytes of an allowed length are refused: they are no JSON value, or the value is no bundle
-abbrev pub IsRefusedFor : List ℕ → InputRule → Type 0
-IsRefusedFor bytes LineTooLong = ⊥
-IsRefusedFor bytes InputTooLong = ⊥
-IsRefusedFor bytes (Embedded object) = ⊥
-IsRefusedFor bytes (OutOfOrder last now) = ⊥
-IsRefusedFor bytes (NoJson refusal) = (refusal ≢ json_refusal.NoMemory) × IsJsonRefusedAs bytes refusal
-IsRefusedFor bytes (NoBundle refusal) = HasJson bytes (λ d. IsNotBundleFor d (NoBundle refusal))
+abbrev pub IsRefusedBundle : List ℕ → InputRule → Type 0
+IsRefusedBundle bytes LineTooLong = ⊥
+IsRefusedBundle bytes InputTooLong = ⊥
+IsRefusedBundle bytes (Embedded object) = ⊥
+IsRefusedBundle bytes (OutOfOrder last now) = ⊥
+IsRefusedBundle bytes (NoJson refusal) = (refusal ≢ json_refusal.NoMemory) × IsJsonRefusedAs bytes refusal
+IsRefusedBundle bytes (NoBundle refusal) = HasJson bytes (λ d. IsNotBundleFor d (NoBundle refusal))
 
 -- the verdict on some bytes
 abbrev pub IsValidated : List ℕ → Verdict → Type 0
 IsValidated bytes (Sound count) = HasJson bytes (λ d. IsBundleValidated d (Sound count))
 IsValidated bytes (Broken breaks) = HasJson bytes (λ d. IsBundleValidated d (Broken breaks))
 IsValidated bytes (Unfit versions markings) = HasJson bytes (λ d. IsBundleValidated d (Unfit versions markings))
-IsValidated bytes (Refused rule) = IsRefusedFor bytes rule
+IsValidated bytes (Refused rule) = IsRefusedBundle bytes rule

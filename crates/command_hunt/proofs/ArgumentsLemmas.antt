@@ -4,23 +4,23 @@ use Rattle.std.proofs.Math.Seq.{take-length}
 use Rattle.std.proofs.lemmas.Bool.{false≢true, eqb-true}
 use Rattle.std.proofs.lemmas.List.{map-append}
 use Rattle.stix_times.specs.declared.refusal.TimeRefusal.{TimeRefusal}
-use Rattle.stix_times.specs.Reading.{IsTextOf, Reads}
-use Rattle.command_line.specs.CommandLines.{IsNumberIn, IsNumberOr, texts}
+use Rattle.stix_times.specs.Reading.{IsTextOfInstant, ReadsTimestamp}
+use Rattle.command_line.specs.CommandLines.{IsNumberIn, IsNumberOr, argument_texts}
 use Rattle.command_line.specs.declared.numbers.TheConstants.{DEFAULT_RETAINED_LIMIT, MAX_RETAINED_LIMIT}
-use Rattle.command_hunt.specs.Tasks.{HuntTask, ArePositions, AreWithOption, OptionBefore, OptionAfter, AskFor, AskForNothing, task_of}
+use Rattle.command_hunt.specs.Tasks.{HuntTask, ArePositions, AreWithOption, OptionBefore, OptionAfter, AskForHunt, AskForNoHunt, hunt_task}
 use Rattle.command_hunt.specs.declared.arguments.HuntRequest.{HuntRequest}
 
 abbrev Argument : Type 0
 Argument = String Global
 
-pub one-argument : (arguments : List Argument) (a : Argument) → 1 ≤ length arguments → length arguments < 2 → a ≡ get_or arguments 0 a → texts arguments ≡ string_bytes a ∷ []
+pub one-argument : (arguments : List Argument) (a : Argument) → 1 ≤ length arguments → length arguments < 2 → a ≡ get_or arguments 0 a → argument_texts arguments ≡ string_bytes a ∷ []
 one-argument [] a least most is = absurd (omega arith)
 one-argument (x ∷ []) a least most is = ap (λ (argument : Argument). string_bytes argument ∷ []) (sym is)
 one-argument (x ∷ y ∷ arguments) a least most is = absurd (omega arith)
 
-pub first-argument : (arguments : List Argument) (a : Argument) → 1 ≤ length arguments → a ≡ get_or arguments 0 a → (rest : List (List ℕ)) × (texts arguments ≡ string_bytes a ∷ rest)
+pub first-argument : (arguments : List Argument) (a : Argument) → 1 ≤ length arguments → a ≡ get_or arguments 0 a → (rest : List (List ℕ)) × (argument_texts arguments ≡ string_bytes a ∷ rest)
 first-argument [] a least is = absurd (omega arith)
-first-argument (x ∷ arguments) a least is = (texts arguments, ap (λ (argument : Argument). string_bytes argument ∷ texts arguments) (sym is))
+first-argument (x ∷ arguments) a least is = (argument_texts arguments, ap (λ (argument : Argument). string_bytes argument ∷ argument_texts arguments) (sym is))
 
 -- an argument is the retained limit
 module _ (texts_of : List (List ℕ)) (own text : List ℕ) (are : texts_of ≡ own ∷ []) (same : text ≡ own) where
@@ -37,11 +37,11 @@ module _ (texts_of : List (List ℕ)) (own text : List ℕ) (are : texts_of ≡ 
 
 -- the first argument is no time
 pub no-moment : (texts_of : List (List ℕ)) (own text : List ℕ) (rest : List (List ℕ)) → texts_of ≡ own ∷ rest → text ≡ own → (answer : Result ℤ TimeRefusal)
-    → ((other : Result ℤ TimeRefusal) → Reads text other → other ≡ answer) → IsErr answer → (moment : ℤ) (retained_limit : ℕ) → ¬ ArePositions texts_of moment retained_limit
+    → ((other : Result ℤ TimeRefusal) → ReadsTimestamp text other → other ≡ answer) → IsErr answer → (moment : ℤ) (retained_limit : ℕ) → ¬ ArePositions texts_of moment retained_limit
 no-moment texts_of own text rest are same answer only err moment retained_limit asked =
     let both : own ∷ rest ≡ asked.time ∷ asked.caps = sym are ∙ asked.arguments_are in
     let time : asked.time ≡ text = (let it : own ≡ asked.time = cc in sym it ∙ sym same) in
-    let read : Ok moment ≡ answer = only (Ok moment) (subst (λ (t : List ℕ). IsTextOf t moment) time asked.time_is) in
+    let read : Ok moment ≡ answer = only (Ok moment) (subst (λ (t : List ℕ). IsTextOfInstant t moment) time asked.time_is) in
     let wrong : IsErr {T = ℤ} {E = TimeRefusal} (Ok moment) = subst IsErr (sym read) err in
     cc
 
@@ -57,11 +57,11 @@ two-first (x ∷ y ∷ arguments) a b least is_a is_b =
     cc
 
 pub two-ahead : (arguments : List Argument) (a b : Argument) (option name : List ℕ) → 2 ≤ length arguments → a ≡ get_or arguments 0 a → b ≡ get_or arguments 1 b
-    → option ≡ string_bytes a → name ≡ string_bytes b → texts arguments ≡ option ∷ name ∷ texts (take (length arguments - 2) (drop 2 arguments))
-two-ahead arguments a b option name least is_a is_b is_option is_name = let are = ap texts (two-first arguments a b least is_a is_b) in cc
+    → option ≡ string_bytes a → name ≡ string_bytes b → argument_texts arguments ≡ option ∷ name ∷ argument_texts (take (length arguments - 2) (drop 2 arguments))
+two-ahead arguments a b option name least is_a is_b is_option is_name = let are = ap argument_texts (two-first arguments a b least is_a is_b) in cc
 
 pub some-behind : (arguments : List (List ℕ)) (option name : List ℕ) (others : List (List ℕ)) → arguments ≡ others ++ option ∷ name ∷ [] → (answer : Option HuntRequest)
-    → IfSome answer (λ request. AreWithOption option name others (task_of request)) → IfSome answer (λ request. OptionAfter arguments (task_of request))
+    → IfSome answer (λ request. AreWithOption option name others (hunt_task request)) → IfSome answer (λ request. OptionAfter arguments (hunt_task request))
 some-behind arguments option name others are None is = tt
 some-behind arguments option name others are (Some request) is = record { option = option; name = name; others = others; arguments_are = are; are = is }
 
@@ -109,12 +109,12 @@ last-are (x ∷ y ∷ []) a b count is_a is_b = cc
 last-are (x ∷ y ∷ z ∷ xs) a b count is_a is_b = absurd (omega arith)
 
 pub two-behind : (arguments others last : List Argument) (a b : Argument) (option name : List ℕ) → arguments ≡ others ++ last → length last ≡ 2 → a ≡ get_or last 0 a
-    → b ≡ get_or last 1 b → option ≡ string_bytes a → name ≡ string_bytes b → texts arguments ≡ texts others ++ option ∷ name ∷ []
+    → b ≡ get_or last 1 b → option ≡ string_bytes a → name ≡ string_bytes b → argument_texts arguments ≡ argument_texts others ++ option ∷ name ∷ []
 two-behind arguments others last a b option name are count is_a is_b is_option is_name =
     let two = last-are last a b count is_a is_b in
-    let parts : texts arguments ≡ texts others ++ texts last = ap texts are ∙ map-append (λ (w : Argument). string_bytes w) others last in
-    let own : texts last ≡ option ∷ name ∷ [] = (let it = ap texts two in cc) in
-    parts ∙ ap (λ (l : List (List ℕ)). texts others ++ l) own
+    let parts : argument_texts arguments ≡ argument_texts others ++ argument_texts last = ap argument_texts are ∙ map-append (λ (w : Argument). string_bytes w) others last in
+    let own : argument_texts last ≡ option ∷ name ∷ [] = (let it = ap argument_texts two in cc) in
+    parts ∙ ap (λ (l : List (List ℕ)). argument_texts others ++ l) own
 
 -- an argument that isn't empty is a name
 pub named-so : (name : List ℕ) (empty : Bool) → empty ≡ (length name == 0) → IsTrue (not empty) ↔ (name ≢ [])
@@ -126,13 +126,13 @@ named-so (c ∷ cs) false is = ((λ yes none. absurd (cc)), (λ named. refl))
 -- the arguments are in none of the three forms
 pub nothing-asked : {A : Type 0} (arguments : List (List ℕ)) (positions : Option A) (ahead behind : Option HuntRequest) → positions ≡ None → ahead ≡ None
     → IfNone positions ((moment : ℤ) (retained_limit : ℕ) → ¬ ArePositions arguments moment retained_limit) → IfNone ahead ((task : HuntTask) → ¬ OptionBefore arguments task)
-    → IfNone behind ((task : HuntTask) → ¬ OptionAfter arguments task) → IfNone behind (AskForNothing arguments)
+    → IfNone behind ((task : HuntTask) → ¬ OptionAfter arguments task) → IfNone behind (AskForNoHunt arguments)
 nothing-asked arguments (Some p) ahead behind none_positions none_ahead not_positions not_ahead not_behind = absurd (cc)
 nothing-asked arguments None (Some request) behind none_positions none_ahead not_positions not_ahead not_behind = absurd (cc)
 nothing-asked arguments None None (Some request) none_positions none_ahead not_positions not_ahead not_behind = tt
 nothing-asked arguments None None None none_positions none_ahead not_positions not_ahead not_behind = none
   where
-    none : (task : HuntTask) → ¬ AskFor arguments task
+    none : (task : HuntTask) → ¬ AskForHunt arguments task
     none task (inl alone) = not_positions task.moment task.retained_limit alone.1
     none task (inr (inl asked)) = not_ahead task asked
     none task (inr (inr asked)) = not_behind task asked

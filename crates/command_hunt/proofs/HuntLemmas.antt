@@ -14,11 +14,11 @@ use Rattle.match_input.specs.declared.mode.Mode.TheVariants.{Lines}
 use Rattle.match_input.specs.declared.read_end.ReadEnd.{ReadEnd}
 use Rattle.match_input.specs.declared.read_end.ReadEnd.TheVariants as read
 use Rattle.match_input.specs.Reading.{BundleOf, Whole}
-use Rattle.match_input.specs.Ahead.{ReaderState, reader_start}
+use Rattle.match_input.specs.Ahead.{InputReaderState, reader_start}
 use Rattle.match_run.specs.Matching.{ReadsInput}
 use Rattle.match_run.proofs.PendingLemmas.{written_with-nil, written_with-both}
 use Rattle.match_run.specs.Watching.{Says, BreaksOff, EndsSeeing, SeesAll, WatchesWhole, StopsWithin as EndsWithin, AnswersWatch}
-use Rattle.match_run.specs.inner.WatchEnds.{end_of_read, end_of_see}
+use Rattle.match_run.specs.inner.WatchEnds.{watch_end_of_read, end_of_see}
 use Rattle.match_run.specs.Reading.{HasRead, NextAnswers}
 use Rattle.match_run.proofs.BufferedLemmas.{way-cut}
 use Rattle.match_run.specs.declared.see_end.SeeEnd.{SeeEnd}
@@ -33,22 +33,22 @@ use Rattle.hunt_feed.specs.declared.end.FeedEnd.{FeedEnd}
 use Rattle.hunt_feed.specs.declared.end.FeedEnd.TheVariants as unfed
 use Rattle.hunt_feed.specs.Feeds.{Refused as RefusedLine, ReadsFeed}
 use Rattle.hunt_engine.specs.declared.found.Hit.{Hit}
-use Rattle.hunt_engine.specs.EngineLog.{Row, row_of}
+use Rattle.hunt_engine.specs.EngineLog.{ObservationRow, engine_row}
 use Rattle.hunt_engine.specs.EngineAnswer.{IsFirstOverLimit}
 use Rattle.hunt_report.specs.declared.over_limit.OverLimit.{OverLimit}
 use Rattle.hunt_report.specs.Rows.{rows_over, rows_of}
 use Rattle.hunt_report.specs.Hits.{AnswerRows, AreHits, AreNeverOverLimit}
-use Rattle.hunt_report.specs.Lines.{skipped_text, hit_line, hits_text}
+use Rattle.hunt_report.specs.Lines.{skipped_lines, hit_line, hits_text}
 use Rattle.hunt_report.specs.HitSummaries.{IsReport, IsReportText}
-use Rattle.hunt_report.specs.Hunting.{HunterState, patterns_of, HuntsOver, TakesRows, SeesBundle, BeginsBundle, StopsInBundle}
+use Rattle.hunt_report.specs.Hunting.{HunterState, patterns_of, HuntsOver, TakesRows, HunterSeesBundle, BeginsBundle, StopsInBundle}
 use Rattle.command_hunt.specs.Tasks.{HuntTask}
 use Rattle.command_hunt.specs.Feeding.{IsUnfed}
-use Rattle.command_hunt.specs.Telling.{feed_of, HuntsRows, reported_of, ReportsHits, ReportsAll, HuntsWhole, StopsOverLimit, StopsWithin, StopsReporting, StopsSkipping, AnswersHunt}
-use Rattle.command_hunt.specs.inner.Begun.{IsUnread, IsBegun, Reports}
+use Rattle.command_hunt.specs.Telling.{feed_of, HuntsRows, reported_of, ReportsHits, ReportsAll, HuntsWhole, HuntStopsOverLimit, HuntStopsWithin, StopsReporting, StopsSkipping, AnswersHunt}
+use Rattle.command_hunt.specs.inner.Begun.{IsUnreadInput, IsBegun, Reports}
 
 -- the law that the answers to the rows of a log are its hits
 abbrev pub AnswersAreHits : Type 0
-AnswersAreHits = (patterns : List Pattern) (rows : List Row) (hits : List Hit) → AnswerRows patterns [] rows hits → AreHits patterns rows hits
+AnswersAreHits = (patterns : List Pattern) (rows : List ObservationRow) (hits : List Hit) → AnswerRows patterns [] rows hits → AreHits patterns rows hits
 
 -- ---- rows that were taken in turn
 
@@ -58,12 +58,12 @@ takes-none w = record {
   retained_limit = refl;
   takes = λ earlier hits hunts. (
     [],
-    subst (λ (rows : List Row). HuntsOver w rows (hits ++ [])) (sym (append-nil earlier)) (subst (HuntsOver w earlier) (sym (append-nil hits)) hunts),
+    subst (λ (rows : List ObservationRow). HuntsOver w rows (hits ++ [])) (sym (append-nil earlier)) (subst (HuntsOver w earlier) (sym (append-nil hits)) hunts),
     refl,
   );
 }
 
-pub takes-more : (rows others : List Row) (before next after : HunterState) (text later : List ℕ) → TakesRows rows before next text → TakesRows others next after later
+pub takes-more : (rows others : List ObservationRow) (before next after : HunterState) (text later : List ℕ) → TakesRows rows before next text → TakesRows others next after later
     → TakesRows (rows ++ others) before after (text ++ later)
 takes-more rows others before next after text later one two = record {
   hunted = two.hunted ∙ one.hunted;
@@ -71,20 +71,20 @@ takes-more rows others before next after text later one two = record {
   takes = go;
 }
   where
-    go : (earlier : List Row) (hits : List Hit) → HuntsOver before earlier hits
+    go : (earlier : List ObservationRow) (hits : List Hit) → HuntsOver before earlier hits
         → (more : List Hit) × HuntsOver after (earlier ++ (rows ++ others)) (hits ++ more) × (text ++ later ≡ hits_text before.hunted more)
     go earlier hits hunts =
         let first = one.takes earlier hits hunts in
         let second = two.takes (earlier ++ rows) (hits ++ first.0) first.1 in (
           first.0 ++ second.0,
-          subst (λ (r : List Row). HuntsOver after r (hits ++ (first.0 ++ second.0))) (append_assoc earlier rows others)
+          subst (λ (r : List ObservationRow). HuntsOver after r (hits ++ (first.0 ++ second.0))) (append_assoc earlier rows others)
               (subst (HuntsOver after ((earlier ++ rows) ++ others)) (append_assoc hits first.0 second.0) second.1),
           ap (λ (t : List ℕ). t ++ later) first.2
               ∙ ap (λ (t : List ℕ). hits_text before.hunted first.0 ++ t) (second.2 ∙ ap (λ (h : List Hunted). hits_text h second.0) one.hunted)
               ∙ sym (flat_map-append (hit_line before.hunted) first.0 second.0),
         )
 
-pub takes-all : (bundles : List BundleOf) (before after : HunterState) (text : List ℕ) → SeesAll SeesBundle before bundles after text
+pub takes-all : (bundles : List BundleOf) (before after : HunterState) (text : List ℕ) → SeesAll HunterSeesBundle before bundles after text
     → TakesRows (rows_of bundles) before after text
 takes-all [] before after text (behind, is) =
     subst (λ (w : HunterState). TakesRows [] before w text) (sym behind) (subst (TakesRows [] before before) (sym is) (takes-none before))
@@ -103,10 +103,10 @@ none-over_limit patterns most place p is = ([], tt, none)
     none (x ∷ rows) more row same = absurd (cc)
 
 -- what is reported of some rows: what is skipped, and then this
-pub record HuntsSo (task : HuntTask) (feed : List Data) (rows : List Row) (hunt : Hunt) (text : List ℕ) : Type 0 where
+pub record HuntsSo (task : HuntTask) (feed : List Data) (rows : List ObservationRow) (hunt : Hunt) (text : List ℕ) : Type 0 where
   pub hunts : HuntsRows task feed rows
   pub hunt_is : hunts.hunt ≡ hunt
-  pub reported : reported_of hunts ≡ skipped_text hunt.skipped ++ text
+  pub reported : reported_of hunts ≡ skipped_lines hunt.skipped ++ text
 
 module _ (law : AnswersAreHits) (task : HuntTask) (feed : List Data) (hunt : Hunt) (hunt_is : IsHuntOf feed task.moment hunt) where
   -- nothing was taken yet
@@ -125,7 +125,7 @@ module _ (law : AnswersAreHits) (task : HuntTask) (feed : List Data) (hunt : Hun
 
   module _ (start : HunterState) (new : HuntsOver start [] []) (hunted : start.hunted ≡ hunt.hunted) (retained_limit : start.engine.retained_limit ≡ task.retained_limit) where
     -- rows were taken
-    pub hunts-so : (rows : List Row) (after : HunterState) (text : List ℕ) → TakesRows rows start after text
+    pub hunts-so : (rows : List ObservationRow) (after : HunterState) (text : List ℕ) → TakesRows rows start after text
         → (so : HuntsSo task feed rows hunt text) × HuntsOver after rows so.hunts.hits
     hunts-so rows after text takes =
         let found = takes.takes [] [] new in
@@ -141,7 +141,7 @@ module _ (law : AnswersAreHits) (task : HuntTask) (feed : List Data) (hunt : Hun
                   (subst (λ (c : ℕ). AreNeverOverLimit (patterns_of after.hunted) c rows) (takes.retained_limit ∙ retained_limit) found.1.within_limit);
             };
             hunt_is = refl;
-            reported = ap (λ (t : List ℕ). skipped_text hunt.skipped ++ t) (ap (λ (h : List Hunted). hits_text h found.0) (sym hunted) ∙ sym found.2);
+            reported = ap (λ (t : List ℕ). skipped_lines hunt.skipped ++ t) (ap (λ (h : List Hunted). hits_text h found.0) (sym hunted) ∙ sym found.2);
           },
           found.1,
         )
@@ -187,9 +187,9 @@ IsKnownFrom file earlier feed = (more : List BundleOf) → feed_of file (earlier
 -- the first bundle was read, and of what is skipped a prefix was reported
 module _ (law : AnswersAreHits) (task : HuntTask) (before : Streams) (first : BundleOf) (hunt : Hunt) (hunt_is : IsHuntOf first.objects task.moment hunt) where
   pub ends-skipping : (left began written written_now : Option (List ℕ)) → IsBegun before first left began → before.written ≡ written
-      → WritesPrefix (skipped_text hunt.skipped) written written_now → StopsWithin task None before (streams left began written_now)
+      → WritesPrefix (skipped_lines hunt.skipped) written written_now → HuntStopsWithin task None before (streams left began written_now)
   ends-skipping left began written written_now begun same prefix =
-      let skipped = skipped_text hunt.skipped in
+      let skipped = skipped_lines hunt.skipped in
       let so = hunts-none law task first.objects hunt hunt_is in record {
         earlier = [];
         bundle = first;
@@ -212,25 +212,25 @@ module _ (law : AnswersAreHits) (task : HuntTask) (before : Streams) (first : Bu
 
 -- the objects of a file were read and nothing of the input, and of what is skipped a prefix was reported
 pub ends-unread : AnswersAreHits → (task : HuntTask) (before : Streams) (feed : List Data) (hunt : Hunt) → IsHuntOf feed task.moment hunt
-    → (left began written_now : Option (List ℕ)) → IsUnread before left began → WritesPrefix (skipped_text hunt.skipped) before.written written_now
+    → (left began written_now : Option (List ℕ)) → IsUnreadInput before left began → WritesPrefix (skipped_lines hunt.skipped) before.written written_now
     → StopsSkipping task (Some feed) before (streams left began written_now)
 ends-unread law task before feed hunt hunt_is left began written_now unread prefix =
     let so = hunts-none law task feed hunt hunt_is in record {
       feed = feed;
       file_is = refl;
       hunts = so.hunts;
-      prefix = subst (λ (t : List ℕ). WritesPrefix t before.written written_now) (sym (so.reported ∙ append-nil (skipped_text hunt.skipped))) prefix;
+      prefix = subst (λ (t : List ℕ). WritesPrefix t before.written written_now) (sym (so.reported ∙ append-nil (skipped_lines hunt.skipped))) prefix;
       unread = (unread.left_is, unread.began_is);
     }
 
 -- what is skipped was reported
 module _ (law : AnswersAreHits) (task : HuntTask) (before : Streams) (feed : List Data) (hunt : Hunt) (hunt_is : IsHuntOf feed task.moment hunt)
-    (written : Option (List ℕ)) (was : written ≡ written_with (skipped_text hunt.skipped) before.written) where
+    (written : Option (List ℕ)) (was : written ≡ written_with (skipped_lines hunt.skipped) before.written) where
   abbrev skipped : List ℕ
-  skipped = skipped_text hunt.skipped
+  skipped = skipped_lines hunt.skipped
 
   module _ (start : HunterState) (new : HuntsOver start [] []) (hunted : start.hunted ≡ hunt.hunted) (retained_limit : start.engine.retained_limit ≡ task.retained_limit) where
-    abbrev so-far : (rows : List Row) (after : HunterState) (text : List ℕ) → TakesRows rows start after text
+    abbrev so-far : (rows : List ObservationRow) (after : HunterState) (text : List ℕ) → TakesRows rows start after text
         → (so : HuntsSo task feed rows hunt text) × HuntsOver after rows so.hunts.hits
     so-far = hunts-so law task feed hunt hunt_is start new hunted retained_limit
 
@@ -239,7 +239,7 @@ module _ (law : AnswersAreHits) (task : HuntTask) (before : Streams) (feed : Lis
       known : feed_of None ([] ++ first ∷ []) ≡ Some feed
       known = ap (λ (f : List Data). Some f) (sym same)
 
-      first-within : BreaksOff (BeginsBundle start first) written written_now → StopsWithin task None before (streams left began written_now)
+      first-within : BreaksOff (BeginsBundle start first) written written_now → HuntStopsWithin task None before (streams left began written_now)
       first-within (text, firsts, prefix) =
           let so = (so-far (rows_over first.objects firsts.seen) firsts.after text firsts.takes).0 in record {
             earlier = [];
@@ -260,7 +260,7 @@ module _ (law : AnswersAreHits) (task : HuntTask) (before : Streams) (feed : Lis
                 (prefix-behind skipped text before.written written written_now was prefix);
           }
 
-      first-over_limit : (why : OverLimit) → Says (StopsInBundle start first why) written written_now → StopsOverLimit task None before (streams left began written_now) why
+      first-over_limit : (why : OverLimit) → Says (StopsInBundle start first why) written written_now → HuntStopsOverLimit task None before (streams left began written_now) why
       first-over_limit why (text, up, is) =
           let so = (so-far (rows_over first.objects up.seen) up.after text up.takes).0 in record {
             earlier = [];
@@ -275,11 +275,11 @@ module _ (law : AnswersAreHits) (task : HuntTask) (before : Streams) (feed : Lis
             feed_is = known;
             hunts = so.hunts;
             over_limit = subst (λ (h : Hunt). IsFirstOverLimit (patterns_of h.hunted) task.retained_limit
-                (rows_over first.objects up.seen ++ row_of up.observation first.objects ∷ []) why.hunted why.number why.retained_limit) (sym so.hunt_is)
+                (rows_over first.objects up.seen ++ engine_row up.observation first.objects ∷ []) why.hunted why.number why.retained_limit) (sym so.hunt_is)
                 (subst (λ (c : ℕ). IsFirstOverLimit (patterns_of hunt.hunted) c
-                (rows_over first.objects up.seen ++ row_of up.observation first.objects ∷ []) why.hunted why.number why.retained_limit) retained_limit
+                (rows_over first.objects up.seen ++ engine_row up.observation first.objects ∷ []) why.hunted why.number why.retained_limit) retained_limit
                 (subst (λ (h : List Hunted). IsFirstOverLimit (patterns_of h) start.engine.retained_limit
-                (rows_over first.objects up.seen ++ row_of up.observation first.objects ∷ []) why.hunted why.number why.retained_limit) hunted (up.over_limit [] [] new)));
+                (rows_over first.objects up.seen ++ engine_row up.observation first.objects ∷ []) why.hunted why.number why.retained_limit) hunted (up.over_limit [] [] new)));
             text_is = reported-behind skipped text before.written written written_now was is ∙ ap (λ (t : List ℕ). written_with t before.written) (sym so.reported);
           }
 
@@ -303,10 +303,10 @@ module _ (law : AnswersAreHits) (task : HuntTask) (before : Streams) (feed : Lis
       both-rows : (bundles : List BundleOf) → rows_of (earlier ++ bundles) ≡ rows_of earlier ++ rows_of bundles
       both-rows bundles = flat_map-append (λ (b : BundleOf). rows_over b.objects b.observations) earlier bundles
 
-      pub seen-behind : (bundles : List BundleOf) (at : HunterState) (now : Option (List ℕ)) → Says (SeesAll SeesBundle next bundles at) written_next now
+      pub seen-behind : (bundles : List BundleOf) (at : HunterState) (now : Option (List ℕ)) → Says (SeesAll HunterSeesBundle next bundles at) written_next now
           → SeenBehind bundles at now
       seen-behind bundles at now (later, sees, is) =
-          let takes = subst (λ (rows : List Row). TakesRows rows start at (own ++ later)) (sym (both-rows bundles))
+          let takes = subst (λ (rows : List ObservationRow). TakesRows rows start at (own ++ later)) (sym (both-rows bundles))
           (takes-more (rows_of earlier) (rows_of bundles) start next at own later one (takes-all bundles next at later sees)) in
           let found = so-far (rows_of (earlier ++ bundles)) at (own ++ later) takes in record {
             text = own ++ later;
@@ -326,8 +326,8 @@ module _ (law : AnswersAreHits) (task : HuntTask) (before : Streams) (feed : Lis
           ap (feed_of file) (append_assoc earlier bundles (bundle ∷ [])) ∙ known (bundles ++ bundle ∷ [])
 
       module _ (behind : HunterState) (after : Streams) where
-        later-within : EndsWithin SeesBundle (λ at bundle. BreaksOff (BeginsBundle at bundle)) before.left earlier next written_next after
-            → StopsWithin task file before after
+        later-within : EndsWithin HunterSeesBundle (λ at bundle. BreaksOff (BeginsBundle at bundle)) before.left earlier next written_next after
+            → HuntStopsWithin task file before after
         later-within ends =
             let seen = seen-behind ends.bundles ends.at ends.before ends.says in
             let more = ends.within.0 in
@@ -352,8 +352,8 @@ module _ (law : AnswersAreHits) (task : HuntTask) (before : Streams) (feed : Lis
               prefix = subst (λ (w : Option (List ℕ)). WritesPrefix more w after.written) seen.now_is ends.within.2;
             }
 
-        later-over_limit : (why : OverLimit) → EndsWithin SeesBundle (λ at bundle. Says (StopsInBundle at bundle why)) before.left earlier next written_next after
-            → StopsOverLimit task file before after why
+        later-over_limit : (why : OverLimit) → EndsWithin HunterSeesBundle (λ at bundle. Says (StopsInBundle at bundle why)) before.left earlier next written_next after
+            → HuntStopsOverLimit task file before after why
         later-over_limit why ends =
             let seen = seen-behind ends.bundles ends.at ends.before ends.says in
             let more = ends.within.0 in
@@ -375,17 +375,17 @@ module _ (law : AnswersAreHits) (task : HuntTask) (before : Streams) (feed : Lis
               feed_is = known-within ends.bundles ends.bundle;
               hunts = found.0.hunts;
               over_limit = subst (λ (h : Hunt). IsFirstOverLimit (patterns_of h.hunted) task.retained_limit
-                  (rows ++ row_of up.observation ends.bundle.objects ∷ []) why.hunted why.number why.retained_limit) (sym found.0.hunt_is)
-                  (subst (λ (c : ℕ). IsFirstOverLimit (patterns_of hunt.hunted) c (rows ++ row_of up.observation ends.bundle.objects ∷ []) why.hunted why.number why.retained_limit) same_retained_limit
+                  (rows ++ engine_row up.observation ends.bundle.objects ∷ []) why.hunted why.number why.retained_limit) (sym found.0.hunt_is)
+                  (subst (λ (c : ℕ). IsFirstOverLimit (patterns_of hunt.hunted) c (rows ++ engine_row up.observation ends.bundle.objects ∷ []) why.hunted why.number why.retained_limit) same_retained_limit
                   (subst (λ (h : List Hunted). IsFirstOverLimit (patterns_of h) ends.at.engine.retained_limit
-                  (rows ++ row_of up.observation ends.bundle.objects ∷ []) why.hunted why.number why.retained_limit) same
+                  (rows ++ engine_row up.observation ends.bundle.objects ∷ []) why.hunted why.number why.retained_limit) same
                   (up.over_limit (rows_of (earlier ++ ends.bundles)) seen.so.hunts.hits seen.hunts)));
               text_is = reported-behind (reported_of seen.so.hunts) more before.written ends.before after.written seen.now_is ends.within.2
                   ∙ ap (λ (t : List ℕ). written_with t before.written) (ap (λ (t : List ℕ). t ++ more) seen.so.reported ∙ append_assoc skipped seen.text more ∙ sym found.0.reported);
             }
 
         -- the input wasn't read to its end
-        pub later-ends : (end : WatchEnd OverLimit) → end ≢ Done → AnswersWatch SeesBundle StopsInBundle BeginsBundle before.left earlier next behind written_next after end
+        pub later-ends : (end : WatchEnd OverLimit) → end ≢ Done → AnswersWatch HunterSeesBundle StopsInBundle BeginsBundle before.left earlier next behind written_next after end
             → AnswersHunt task file before after end
         later-ends Done other ends = absurd (other refl)
         later-ends (Input line why) other ends =
@@ -419,7 +419,7 @@ module _ (law : AnswersAreHits) (task : HuntTask) (before : Streams) (feed : Lis
         later-ends NoMemory other (inr ends) = inr (inr (inr (inl (later-within ends))))
 
         -- it was, and what was seen was reported
-        module _ (whole : WatchesWhole SeesBundle before.left earlier next behind written_next after) (written_end : Option (List ℕ)) where
+        module _ (whole : WatchesWhole HunterSeesBundle before.left earlier next behind written_next after) (written_end : Option (List ℕ)) where
           abbrev end-streams : Streams
           end-streams = streams after.left after.began written_end
 
@@ -465,27 +465,27 @@ module _ (law : AnswersAreHits) (task : HuntTask) (before : Streams) (feed : Lis
 
 -- the hunter hunts for what it did before the bundles that it saw
 pub same-hunted-behind : (start next behind : HunterState) (bundle : BundleOf) (bundles : List BundleOf) (written written_next now : Option (List ℕ))
-    → Says (SeesBundle start bundle next) written written_next → Says (SeesAll SeesBundle next bundles behind) written_next now → behind.hunted ≡ start.hunted
+    → Says (HunterSeesBundle start bundle next) written written_next → Says (SeesAll HunterSeesBundle next bundles behind) written_next now → behind.hunted ≡ start.hunted
 same-hunted-behind start next behind bundle bundles written written_next now one all = (takes-all bundles next behind all.0 all.1).hunted ∙ one.1.hunted
 
 -- the same, where no bundle was seen before
-pub same-hunted-all : (start behind : HunterState) (bundles : List BundleOf) (written now : Option (List ℕ)) → Says (SeesAll SeesBundle start bundles behind) written now
+pub same-hunted-all : (start behind : HunterState) (bundles : List BundleOf) (written now : Option (List ℕ)) → Says (SeesAll HunterSeesBundle start bundles behind) written now
     → behind.hunted ≡ start.hunted
 same-hunted-all start behind bundles written now all = (takes-all bundles start behind all.0 all.1).hunted
 
 -- the first bundle is the only one that was seen
-pub takes-first : (start next : HunterState) (first : BundleOf) (own : List ℕ) → SeesBundle start first next own → TakesRows (rows_of (first ∷ [])) start next own
+pub takes-first : (start next : HunterState) (first : BundleOf) (own : List ℕ) → HunterSeesBundle start first next own → TakesRows (rows_of (first ∷ [])) start next own
 takes-first start next first own sees =
-    subst (λ (rows : List Row). TakesRows rows start next own) (sym (append-nil (rows_over first.objects first.observations))) sees
+    subst (λ (rows : List ObservationRow). TakesRows rows start next own) (sym (append-nil (rows_over first.objects first.observations))) sees
 
 -- ---- a file that gave objects
 
 -- of an input of which nothing was read, a reader at its start has read nothing
-pub read-nothing : ((first began : Option (List ℕ)) → HasRead first (reader_start Lines) first began []) → (reader : ReaderState) → reader ≡ reader_start Lines
+pub read-nothing : ((first began : Option (List ℕ)) → HasRead first (reader_start Lines) first began []) → (reader : InputReaderState) → reader ≡ reader_start Lines
     → (first left began : Option (List ℕ)) → left ≡ first → HasRead first reader left began []
 read-nothing law reader start first left began same =
     subst (λ (l : Option (List ℕ)). HasRead first reader l began []) (sym same)
-    (subst (λ (r : ReaderState). HasRead first r first began []) (sym start) (law first began))
+    (subst (λ (r : InputReaderState). HasRead first r first began []) (sym start) (law first began))
 
 -- why a file isn't a feed
 pub unfed-ends : (contents : List ℕ → Option (List ℕ)) (task : HuntTask) (name : List ℕ) → task.file ≡ Some name → (end : FeedEnd)
@@ -509,8 +509,8 @@ reads-none task before left began reading drained = record {
   drained = drained;
 }
 
-pub read-ends : (task : HuntTask) (before : Streams) (reader after : ReaderState) (left began : Option (List ℕ)) (end : ReadEnd)
-    → NextAnswers before.left [] reader after left began (Err end) → AnswersHunt task None before (streams left began before.written) (end_of_read end)
+pub read-ends : (task : HuntTask) (before : Streams) (reader after : InputReaderState) (left began : Option (List ℕ)) (end : ReadEnd)
+    → NextAnswers before.left [] reader after left began (Err end) → AnswersHunt task None before (streams left began before.written) (watch_end_of_read end)
 read-ends task before reader after left began (read.Input line why) answers = record {
   bundles = [];
   reading = answers.0;

@@ -6,14 +6,14 @@ use Rattle.match_run.specs.declared.watch_end.WatchEnd.TheVariants as end
 use Rattle.hunt_feed.specs.declared.end.FeedEnd.TheVariants as feed
 use Rattle.command_hunt.specs.declared.ending.HuntEnding.{HuntEnding}
 use Rattle.command_hunt.specs.declared.ending.HuntEnding.TheVariants.{Usage, Unfed, Ended}
-use Rattle.command_hunt.specs.Tasks.{HuntTask, AskForNothing}
-use Rattle.command_hunt.specs.Endings.{AskSo, EndsTask, EndsHunt, hunt_status}
+use Rattle.command_hunt.specs.Tasks.{HuntTask, AskForNoHunt}
+use Rattle.command_hunt.specs.Endings.{AskForHuntWhere, EndsHuntTask, EndsHunt, hunt_status}
 use Rattle.command_hunt.specs.Runs.{HuntsOrRefuses}
 
 module _ (arguments : List (List ℕ)) (contents : List ℕ → Option (List ℕ)) (before after : Streams) where
   -- of what is asked for
   module _ (task : HuntTask) where
-    pub usage-task : (ending : HuntEnding) → EndsTask contents before after ending task → hunt_status ending ≢ 2
+    pub usage-task : (ending : HuntEnding) → EndsHuntTask contents before after ending task → hunt_status ending ≢ 2
     usage-task Usage ends is = ends
     usage-task (Unfed (feed.Refused line why)) ends is = omega arith
     usage-task (Unfed feed.Fault) ends is = omega arith
@@ -25,7 +25,7 @@ module _ (arguments : List (List ℕ)) (contents : List ℕ → Option (List ℕ
     usage-task (Ended (end.Stopped why)) ends is = omega arith
     usage-task (Ended end.NoMemory) ends is = omega arith
 
-    reported-task : (ending : HuntEnding) → EndsTask contents before after ending task → (hunt_status ending ≡ 0) ⊎ (hunt_status ending ≡ 4)
+    reported-task : (ending : HuntEnding) → EndsHuntTask contents before after ending task → (hunt_status ending ≡ 0) ⊎ (hunt_status ending ≡ 4)
         → HuntsOrRefuses contents before after (hunt_status ending) task
     reported-task Usage ends is = absurd ends
     reported-task (Unfed (feed.Refused line why)) ends is = inr (record {
@@ -72,12 +72,12 @@ module _ (arguments : List (List ℕ)) (contents : List ℕ → Option (List ℕ
 
   -- and of the arguments
   module _ (ending : HuntEnding) where
-    pub refusals-run : EndsHunt arguments contents before after ending → (hunt_status ending ≡ 2) ↔ AskForNothing arguments
+    pub refusals-run : EndsHunt arguments contents before after ending → (hunt_status ending ≡ 2) ↔ AskForNoHunt arguments
     refusals-run (inl (nothing, usage, untouched)) = ((λ is. nothing), (λ none. ap hunt_status usage))
     refusals-run (inr asks) = ((λ is. absurd (usage-task asks.task ending asks.holds is)), (λ none. absurd (none asks.task asks.asked)))
 
     pub reported-run : EndsHunt arguments contents before after ending → (hunt_status ending ≡ 0) ⊎ (hunt_status ending ≡ 4)
-        → AskSo arguments (HuntsOrRefuses contents before after (hunt_status ending))
+        → AskForHuntWhere arguments (HuntsOrRefuses contents before after (hunt_status ending))
     reported-run (inl (nothing, usage, untouched)) is = let two = ap hunt_status usage in absurd (none is)
       where
         none : ¬ ((hunt_status ending ≡ 0) ⊎ (hunt_status ending ≡ 4))

@@ -10,27 +10,27 @@ use Rattle.hunt_feed.specs.Texts.{feed_refusal_text}
 use Rattle.command_reasons.specs.Reasons.{over_limit_reason}
 use Rattle.command_hunt.specs.declared.ending.HuntEnding.{HuntEnding}
 use Rattle.command_hunt.specs.declared.ending.HuntEnding.TheVariants.{Usage, Unfed, Ended}
-use Rattle.command_hunt.specs.Tasks.{HuntTask, AskFor, AskForNothing}
+use Rattle.command_hunt.specs.Tasks.{HuntTask, AskForHunt, AskForNoHunt}
 use Rattle.command_hunt.specs.Feeding.{IsFed, IsUnfed}
 use Rattle.command_hunt.specs.Telling.{AnswersHunt}
 
 -- the arguments request a hunt, for which this holds
-pub record AskSo (arguments : List (List ℕ)) (Holds : HuntTask → Type 0) : Type 0 where
+pub record AskForHuntWhere (arguments : List (List ℕ)) (Holds : HuntTask → Type 0) : Type 0 where
   pub task : HuntTask
-  pub asked : AskFor arguments task
+  pub asked : AskForHunt arguments task
   pub holds : Holds task
 
 -- what an ending implies for what is requested
-abbrev pub EndsTask : (List ℕ → Option (List ℕ)) → Streams → Streams → HuntEnding → HuntTask → Type 0
-EndsTask contents before after Usage task = ⊥
-EndsTask contents before after (Unfed end) task = IsUnfed contents task end × AreUntouched before after
-EndsTask contents before after (Ended ended) task = (file : Option (List Data)) × IsFed contents task file × AnswersHunt task file before after ended
+abbrev pub EndsHuntTask : (List ℕ → Option (List ℕ)) → Streams → Streams → HuntEnding → HuntTask → Type 0
+EndsHuntTask contents before after Usage task = ⊥
+EndsHuntTask contents before after (Unfed end) task = IsUnfed contents task end × AreUntouched before after
+EndsHuntTask contents before after (Ended ended) task = (file : Option (List Data)) × IsFed contents task file × AnswersHunt task file before after ended
 
 -- the arguments are no command line, and that is the ending; or they request a hunt, for which the
 -- ending implies this
 abbrev pub EndsHunt : List (List ℕ) → (List ℕ → Option (List ℕ)) → Streams → Streams → HuntEnding → Type 0
-EndsHunt arguments contents before after ending = (AskForNothing arguments × (ending ≡ Usage) × AreUntouched before after)
-    ⊎ AskSo arguments (EndsTask contents before after ending)
+EndsHunt arguments contents before after ending = (AskForNoHunt arguments × (ending ≡ Usage) × AreUntouched before after)
+    ⊎ AskForHuntWhere arguments (EndsHuntTask contents before after ending)
 
 abbrev pub hunt_status : HuntEnding → ℕ
 hunt_status (Ended end.Done) = 0

@@ -11,11 +11,11 @@ use Rattle.command_hunt.specs.declared.ending.HuntEnding.{HuntEnding}
 use Rattle.command_hunt.specs.Tasks.{HuntTask}
 use Rattle.hunt_feed.specs.declared.rule.FeedRule.{FeedRule}
 use Rattle.command_hunt.specs.Feeding.{NamesFile, IsFed, IsRefusedFeed}
-use Rattle.command_hunt.specs.Telling.{ReportsTo, StopsOverLimit}
-use Rattle.command_hunt.specs.Endings.{AskSo, EndsHunt, hunt_status, IsHuntReason}
+use Rattle.command_hunt.specs.Telling.{ReportsTo, HuntStopsOverLimit}
+use Rattle.command_hunt.specs.Endings.{AskForHuntWhere, EndsHunt, hunt_status, IsHuntReason}
 
 -- the program ended with one of the endings, with its exit status and its message
-pub record Ends (arguments : List (List ℕ)) (contents : List ℕ → Option (List ℕ)) (before after : Streams) (status : ℕ) (Writes : List ℕ → Type 0) : Type 0 where
+pub record EndsHuntRun (arguments : List (List ℕ)) (contents : List ℕ → Option (List ℕ)) (before after : Streams) (status : ℕ) (Writes : List ℕ → Type 0) : Type 0 where
   pub ending : HuntEnding
   pub status_is : status ≡ hunt_status ending
   pub stands : EndsHunt arguments contents before after ending
@@ -24,9 +24,9 @@ pub record Ends (arguments : List (List ℕ)) (contents : List ℕ → Option (L
   pub reason : Writes text
 
 -- the status of a run over an input with that end
-abbrev pub end_status : InputEnd → ℕ
-end_status Whole = 0
-end_status (Refused line why) = 4
+abbrev pub hunter_status : InputEnd → ℕ
+hunter_status Whole = 0
+hunter_status (Refused line why) = 4
 
 -- the input is read as bundles, up to its end or to the first refused line. The indicators of the
 -- file, or of the first bundle, are matched over the log of all bundles, and at no row one exceeds
@@ -37,7 +37,7 @@ pub record HuntsInput (contents : List ℕ → Option (List ℕ)) (before after 
   pub bundles : List BundleOf
   pub end : InputEnd
   pub reading : ReadsInput Lines before.left bundles end
-  pub end_is : end_status end ≡ status
+  pub end_is : hunter_status end ≡ status
   pub text : List ℕ
   pub reports : ReportsTo task file end bundles text
   pub text_is : after.written ≡ written_with text before.written
@@ -56,8 +56,8 @@ HuntsOrRefuses contents before after status task = HuntsInput contents before af
 
 -- a pattern exceeds its limit at some observation, and the hits before it were written
 abbrev pub HuntsToLimit : (List ℕ → Option (List ℕ)) → Streams → Streams → HuntTask → Type 0
-HuntsToLimit contents before after task = (why : OverLimit) × (file : Option (List Data)) × IsFed contents task file × StopsOverLimit task file before after why
+HuntsToLimit contents before after task = (why : OverLimit) × (file : Option (List Data)) × IsFed contents task file × HuntStopsOverLimit task file before after why
 
 -- the arguments name a file
 abbrev pub AskForFile : List (List ℕ) → Type 0
-AskForFile arguments = AskSo arguments (λ task. NamesFile task (λ name. ⊤))
+AskForFile arguments = AskForHuntWhere arguments (λ task. NamesFile task (λ name. ⊤))

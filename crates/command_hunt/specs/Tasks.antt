@@ -1,6 +1,6 @@
 -- The arguments [--indicators FILE] TIME [CAP], the option before or after the others.
 use Rattle.std.specs.Prelude.{◌≡◌, ◌≢◌, ◌⊎◌, ℕ, ℤ, List, [], ◌∷◌, ◌++◌, Option, Some, None, option_map, codes}
-use Rattle.stix_times.specs.Reading.{IsTextOf}
+use Rattle.stix_times.specs.Reading.{IsTextOfInstant}
 use Rattle.command_line.specs.CommandLines.{IsNumberOr}
 use Rattle.command_line.specs.declared.numbers.TheConstants.{DEFAULT_RETAINED_LIMIT, MAX_RETAINED_LIMIT}
 use Rattle.command_hunt.specs.declared.arguments.HuntRequest.{HuntRequest}
@@ -13,15 +13,15 @@ pub record HuntTask : Type 0 where
   pub retained_limit : ℕ
 
 -- what is requested
-abbrev pub task_of : HuntRequest → HuntTask
-task_of request = record { file = option_map (λ name. name.now) request.file; moment = request.moment; retained_limit = request.retained_limit }
+abbrev pub hunt_task : HuntRequest → HuntTask
+hunt_task request = record { file = option_map (λ name. name.now) request.file; moment = request.moment; retained_limit = request.retained_limit }
 
 -- the arguments are TIME, or TIME CAP
 pub record ArePositions (arguments : List (List ℕ)) (moment : ℤ) (retained_limit : ℕ) : Type 0 where
   pub time : List ℕ
   pub caps : List (List ℕ)
   pub arguments_are : arguments ≡ time ∷ caps
-  pub time_is : IsTextOf time moment
+  pub time_is : IsTextOfInstant time moment
   pub retained_limit_is : IsNumberOr DEFAULT_RETAINED_LIMIT 1 MAX_RETAINED_LIMIT caps retained_limit
 
 -- an argument is the option, the next one names a file, and the others are positional
@@ -47,9 +47,9 @@ pub record OptionAfter (arguments : List (List ℕ)) (task : HuntTask) : Type 0 
   pub are : AreWithOption option name others task
 
 -- the arguments request this: positional arguments alone, or with the option
-abbrev pub AskFor : List (List ℕ) → HuntTask → Type 0
-AskFor arguments task = ((task.file ≡ None) × ArePositions arguments task.moment task.retained_limit) ⊎ OptionBefore arguments task ⊎ OptionAfter arguments task
+abbrev pub AskForHunt : List (List ℕ) → HuntTask → Type 0
+AskForHunt arguments task = ((task.file ≡ None) × ArePositions arguments task.moment task.retained_limit) ⊎ OptionBefore arguments task ⊎ OptionAfter arguments task
 
 -- the arguments are no command line
-abbrev pub AskForNothing : List (List ℕ) → Type 0
-AskForNothing arguments = (task : HuntTask) → ¬ AskFor arguments task
+abbrev pub AskForNoHunt : List (List ℕ) → Type 0
+AskForNoHunt arguments = (task : HuntTask) → ¬ AskForHunt arguments task

@@ -16,12 +16,12 @@ use Rattle.match_run.specs.declared.watch_end.WatchEnd.TheVariants.{Done, Input,
 use Rattle.hunt_feed.specs.declared.hunted.Hunt.{Hunt}
 use Rattle.hunt_feed.specs.Indicators.{IsHuntOf}
 use Rattle.hunt_engine.specs.declared.found.Hit.{Hit}
-use Rattle.hunt_engine.specs.EngineLog.{Row, row_of}
+use Rattle.hunt_engine.specs.EngineLog.{ObservationRow, engine_row}
 use Rattle.hunt_engine.specs.EngineAnswer.{IsFirstOverLimit}
 use Rattle.hunt_report.specs.declared.over_limit.OverLimit.{OverLimit}
 use Rattle.hunt_report.specs.Rows.{rows_over, rows_of}
 use Rattle.hunt_report.specs.Hits.{AreHits, AreNeverOverLimit}
-use Rattle.hunt_report.specs.Lines.{skipped_text, hits_text}
+use Rattle.hunt_report.specs.Lines.{skipped_lines, hits_text}
 use Rattle.hunt_report.specs.HitSummaries.{IsReport, IsReportText}
 use Rattle.hunt_report.specs.Hunting.{patterns_of}
 use Rattle.command_hunt.specs.Tasks.{HuntTask}
@@ -37,7 +37,7 @@ feed_of None (first ∷ later) = Some first.objects
 
 -- the hunt of a feed over the rows of a log: which indicators are hunted and which are skipped, and
 -- the hits
-pub record HuntsRows (task : HuntTask) (feed : List Data) (rows : List Row) : Type 0 where
+pub record HuntsRows (task : HuntTask) (feed : List Data) (rows : List ObservationRow) : Type 0 where
   pub hunt : Hunt
   pub hunt_is : IsHuntOf feed task.moment hunt
   pub hits : List Hit
@@ -45,8 +45,8 @@ pub record HuntsRows (task : HuntTask) (feed : List Data) (rows : List Row) : Ty
   pub within_limit : AreNeverOverLimit (patterns_of hunt.hunted) task.retained_limit rows
 
 -- the skipped indicators and then the hits, a line each
-abbrev pub reported_of : {task : HuntTask} → {feed : List Data} → {rows : List Row} → HuntsRows task feed rows → List ℕ
-reported_of hunts = skipped_text hunts.hunt.skipped ++ hits_text hunts.hunt.hunted hunts.hits
+abbrev pub reported_of : {task : HuntTask} → {feed : List Data} → {rows : List ObservationRow} → HuntsRows task feed rows → List ℕ
+reported_of hunts = skipped_lines hunts.hunt.skipped ++ hits_text hunts.hunt.hunted hunts.hits
 
 -- ---- what is reported of the bundles of an input, where a file holds these objects, or there is none
 
@@ -99,7 +99,7 @@ module _ (task : HuntTask) (file : Option (List Data)) (before after : Streams) 
 
   -- the run stopped at the first observation at which a pattern exceeds its limit, and read no
   -- further than its line: the hits before it were written
-  pub record StopsOverLimit (why : OverLimit) : Type 0 where
+  pub record HuntStopsOverLimit (why : OverLimit) : Type 0 where
     pub earlier : List BundleOf
     pub bundle : BundleOf
     pub begins : HasPrefix Lines before.left (earlier ++ bundle ∷ [])
@@ -112,12 +112,12 @@ module _ (task : HuntTask) (file : Option (List Data)) (before after : Streams) 
     pub feed_is : feed_of file (earlier ++ bundle ∷ []) ≡ Some feed
     pub hunts : HuntsRows task feed (rows_of earlier ++ rows_over bundle.objects seen)
     pub over_limit : IsFirstOverLimit (patterns_of hunts.hunt.hunted) task.retained_limit
-        ((rows_of earlier ++ rows_over bundle.objects seen) ++ row_of observation bundle.objects ∷ []) why.hunted why.number why.retained_limit
+        ((rows_of earlier ++ rows_over bundle.objects seen) ++ engine_row observation bundle.objects ∷ []) why.hunted why.number why.retained_limit
     pub text_is : after.written ≡ written_with (reported_of hunts) before.written
 
   -- the run stopped within a bundle, and read no further than its line: what is reported of the
   -- bundles before was, and of what is reported of its first observations a prefix was written
-  pub record StopsWithin : Type 0 where
+  pub record HuntStopsWithin : Type 0 where
     pub earlier : List BundleOf
     pub bundle : BundleOf
     pub begins : HasPrefix Lines before.left (earlier ++ bundle ∷ [])
@@ -148,7 +148,7 @@ module _ (task : HuntTask) (file : Option (List Data)) (before after : Streams) 
     pub drained : IsAtEnd after.left
 
   -- the run stopped between two bundles: the hits of those before were reported
-  pub record StopsBetween : Type 0 where
+  pub record HuntStopsBetween : Type 0 where
     pub bundles : List BundleOf
     pub begins : HasPrefix Lines before.left bundles
     pub text : List ℕ
@@ -173,6 +173,6 @@ module _ (task : HuntTask) (file : Option (List Data)) (before after : Streams) 
   AnswersHunt Done = HuntsWhole
   AnswersHunt (Input line why) = HuntsBefore line why
   AnswersHunt ReadFault = HuntsTaken
-  AnswersHunt WriteFault = StopsSkipping ⊎ StopsWithin ⊎ StopsReporting
-  AnswersHunt (Stopped why) = StopsOverLimit why
-  AnswersHunt NoMemory = StopsUnreported ⊎ StopsSkipping ⊎ StopsBetween ⊎ StopsWithin ⊎ StopsReporting
+  AnswersHunt WriteFault = StopsSkipping ⊎ HuntStopsWithin ⊎ StopsReporting
+  AnswersHunt (Stopped why) = HuntStopsOverLimit why
+  AnswersHunt NoMemory = StopsUnreported ⊎ StopsSkipping ⊎ HuntStopsBetween ⊎ HuntStopsWithin ⊎ StopsReporting

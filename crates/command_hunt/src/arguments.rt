@@ -2,11 +2,11 @@
 
 ghost use Rattle.std.specs.Prelude.{◌≡◌, ◌≢◌, ◌⊎◌, ◌↔◌, ℕ, ℤ, [], List, IfNone, IfSome, IsTrue};
 ghost use Rattle.std.specs.Prelude.{codes};
-ghost use Rattle.command_line.specs.CommandLines.{texts, IsNumberOr};
+ghost use Rattle.command_line.specs.CommandLines.{argument_texts, IsNumberOr};
 ghost use Rattle.command_line.specs.declared.numbers.TheConstants.{DEFAULT_RETAINED_LIMIT as usual};
 ghost use Rattle.command_line.specs.declared.numbers.TheConstants.{MAX_RETAINED_LIMIT as most};
 ghost use Rattle.command_hunt.specs.Tasks.{HuntTask, ArePositions, AreWithOption, OptionBefore};
-ghost use Rattle.command_hunt.specs.Tasks.{OptionAfter, AskFor, AskForNothing, task_of};
+ghost use Rattle.command_hunt.specs.Tasks.{OptionAfter, AskForHunt, AskForNoHunt, hunt_task};
 
 use command_line::{DEFAULT_RETAINED_LIMIT, MAX_RETAINED_LIMIT, number_in};
 use stix_times::laws::one_instant;
@@ -30,8 +30,8 @@ struct Positions {
 
 /// Parses the arguments after the program's name; `None` if they are no command line.
 pub(crate) fn read_request<'a>(arguments: &'a [String]) -> Option<HuntRequest<'a>>
-    ensures some { IfSome result (λ request. AskFor (texts arguments.entry.now) (task_of request)) }
-    ensures none { IfNone result (AskForNothing (texts arguments.entry.now)) }
+    ensures some { IfSome result (λ request. AskForHunt (argument_texts arguments.entry.now) (hunt_task request)) }
+    ensures none { IfNone result (AskForNoHunt (argument_texts arguments.entry.now)) }
 {
     if let Some(positions) = read_positions(arguments) {
         return Some(HuntRequest {
@@ -50,9 +50,9 @@ pub(crate) fn read_request<'a>(arguments: &'a [String]) -> Option<HuntRequest<'a
 /// Parses arguments that begin with the option.
 fn option_before<'a>(arguments: &'a [String]) -> Option<HuntRequest<'a>>
     ensures some { IfSome result
-        (λ request. OptionBefore (texts arguments.entry.now) (task_of request)) }
+        (λ request. OptionBefore (argument_texts arguments.entry.now) (hunt_task request)) }
     ensures none { IfNone result ((task : HuntTask)
-        → ¬ OptionBefore (texts arguments.entry.now) task) }
+        → ¬ OptionBefore (argument_texts arguments.entry.now) task) }
 {
     let [option, name, others @ ..] = arguments else {
         return None;
@@ -63,9 +63,9 @@ fn option_before<'a>(arguments: &'a [String]) -> Option<HuntRequest<'a>>
 /// Parses arguments that end with the option.
 fn option_after<'a>(arguments: &'a [String]) -> Option<HuntRequest<'a>>
     ensures some { IfSome result
-        (λ request. OptionAfter (texts arguments.entry.now) (task_of request)) }
+        (λ request. OptionAfter (argument_texts arguments.entry.now) (hunt_task request)) }
     ensures none { IfNone result ((task : HuntTask)
-        → ¬ OptionAfter (texts arguments.entry.now) task) }
+        → ¬ OptionAfter (argument_texts arguments.entry.now) task) }
 {
     if arguments.len() < 2 {
         return None;
@@ -80,10 +80,10 @@ fn option_after<'a>(arguments: &'a [String]) -> Option<HuntRequest<'a>>
 /// Parses arguments, given the option, its value and the others.
 fn with_option<'a>(option: &str, name: &'a str, others: &[String]) -> Option<HuntRequest<'a>>
     ensures some { IfSome result
-        (λ request. AreWithOption option.entry.now name.entry.now (texts others.entry.now)
-        (task_of request)) }
+        (λ request. AreWithOption option.entry.now name.entry.now (argument_texts others.entry.now)
+        (hunt_task request)) }
     ensures none { IfNone result ((task : HuntTask)
-        → ¬ AreWithOption option.entry.now name.entry.now (texts others.entry.now) task) }
+        → ¬ AreWithOption option.entry.now name.entry.now (argument_texts others.entry.now) task) }
 {
     if !is_option(option, name) {
         return None;
@@ -110,9 +110,9 @@ fn is_option(option: &str, name: &str) -> bool
 fn read_positions(arguments: &[String]) -> Option<Positions>
     ensures some { IfSome result
         (λ positions. ArePositions
-        (texts arguments.now) positions.moment positions.retained_limit) }
+        (argument_texts arguments.now) positions.moment positions.retained_limit) }
     ensures none { IfNone result ((moment : ℤ) (retained_limit : ℕ)
-        → ¬ ArePositions (texts arguments.now) moment retained_limit) }
+        → ¬ ArePositions (argument_texts arguments.now) moment retained_limit) }
 {
     let [time, caps @ ..] = arguments else {
         return None;
@@ -127,9 +127,9 @@ fn read_positions(arguments: &[String]) -> Option<Positions>
 
 /// Parses the optional CAP; the default if it is absent.
 fn read_retained_limit(arguments: &[String]) -> Option<u32>
-    ensures some { IfSome result (IsNumberOr usual 1 most (texts arguments.now)) }
+    ensures some { IfSome result (IsNumberOr usual 1 most (argument_texts arguments.now)) }
     ensures none { IfNone result ((retained_limit : ℕ)
-        → ¬ IsNumberOr usual 1 most (texts arguments.now) retained_limit) }
+        → ¬ IsNumberOr usual 1 most (argument_texts arguments.now) retained_limit) }
 {
     match arguments {
         [] => Some(DEFAULT_RETAINED_LIMIT),

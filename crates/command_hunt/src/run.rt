@@ -13,16 +13,17 @@ ghost use Rattle.hunt_feed.specs.Gathering.{GathersFor};
 ghost use Rattle.hunt_feed.specs.declared.rule.FeedRule.{FeedRule};
 ghost use Rattle.hunt_feed.specs.Feeds.{Refused, ReadsFeed, AreUnbroken, GathersFeed};
 ghost use Rattle.hunt_engine.specs.declared.found.Hit.{Hit};
-ghost use Rattle.hunt_engine.specs.EngineLog.{Row};
+ghost use Rattle.hunt_engine.specs.EngineLog.{ObservationRow};
 ghost use Rattle.hunt_report.specs.Hunting.{HuntsOver, IsHuntable};
-ghost use Rattle.command_line.specs.CommandLines.{texts};
+ghost use Rattle.command_line.specs.CommandLines.{argument_texts};
 ghost use Rattle.command_reasons.specs.Reasons.{WritesReason};
-ghost use Rattle.command_hunt.specs.Tasks.{AskForNothing, task_of};
+ghost use Rattle.command_hunt.specs.Tasks.{AskForNoHunt, hunt_task};
 ghost use Rattle.command_hunt.specs.Feeding.{CountedByOne};
 ghost use Rattle.command_hunt.specs.Telling.{AnswersHunt};
-ghost use Rattle.command_hunt.specs.Endings.{AskSo, EndsTask, EndsHunt, hunt_status, IsHuntReason};
-ghost use Rattle.command_hunt.specs.Runs.{Ends, HuntsOrRefuses, HuntsToLimit, AskForFile};
-ghost use Rattle.command_hunt.specs.inner.Begun.{IsUnread, IsBegun, HasSkipped, Reports};
+ghost use Rattle.command_hunt.specs.Endings.{AskForHuntWhere, EndsHuntTask, EndsHunt, hunt_status};
+ghost use Rattle.command_hunt.specs.Endings.{IsHuntReason};
+ghost use Rattle.command_hunt.specs.Runs.{EndsHuntRun, HuntsOrRefuses, HuntsToLimit, AskForFile};
+ghost use Rattle.command_hunt.specs.inner.Begun.{IsUnreadInput, IsBegun, HasSkipped, Reports};
 
 use crate::arguments::{HuntRequest, read_request};
 use crate::ending::HuntEnding;
@@ -71,7 +72,7 @@ fn report<O: Sink>(
     output: &mut O,
 ) -> WatchEnd<OverLimit>
     requires huntable { All IsHuntable hunter.now.hunted }
-    ensures end { (rows : List Row) (hits : List Hit) → HuntsOver hunter.now rows hits
+    ensures end { (rows : List ObservationRow) (hits : List Hit) → HuntsOver hunter.now rows hits
         → Reports request.now.moment rows hits hunter.now.hunted (O.written output.old)
         (O.written output.new) result }
     // the report reads no input
@@ -105,9 +106,9 @@ fn hunt_for<I: Source, O: Sink>(
         → HasRead before.left reader.old (I.left input.old) (I.began input.old)
         (bundle_of first.now ∷ [])
         → IsBegun before (bundle_of first.now) (I.left input.old) (I.began input.old)
-        → HasSkipped (task_of request.now) before (bundle_of first.now).objects hunted.now
+        → HasSkipped (hunt_task request.now) before (bundle_of first.now).objects hunted.now
         (O.written output.old)
-        → AnswersHunt (task_of request.now) None before
+        → AnswersHunt (hunt_task request.now) None before
         (streams (I.left input.new) (I.began input.new) (O.written output.new)) result }
     ensures input { Counted (result ≡ WatchEnd.ReadFault) (I.faults input.old)
         (I.faults input.new) }
@@ -146,7 +147,7 @@ fn hunt_from<I: Source, O: Sink>(
         (bundle_of first.now ∷ [])
         → IsBegun before (bundle_of first.now) (I.left input.old) (I.began input.old)
         → before.written ≡ O.written output.old
-        → AnswersHunt (task_of request.now) None before
+        → AnswersHunt (hunt_task request.now) None before
         (streams (I.left input.new) (I.began input.new) (O.written output.new)) result }
     ensures input { Counted (result ≡ WatchEnd.ReadFault) (I.faults input.old)
         (I.faults input.new) }
@@ -175,7 +176,7 @@ fn hunt_input<I: Source, O: Sink>(
     input: &mut I,
     output: &mut O,
 ) -> WatchEnd<OverLimit>
-    ensures end { AnswersHunt (task_of request.now) None
+    ensures end { AnswersHunt (hunt_task request.now) None
         (streams (I.left input.old) (I.began input.old) (O.written output.old))
         (streams (I.left input.new) (I.began input.new) (O.written output.new)) result }
     ensures input { Counted (result ≡ WatchEnd.ReadFault) (I.faults input.old)
@@ -208,9 +209,9 @@ fn hunt_log<I: Source, O: Sink>(
     requires huntable { All IsHuntable hunted.now }
     requires start { reader.old ≡ reader_start Lines }
     ensures end { (before : Streams) (feed : List Data)
-        → IsUnread before (I.left input.old) (I.began input.old)
-        → HasSkipped (task_of request.now) before feed hunted.now (O.written output.old)
-        → AnswersHunt (task_of request.now) (Some feed) before
+        → IsUnreadInput before (I.left input.old) (I.began input.old)
+        → HasSkipped (hunt_task request.now) before feed hunted.now (O.written output.old)
+        → AnswersHunt (hunt_task request.now) (Some feed) before
         (streams (I.left input.new) (I.began input.new) (O.written output.new)) result }
     ensures input { Counted (result ≡ WatchEnd.ReadFault) (I.faults input.old)
         (I.faults input.new) }
@@ -240,7 +241,7 @@ fn hunt_feed<I: Source, O: Sink>(
 ) -> WatchEnd<OverLimit>
     requires fed { (feed : List Data) × GathersFor gathering feed × AreUnbroken feed }
     ensures end { (feed : List Data) → GathersFor gathering feed
-        → AnswersHunt (task_of request.now) (Some feed)
+        → AnswersHunt (hunt_task request.now) (Some feed)
         (streams (I.left input.old) (I.began input.old) (O.written output.old))
         (streams (I.left input.new) (I.began input.new) (O.written output.new)) result }
     ensures input { Counted (result ≡ WatchEnd.ReadFault) (I.faults input.old)
@@ -291,11 +292,11 @@ fn hunt_file<F: Files, I: Source, O: Sink>(
     input: &mut I,
     output: &mut O,
 ) -> HuntEnding
-    ensures end { (task_of request.now).file ≡ Some name.now
-        → EndsTask (F.contents files.old)
+    ensures end { (hunt_task request.now).file ≡ Some name.now
+        → EndsHuntTask (F.contents files.old)
         (streams (I.left input.old) (I.began input.old) (O.written output.old))
         (streams (I.left input.new) (I.began input.new) (O.written output.new)) result
-        (task_of request.now) }
+        (hunt_task request.now) }
     ensures files { Counted (result ≡ HuntEnding.Unfed FeedEnd.Fault) (F.faults files.old)
         (F.faults files.new) }
     ensures input { Counted (result ≡ HuntEnding.Ended WatchEnd.ReadFault) (I.faults input.old)
@@ -316,14 +317,14 @@ fn execute<F: Files, I: Source, O: Sink>(
     input: &mut I,
     output: &mut O,
 ) -> HuntEnding
-    ensures end { EndsHunt (texts arguments.now) (F.contents files.old)
+    ensures end { EndsHunt (argument_texts arguments.now) (F.contents files.old)
         (streams (I.left input.old) (I.began input.old) (O.written output.old))
         (streams (I.left input.new) (I.began input.new) (O.written output.new)) result }
     ensures untouched { hunt_status result ≡ 2
         → (files.new ≡ files.old) × (input.new ≡ input.old) × (output.new ≡ output.old) }
     // without `--indicators` no file is opened
-    ensures unopened { ¬ AskForFile (texts arguments.now) → files.new ≡ files.old }
-    ensures reads { CountedByOne (AskForFile (texts arguments.now)) (hunt_status result ≡ 5)
+    ensures unopened { ¬ AskForFile (argument_texts arguments.now) → files.new ≡ files.old }
+    ensures reads { CountedByOne (AskForFile (argument_texts arguments.now)) (hunt_status result ≡ 5)
         (I.faults input.old) (I.faults input.new)
         (F.faults files.old) (F.faults files.new) }
     ensures output { Counted (hunt_status result ≡ 6) (O.faults output.old) (O.faults output.new) }
@@ -367,26 +368,26 @@ pub fn run_hunt<F: Files, I: Source, O: Sink, E: Sink>(
     output: &mut O,
     faults: &mut E,
 ) -> u8
-    ensures ends { Ends (texts arguments.now) (F.contents files.old)
+    ensures ends { EndsHuntRun (argument_texts arguments.now) (F.contents files.old)
         (streams (I.left input.old) (I.began input.old) (O.written output.old))
         (streams (I.left input.new) (I.began input.new) (O.written output.new)) result
         (λ reason. WritesReason reason (E.written faults.old) (E.written faults.new)
         (E.faults faults.old) (E.faults faults.new)) }
-    ensures refusals { (result ≡ 2) ↔ AskForNothing (texts arguments.now) }
+    ensures refusals { (result ≡ 2) ↔ AskForNoHunt (argument_texts arguments.now) }
     // with status 0 or 4 exactly the hits were written, or the indicator file was refused
     ensures reported { (result ≡ 0) ⊎ (result ≡ 4)
-        → AskSo (texts arguments.now) (HuntsOrRefuses (F.contents files.old)
+        → AskForHuntWhere (argument_texts arguments.now) (HuntsOrRefuses (F.contents files.old)
         (streams (I.left input.old) (I.began input.old) (O.written output.old))
         (streams (I.left input.new) (I.began input.new) (O.written output.new)) result) }
     ensures over_limit { result ≡ 7
-        → AskSo (texts arguments.now) (HuntsToLimit (F.contents files.old)
+        → AskForHuntWhere (argument_texts arguments.now) (HuntsToLimit (F.contents files.old)
         (streams (I.left input.old) (I.began input.old) (O.written output.old))
         (streams (I.left input.new) (I.began input.new) (O.written output.new))) }
     ensures untouched { result ≡ 2
         → (files.new ≡ files.old) × (input.new ≡ input.old) × (output.new ≡ output.old) }
-    ensures unopened { ¬ AskForFile (texts arguments.now) → files.new ≡ files.old }
+    ensures unopened { ¬ AskForFile (argument_texts arguments.now) → files.new ≡ files.old }
     // status 5 exactly if the input or, with `--indicators`, the files counted a fault
-    ensures reads { CountedByOne (AskForFile (texts arguments.now)) (result ≡ 5)
+    ensures reads { CountedByOne (AskForFile (argument_texts arguments.now)) (result ≡ 5)
         (I.faults input.old) (I.faults input.new) (F.faults files.old) (F.faults files.new) }
     ensures output { Counted (result ≡ 6) (O.faults output.old) (O.faults output.new) }
 {

@@ -10,12 +10,12 @@ use Rattle.clap.specs.declared.error.Error.{Error}
 use Rattle.clap.specs.declared.error.kind.ErrorKind.TheVariants.{OutOfMemory}
 use Rattle.clap.specs.Simple.{subcommand_of}
 use Rattle.clap.specs.Walk.{Row, first_of, one_of}
-use Rattle.command_line.specs.Parts.{Part, positions}
-use Rattle.command_line.specs.CommandLines.{AreCollectionsOf, Check, IsBase, IsCalledWith, IsCommandLine, IsFile, IsFlag, IsNumberIn, IsNumberOf, IsNumberOr, IsServeLine, IsValueOrNone, Make, Match, PlainRequest, PlainService, Serve, Show, flags_of, texts, values_of}
+use Rattle.command_line.specs.Parts.{ArgumentPart, positions}
+use Rattle.command_line.specs.CommandLines.{AreCollectionsOf, Check, IsBase, IsCalledWith, IsCommandLine, IsFile, IsFlag, IsNumberIn, IsNumberOf, IsNumberOr, IsServeLine, IsValueOrNone, Make, Match, PlainRequest, PlainService, Serve, Show, flags_of, argument_texts, option_values}
 use Rattle.match_generator.specs.declared.log.TheConstants.{MAX_SEED, MAX_COUNT}
 use Rattle.command_line.specs.declared.numbers.TheConstants.{DEFAULT_RETAINED_LIMIT, MAX_RETAINED_LIMIT, MAX_CONNECTIONS, MAX_PORT}
-use Rattle.command_line.specs.inner.Forms.{Form, check_form, collection_names, program_app, make_form, match_form, serve_form, show_form}
-use Rattle.command_line.specs.inner.Rows.{command_name, IsAskedBy, IsAskedIn, IsRetainedLimitText, IsFlagText, IsMatchIn, IsNumberText, IsServeIn, IsTextOrNone, arguments_at}
+use Rattle.command_line.specs.inner.Forms.{CommandForm, check_form, collection_names, program_app, make_form, match_form, serve_form, show_form}
+use Rattle.command_line.specs.inner.Rows.{command_name, IsAskedBy, IsAskedIn, IsRetainedLimitText, IsFlagText, IsMatchIn, IsPresentNumberText, IsServeIn, IsTextOrNone, arguments_at}
 use Rattle.command_line.proofs.HasLemmas.{Text, differ, has, or_false, same_text}
 use Rattle.command_line.proofs.PartRowsLemmas.{argument_rows}
 use Rattle.command_line.proofs.CutLemmas.{AreUtf8}
@@ -26,7 +26,7 @@ use Rattle.command_line.proofs.ArgumentsLemmas.{arguments_back, arguments_same}
 use Rattle.command_line.proofs.FormLemmas.{positions_distinct}
 
 -- the arguments of a program are UTF-8
-pub texts_utf8 : (arguments : List (String Global)) → AreUtf8 (texts arguments)
+pub texts_utf8 : (arguments : List (String Global)) → AreUtf8 (argument_texts arguments)
 texts_utf8 [] = tt
 texts_utf8 (argument ∷ arguments) = (IsUtf8-string_bytes argument, texts_utf8 arguments)
 
@@ -83,7 +83,7 @@ pattern_to (argument ∷ other ∷ arguments) pattern few e = absurd (omega arit
 pattern_from : (arguments : List Text) (pattern : Text) → arguments ≡ pattern ∷ [] → first_of (codes "pattern") (argument_rows (codes "pattern" ∷ []) arguments) ≡ Some pattern
 pattern_from arguments pattern e = rw e refl
 
--- the texts of a seed and a count
+-- the argument_texts of a seed and a count
 record Both (arguments : List Text) : Type 0 where
   seed : Text
   count : Text
@@ -97,8 +97,8 @@ both_of (a ∷ []) few = absurd (omega arith)
 both_of (a ∷ b ∷ []) few = record { seed = a; count = b; both = refl; seed_is = refl; count_is = refl }
 both_of (a ∷ b ∷ c ∷ arguments) few = absurd (omega arith)
 
-number_text : (least most : ℕ) (o : Option Text) (text : Text) (number : ℕ) → o ≡ Some text → IsNumberText least most o number → IsNumberIn least most text number
-number_text least most o text number e h = subst (λ (t : Option Text). IsNumberText least most t number) e h
+number_text : (least most : ℕ) (o : Option Text) (text : Text) (number : ℕ) → o ≡ Some text → IsPresentNumberText least most o number → IsNumberIn least most text number
+number_text least most o text number e h = subst (λ (t : Option Text). IsPresentNumberText least most t number) e h
 
 -- a number and a text that an option names
 of_once : (least most : ℕ) (values : List Text) (number : ℕ) → IsNumberOf least most values number → length values ≤ 1
@@ -106,14 +106,14 @@ of_once least most [] number h = absurd h
 of_once least most (value ∷ []) number h = omega arith
 of_once least most (value ∷ other ∷ values) number h = absurd h
 
-of_to : (least most : ℕ) (values : List Text) (number : ℕ) (o : Option Text) → length values ≤ 1 → o ≡ slice_get values 0 → IsNumberText least most o number → IsNumberOf least most values number
-of_to least most [] number o few e h = subst (λ (t : Option Text). IsNumberText least most t number) e h
-of_to least most (value ∷ []) number o few e h = subst (λ (t : Option Text). IsNumberText least most t number) e h
+of_to : (least most : ℕ) (values : List Text) (number : ℕ) (o : Option Text) → length values ≤ 1 → o ≡ slice_get values 0 → IsPresentNumberText least most o number → IsNumberOf least most values number
+of_to least most [] number o few e h = subst (λ (t : Option Text). IsPresentNumberText least most t number) e h
+of_to least most (value ∷ []) number o few e h = subst (λ (t : Option Text). IsPresentNumberText least most t number) e h
 of_to least most (value ∷ other ∷ values) number o few e h = absurd (omega arith)
 
-of_from : (least most : ℕ) (values : List Text) (number : ℕ) (o : Option Text) → o ≡ slice_get values 0 → IsNumberOf least most values number → IsNumberText least most o number
+of_from : (least most : ℕ) (values : List Text) (number : ℕ) (o : Option Text) → o ≡ slice_get values 0 → IsNumberOf least most values number → IsPresentNumberText least most o number
 of_from least most [] number o e h = absurd h
-of_from least most (value ∷ []) number o e h = subst (λ (t : Option Text). IsNumberText least most t number) (sym e) h
+of_from least most (value ∷ []) number o e h = subst (λ (t : Option Text). IsPresentNumberText least most t number) (sym e) h
 of_from least most (value ∷ other ∷ values) number o e h = absurd h
 
 module _ (IsForm : Text → Type 0) where
@@ -133,7 +133,7 @@ module _ (IsForm : Text → Type 0) where
   value_from (value ∷ other ∷ values) given o e h = absurd h
 
 -- the arguments of the collections
-arguments_are : (parts : List Part) (rows : List Row) → Tells serve_form parts rows → length (positions parts) ≤ length collection_names → arguments_at collection_names rows ≡ positions parts
+arguments_are : (parts : List ArgumentPart) (rows : List Row) → Tells serve_form parts rows → length (positions parts) ≤ length collection_names → arguments_at collection_names rows ≡ positions parts
 arguments_are parts rows tells few =
     arguments_same collection_names rows (argument_rows collection_names (positions parts)) tells.arguments
     ∙ arguments_back collection_names (positions parts) (positions_distinct serve_form (sound_of is_serve)) few
@@ -150,13 +150,13 @@ same_pair a b rows more e =
     (ap (λ (o : Found). (unwrap_or o first).0) e, ap (λ (o : Found). (unwrap_or o first).1) e)
 
 -- from what `clap` found to the line
-line_of : (form : Form) → Known form → (arguments rest : List Text) (parts : List Part) (rows : List Row) → arguments ≡ form.name ∷ rest → IsTaken form rest parts → Tells form parts rows
+line_of : (form : CommandForm) → Known form → (arguments rest : List Text) (parts : List ArgumentPart) (rows : List Row) → arguments ≡ form.name ∷ rest → IsTaken form rest parts → Tells form parts rows
     → (request : PlainRequest) → IsAskedIn form.name rows request → IsCommandLine arguments request
 line_of _ is_match arguments rest parts rows line taken tells (Match whole most pattern) asked = record {
   parts = parts;
   called = record { rest = rest; line = line; are_parts = taken.are_parts };
   whole_is = flag_to (flags_of (codes "whole") parts) whole (one_of (codes "whole") rows) (taken.fits.flags (codes "whole") refl) (tells.flags (codes "whole") refl) asked.1.whole_is;
-  retained_limit_is = retained_limit_to (values_of (codes "cap") parts) most (first_of (codes "cap") rows) (taken.fits.valued (codes "cap") refl) (tells.valued (codes "cap") refl) asked.1.retained_limit_is;
+  retained_limit_is = retained_limit_to (option_values (codes "cap") parts) most (first_of (codes "cap") rows) (taken.fits.valued (codes "cap") refl) (tells.valued (codes "cap") refl) asked.1.retained_limit_is;
   pattern_is = pattern_to (positions parts) pattern taken.fits.all (sym (tells.arguments (codes "pattern") refl) ∙ asked.1.pattern_is);
 }
 line_of _ is_check arguments rest parts rows line taken tells Check asked = record {
@@ -191,11 +191,11 @@ line_of _ is_serve arguments rest parts rows line taken tells (Serve service) as
     record {
       parts = parts;
       called = record { rest = rest; line = line; are_parts = taken.are_parts };
-      port_is = of_to 1 MAX_PORT (values_of (codes "port") parts) service.port (first_of (codes "port") rows) (taken.fits.valued (codes "port") refl) (tells.valued (codes "port") refl) serve.port_is;
-      connections_is = of_to 1 MAX_CONNECTIONS (values_of (codes "connections") parts) service.connections (first_of (codes "connections") rows) (taken.fits.valued (codes "connections") refl)
+      port_is = of_to 1 MAX_PORT (option_values (codes "port") parts) service.port (first_of (codes "port") rows) (taken.fits.valued (codes "port") refl) (tells.valued (codes "port") refl) serve.port_is;
+      connections_is = of_to 1 MAX_CONNECTIONS (option_values (codes "connections") parts) service.connections (first_of (codes "connections") rows) (taken.fits.valued (codes "connections") refl)
           (tells.valued (codes "connections") refl) serve.connections_is;
-      store_is = value_to IsFile (values_of (codes "store") parts) service.store (first_of (codes "store") rows) (taken.fits.valued (codes "store") refl) (tells.valued (codes "store") refl) serve.store_is;
-      base_is = value_to IsBase (values_of (codes "base") parts) service.base (first_of (codes "base") rows) (taken.fits.valued (codes "base") refl) (tells.valued (codes "base") refl) serve.base_is;
+      store_is = value_to IsFile (option_values (codes "store") parts) service.store (first_of (codes "store") rows) (taken.fits.valued (codes "store") refl) (tells.valued (codes "store") refl) serve.store_is;
+      base_is = value_to IsBase (option_values (codes "base") parts) service.base (first_of (codes "base") rows) (taken.fits.valued (codes "base") refl) (tells.valued (codes "base") refl) serve.base_is;
       collections_are = all;
       some = serve.some;
       few = omega (arith, as_many (positions parts) service.collections all, taken.fits.all);
@@ -227,13 +227,13 @@ pub record Asked (arguments : List Text) (request : PlainRequest) : Type 0 where
   pub asked : IsAskedBy rows request
   pub whole : WholeIs rows request
 
-record Taken (form : Form) (arguments : List Text) (parts : List Part) : Type 0 where
+record Taken (form : CommandForm) (arguments : List Text) (parts : List ArgumentPart) : Type 0 where
   quiet : fault_of program_app arguments ≡ []
   rows : List Row
   found : subcommand_of program_app arguments ≡ Some (form.name, rows)
   tells : Tells form parts rows
 
-taken_by : (form : Form) → Known form → (arguments : List Text) (parts : List Part) → IsCalledWith form.name form.options arguments parts → Fits form parts → Taken form arguments parts
+taken_by : (form : CommandForm) → Known form → (arguments : List Text) (parts : List ArgumentPart) → IsCalledWith form.name form.options arguments parts → Fits form parts → Taken form arguments parts
 taken_by form known arguments parts called fits =
     let level = level_from form (sound_of known) called.rest parts (record { are_parts = called.are_parts; fits = fits }) in
     record {
@@ -244,25 +244,25 @@ taken_by form known arguments parts called fits =
     }
 
 -- no option of a `serve` is repeated
-serve_once : {arguments : List Text} {service : PlainService} (line : IsServeLine arguments service) (name : Text) → has name serve_form.options.valued ≡ true → length (values_of name line.parts) ≤ 1
+serve_once : {arguments : List Text} {service : PlainService} (line : IsServeLine arguments service) (name : Text) → has name serve_form.options.valued ≡ true → length (option_values name line.parts) ≤ 1
 serve_once {arguments} {service} line name h = go (bytes_eq (codes "port") name) (bytes_eq (codes "connections") name) (bytes_eq (codes "store") name) (bytes_eq (codes "base") name) refl refl refl refl h
   where
-    at : (other : Text) → bytes_eq other name ≡ true → length (values_of other line.parts) ≤ 1 → length (values_of name line.parts) ≤ 1
-    at other t once = subst (λ (n : Text). length (values_of n line.parts) ≤ 1) (same_text other name t) once
+    at : (other : Text) → bytes_eq other name ≡ true → length (option_values other line.parts) ≤ 1 → length (option_values name line.parts) ≤ 1
+    at other t once = subst (λ (n : Text). length (option_values n line.parts) ≤ 1) (same_text other name t) once
 
     go : (a b c d : Bool) → bytes_eq (codes "port") name ≡ a → bytes_eq (codes "connections") name ≡ b → bytes_eq (codes "store") name ≡ c → bytes_eq (codes "base") name ≡ d
-        → (a || (b || (c || (d || false)))) ≡ true → length (values_of name line.parts) ≤ 1
-    go true b c d p q r s h = at (codes "port") p (of_once 1 MAX_PORT (values_of (codes "port") line.parts) service.port line.port_is)
-    go false true c d p q r s h = at (codes "connections") q (of_once 1 MAX_CONNECTIONS (values_of (codes "connections") line.parts) service.connections line.connections_is)
-    go false false true d p q r s h = at (codes "store") r (value_once IsFile (values_of (codes "store") line.parts) service.store line.store_is)
-    go false false false true p q r s h = at (codes "base") s (value_once IsBase (values_of (codes "base") line.parts) service.base line.base_is)
+        → (a || (b || (c || (d || false)))) ≡ true → length (option_values name line.parts) ≤ 1
+    go true b c d p q r s h = at (codes "port") p (of_once 1 MAX_PORT (option_values (codes "port") line.parts) service.port line.port_is)
+    go false true c d p q r s h = at (codes "connections") q (of_once 1 MAX_CONNECTIONS (option_values (codes "connections") line.parts) service.connections line.connections_is)
+    go false false true d p q r s h = at (codes "store") r (value_once IsFile (option_values (codes "store") line.parts) service.store line.store_is)
+    go false false false true p q r s h = at (codes "base") s (value_once IsBase (option_values (codes "base") line.parts) service.base line.base_is)
     go false false false false p q r s h = absurd (false≢true h)
 
 pub asked_from : (arguments : List Text) (request : PlainRequest) → IsCommandLine arguments request → Asked arguments request
 asked_from arguments (Match whole most pattern) line =
     let fits : Fits match_form line.parts = record {
       flags = λ name h. rw (one_name (codes "whole") name h) (flag_once (flags_of (codes "whole") line.parts) whole line.whole_is);
-      valued = λ name h. rw (one_name (codes "cap") name h) (number_once DEFAULT_RETAINED_LIMIT 1 MAX_RETAINED_LIMIT (values_of (codes "cap") line.parts) most line.retained_limit_is);
+      valued = λ name h. rw (one_name (codes "cap") name h) (number_once DEFAULT_RETAINED_LIMIT 1 MAX_RETAINED_LIMIT (option_values (codes "cap") line.parts) most line.retained_limit_is);
       all = ap length line.pattern_is;
     } in
     let taken = taken_by match_form is_match arguments line.parts line.called fits in
@@ -273,7 +273,7 @@ asked_from arguments (Match whole most pattern) line =
       found = taken.found;
       asked = record {
         whole_is = text_says (one_of (codes "whole") taken.rows) whole whole_text;
-        retained_limit_is = retained_limit_from (values_of (codes "cap") line.parts) most (first_of (codes "cap") taken.rows) (taken.tells.valued (codes "cap") refl) line.retained_limit_is;
+        retained_limit_is = retained_limit_from (option_values (codes "cap") line.parts) most (first_of (codes "cap") taken.rows) (taken.tells.valued (codes "cap") refl) line.retained_limit_is;
         pattern_is = taken.tells.arguments (codes "pattern") refl ∙ pattern_from (positions line.parts) pattern line.pattern_is;
       };
       whole = whole_text;
@@ -302,8 +302,8 @@ asked_from arguments (Make seed count) line =
       rows = taken.rows;
       found = taken.found;
       asked = record {
-        seed_is = subst (λ (t : Option Text). IsNumberText 0 MAX_SEED t seed) (sym seed_text) line.seed_is;
-        count_is = subst (λ (t : Option Text). IsNumberText 1 MAX_COUNT t count) (sym count_text) line.count_is;
+        seed_is = subst (λ (t : Option Text). IsPresentNumberText 0 MAX_SEED t seed) (sym seed_text) line.seed_is;
+        count_is = subst (λ (t : Option Text). IsPresentNumberText 1 MAX_COUNT t count) (sym count_text) line.count_is;
       };
       whole = tt;
     }
@@ -318,11 +318,11 @@ asked_from arguments (Serve service) line =
       rows = taken.rows;
       found = taken.found;
       asked = record {
-        port_is = of_from 1 MAX_PORT (values_of (codes "port") line.parts) service.port (first_of (codes "port") taken.rows) (taken.tells.valued (codes "port") refl) line.port_is;
-        connections_is = of_from 1 MAX_CONNECTIONS (values_of (codes "connections") line.parts) service.connections (first_of (codes "connections") taken.rows)
+        port_is = of_from 1 MAX_PORT (option_values (codes "port") line.parts) service.port (first_of (codes "port") taken.rows) (taken.tells.valued (codes "port") refl) line.port_is;
+        connections_is = of_from 1 MAX_CONNECTIONS (option_values (codes "connections") line.parts) service.connections (first_of (codes "connections") taken.rows)
             (taken.tells.valued (codes "connections") refl) line.connections_is;
-        store_is = value_from IsFile (values_of (codes "store") line.parts) service.store (first_of (codes "store") taken.rows) (taken.tells.valued (codes "store") refl) line.store_is;
-        base_is = value_from IsBase (values_of (codes "base") line.parts) service.base (first_of (codes "base") taken.rows) (taken.tells.valued (codes "base") refl) line.base_is;
+        store_is = value_from IsFile (option_values (codes "store") line.parts) service.store (first_of (codes "store") taken.rows) (taken.tells.valued (codes "store") refl) line.store_is;
+        base_is = value_from IsBase (option_values (codes "base") line.parts) service.base (first_of (codes "base") taken.rows) (taken.tells.valued (codes "base") refl) line.base_is;
         collections_are = subst (λ (ws : List Text). AreCollectionsOf ws service.collections) (sym named) line.collections_are;
         some = line.some;
         differ = line.differ;
@@ -344,7 +344,7 @@ same_retained_limit : (o : Option Text) (a b : ℕ) → IsRetainedLimitText o a 
 same_retained_limit None a b h g = h ∙ sym g
 same_retained_limit (Some text) a b h g = sym h.value ∙ g.value
 
-same_number : (least most : ℕ) (o : Option Text) (a b : ℕ) → IsNumberText least most o a → IsNumberText least most o b → a ≡ b
+same_number : (least most : ℕ) (o : Option Text) (a b : ℕ) → IsPresentNumberText least most o a → IsPresentNumberText least most o b → a ≡ b
 same_number least most None a b h g = absurd h
 same_number least most (Some text) a b h g = sym h.value ∙ g.value
 

@@ -3,8 +3,8 @@ use Rattle.std.proofs.Common.{◌≡◌, ◌≤◌, ◌+◌, ℕ, suc, Bool, tru
 use Rattle.clap.specs.Lexer.{long_of}
 use Rattle.clap.specs.Faults.{turn_fault, walk_fault}
 use Rattle.clap.specs.Walk.{Row, Waiting, Walk, has_row, idle, option, used, walked}
-use Rattle.command_line.specs.Parts.{Part, Flag, Valued, Position, Options, AreParts, none, flag, joined, apart, position, rest, IsNoOption, positions}
-use Rattle.command_line.specs.inner.Forms.{Form}
+use Rattle.command_line.specs.Parts.{ArgumentPart, Flag, Valued, Position, Options, AreArgumentParts, none, flag, joined, apart, position, rest, IsNoOption, positions}
+use Rattle.command_line.specs.inner.Forms.{CommandForm}
 use Rattle.command_line.proofs.HasLemmas.{Text, has, has_to}
 use Rattle.command_line.proofs.FormLemmas.{built_flag, built_option, built_rules, is_sound_form, option_no_flag}
 use Rattle.command_line.proofs.LexerLemmas.{Look, look, dashes, alone, with_value, short, plain, plain_argument_is}
@@ -18,19 +18,19 @@ AreUtf8 [] = Unit {0}
 AreUtf8 (argument ∷ arguments) = IsUtf8 argument × AreUtf8 arguments
 
 -- parts of arguments whose first is known
-flag_parts : (options : Options) (name argument : Text) (arguments : List Text) (parts : List Part) → argument ≡ 45 ∷ 45 ∷ name → has name options.flags ≡ true
-    → AreParts options arguments parts → AreParts options (argument ∷ arguments) (Flag name ∷ parts)
+flag_parts : (options : Options) (name argument : Text) (arguments : List Text) (parts : List ArgumentPart) → argument ≡ 45 ∷ 45 ∷ name → has name options.flags ≡ true
+    → AreArgumentParts options arguments parts → AreArgumentParts options (argument ∷ arguments) (Flag name ∷ parts)
 flag_parts options name argument arguments parts is h d = rw is (flag (has_to options.flags name h) d)
 
-joined_parts : (options : Options) (name value argument : Text) (arguments : List Text) (parts : List Part) → argument ≡ 45 ∷ 45 ∷ (name ++ 61 ∷ value) → has name options.valued ≡ true
-    → AreParts options arguments parts → AreParts options (argument ∷ arguments) (Valued name value ∷ parts)
+joined_parts : (options : Options) (name value argument : Text) (arguments : List Text) (parts : List ArgumentPart) → argument ≡ 45 ∷ 45 ∷ (name ++ 61 ∷ value) → has name options.valued ≡ true
+    → AreArgumentParts options arguments parts → AreArgumentParts options (argument ∷ arguments) (Valued name value ∷ parts)
 joined_parts options name value argument arguments parts is h d = rw is (joined (has_to options.valued name h) d)
 
-apart_parts : (options : Options) (name value argument : Text) (arguments after : List Text) (parts : List Part) → argument ≡ 45 ∷ 45 ∷ name → arguments ≡ value ∷ after
-    → has name options.valued ≡ true → IsNoOption value → AreParts options after parts → AreParts options (argument ∷ arguments) (Valued name value ∷ parts)
+apart_parts : (options : Options) (name value argument : Text) (arguments after : List Text) (parts : List ArgumentPart) → argument ≡ 45 ∷ 45 ∷ name → arguments ≡ value ∷ after
+    → has name options.valued ≡ true → IsNoOption value → AreArgumentParts options after parts → AreArgumentParts options (argument ∷ arguments) (Valued name value ∷ parts)
 apart_parts options name value argument arguments after parts is are h p d = rw (is, are) (apart (has_to options.valued name h) p d)
 
-module _ (form : Form) (sound : is_sound_form form ≡ true) where
+module _ (form : CommandForm) (sound : is_sound_form form ≡ true) where
   pub record Trailed (rows : List Row) (pending : Pending) (arguments : List Text) (left : List Text) : Type 0 where
     pub settles : Settles form rows pending
     pub fits : length (positions (map Position arguments)) ≤ length left
@@ -56,8 +56,8 @@ module _ (form : Form) (sound : is_sound_form form ≡ true) where
 
   -- parts of the arguments that fit, from a state on
   pub record Cut (rows : List Row) (pending : Pending) (arguments left : List Text) : Type 0 where
-    pub parts : List Part
-    pub are_parts : AreParts form.options arguments parts
+    pub parts : List ArgumentPart
+    pub are_parts : AreArgumentParts form.options arguments parts
     pub settles : Settles form rows pending
     pub fits : length (positions parts) ≤ length left
     pub fresh : Fresh (rows_with form rows pending) (part_rows left parts)

@@ -8,7 +8,7 @@ use Rattle.clap.specs.Takes.{is_given}
 use Rattle.clap.specs.Walk.{Row, Rule, has_row, more_values, with_default}
 use Rattle.clap.specs.declared.builder.value_parser.Reading.TheVariants.{AsWritten}
 use Rattle.clap.specs.declared.parser.matches.ValueSource.TheVariants.{DefaultValue}
-use Rattle.command_line.specs.inner.Forms.{Form}
+use Rattle.command_line.specs.inner.Forms.{CommandForm}
 use Rattle.command_line.proofs.HasLemmas.{Text, are_distinct, and_left, and_right, eq_self, has, not_true, or_right, same_text}
 use Rattle.command_line.proofs.FormLemmas.{built_flag, built_option, built_position, built_positions, built_rules}
 use Rattle.command_line.proofs.RowsLemmas.{at_absent, value_row}
@@ -33,7 +33,7 @@ fold_positions needed n [] rows = refl
 fold_positions needed n (name ∷ names) rows =
     ap (λ (rs : List Row). fold with_default rs (built_positions needed (suc n) names)) (same_both (has_row name rows) rows) ∙ fold_positions needed (suc n) names rows
 
-pub fold_rules : (form : Form) (rows : List Row) → fold with_default rows (built_rules form) ≡ fold with_default rows (map built_flag form.options.flags)
+pub fold_rules : (form : CommandForm) (rows : List Row) → fold with_default rows (built_rules form) ≡ fold with_default rows (map built_flag form.options.flags)
 fold_rules form rows =
     fold-append with_default rows (map built_flag form.options.flags) (map built_option form.options.valued ++ built_positions form.needs_all 1 form.positions)
     ∙ fold_options form.options.valued (built_positions form.needs_all 1 form.positions) (fold with_default rows (map built_flag form.options.flags))
@@ -114,7 +114,7 @@ quiet_positions needed n (x ∷ names) rows = rw (position_default (has_row x ro
     position_default : (b : Bool) → default_fault rows (built_position needed n x) ≡ []
     position_default b = same_both _ []
 
-pub no_defaults_fault : (form : Form) (rows : List Row) → defaults_fault rows (built_rules form) ≡ []
+pub no_defaults_fault : (form : CommandForm) (rows : List Row) → defaults_fault rows (built_rules form) ≡ []
 no_defaults_fault form rows =
     quiet_defaults built_flag (λ rs x. same_both _ []) form.options.flags (map built_option form.options.valued ++ built_positions form.needs_all 1 form.positions)
     (λ rs. quiet_defaults built_option (λ ss x. same_both _ []) form.options.valued (built_positions form.needs_all 1 form.positions) (λ ss. quiet_positions form.needs_all 1 form.positions ss) rs) rows
@@ -143,7 +143,7 @@ wants_positions : (needed : Bool) (rows : List Row) (n : ℕ) (names : List Text
 wants_positions true rows n names = wants_needed rows n names
 wants_positions false rows n names = wants_free rows n names
 
-pub wants_rules : (form : Form) (rows : List Row) → list_any (wants rows) (built_rules form) ≡ (form.needs_all && list_any (λ name. not (is_given name rows)) form.positions)
+pub wants_rules : (form : CommandForm) (rows : List Row) → list_any (wants rows) (built_rules form) ≡ (form.needs_all && list_any (λ name. not (is_given name rows)) form.positions)
 wants_rules form rows =
     wants_flags rows form.options.flags (map built_option form.options.valued ++ built_positions form.needs_all 1 form.positions)
     ∙ wants_options rows form.options.valued (built_positions form.needs_all 1 form.positions)

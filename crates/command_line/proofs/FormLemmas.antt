@@ -7,7 +7,7 @@ use Rattle.std.proofs.lemmas.Bool.Decides.{Decides-eqb, nat_tests}
 use Rattle.clap.specs.Lexer.{has_byte}
 use Rattle.clap.specs.Walk.{Rule, arg_by_id, arg_by_index, arg_by_long, arg_by_short, has_long, has_short, is_empty}
 use Rattle.clap.specs.Simple.{filled, with_index}
-use Rattle.command_line.specs.inner.Forms.{Form, flag_rule, option_rule, position_rule}
+use Rattle.command_line.specs.inner.Forms.{CommandForm, flag_rule, option_rule, position_rule}
 use Rattle.command_line.proofs.HasLemmas.{Text, has, are_distinct, same_text, or_false, and_left, and_right, not_true, all_has, found_in, passed_in, passed_all}
 
 abbrev pub built_flag : Text → Rule
@@ -24,7 +24,7 @@ abbrev pub built_positions : Bool → ℕ → List Text → List Rule
 built_positions needed n [] = []
 built_positions needed n (name ∷ names) = built_position needed n name ∷ built_positions needed (suc n) names
 
-abbrev pub built_rules : Form → List Rule
+abbrev pub built_rules : CommandForm → List Rule
 built_rules form = map built_flag form.options.flags ++ (map built_option form.options.valued ++ built_positions form.needs_all 1 form.positions)
 
 -- a name that `--NAME=VALUE` gives back
@@ -32,7 +32,7 @@ abbrev pub is_name : Text → Bool
 is_name name = not (is_empty name) && not (has_byte 61 name)
 
 -- the names of the options are names, and no name is used twice
-abbrev pub is_sound_form : Form → Bool
+abbrev pub is_sound_form : CommandForm → Bool
 is_sound_form form =
     list_all (λ name. is_name name && (not (has name form.options.valued) && not (has name form.positions))) form.options.flags
     && (list_all (λ name. is_name name && not (has name form.positions)) form.options.valued
@@ -76,7 +76,7 @@ long_test name a = not (is_some a.index) && has_long a name
 abbrev id_test : Text → Rule → Bool
 id_test name a = bytes_eq a.id name
 
-module _ (form : Form) where
+module _ (form : CommandForm) where
   pub long_flag : (name : Text) → has name form.options.flags ≡ true → arg_by_long (built_rules form) name ≡ Some (built_flag name)
   long_flag name h = found_in (long_test name) built_flag name (λ x. or_false (bytes_eq x name)) form.options.flags (map built_option form.options.valued ++ built_positions form.needs_all 1 form.positions) h
 
@@ -119,7 +119,7 @@ module _ (form : Form) where
       ∙ passed_all (λ a. option_map_or (λ i. i == (1 + k)) a.index false) built_option (λ x. refl) form.options.valued (built_positions form.needs_all 1 form.positions)
       ∙ index_in_positions form.needs_all 1 k form.positions
 
-module _ (form : Form) (sound : is_sound_form form ≡ true) where
+module _ (form : CommandForm) (sound : is_sound_form form ≡ true) where
   private_flags : list_all (λ name. is_name name && (not (has name form.options.valued) && not (has name form.positions))) form.options.flags ≡ true
   private_flags = and_left _ _ sound
 

@@ -10,9 +10,9 @@ use Rattle.clap.specs.Facts.{explicit_source}
 use Rattle.clap.specs.Takes.{is_given}
 use Rattle.clap.specs.Walk.{Row, first_of, has_row, nothing_held, one_of, row_text, rows_after, with_default}
 use Rattle.clap.specs.declared.error.kind.ErrorKind.TheVariants.{MissingRequiredArgument}
-use Rattle.command_line.specs.Parts.{Part, AreParts, positions}
-use Rattle.command_line.specs.CommandLines.{flags_of, values_of}
-use Rattle.command_line.specs.inner.Forms.{Form}
+use Rattle.command_line.specs.Parts.{ArgumentPart, AreArgumentParts, positions}
+use Rattle.command_line.specs.CommandLines.{flags_of, option_values}
+use Rattle.command_line.specs.inner.Forms.{CommandForm}
 use Rattle.command_line.proofs.HasLemmas.{Text, has}
 use Rattle.command_line.proofs.FormLemmas.{built_rules, flag_no_option, flag_no_position, is_sound_form, option_no_flag, option_no_position, position_no_flag, position_no_option, positions_distinct}
 use Rattle.command_line.proofs.RowsLemmas.{Fresh, both_quiet, flag_row, part_rows, value_row}
@@ -32,9 +32,9 @@ counted_few true count wanted h = omega (arith, h)
 counted_few false count wanted h = h
 
 -- no option is repeated, and no position is missing or surplus
-pub record Fits (form : Form) (parts : List Part) : Type 0 where
+pub record Fits (form : CommandForm) (parts : List ArgumentPart) : Type 0 where
   pub flags : (name : Text) → has name form.options.flags ≡ true → length (flags_of name parts) ≤ 1
-  pub valued : (name : Text) → has name form.options.valued ≡ true → length (values_of name parts) ≤ 1
+  pub valued : (name : Text) → has name form.options.valued ≡ true → length (option_values name parts) ≤ 1
   pub all : AreCounted form.needs_all (length (positions parts)) (length form.positions)
 
 -- a flag's text
@@ -43,9 +43,9 @@ flag_text [] = codes "false"
 flag_text (flag ∷ flags) = codes "true"
 
 -- the rows say what the parts say
-pub record Tells (form : Form) (parts : List Part) (rows : List Row) : Type 0 where
+pub record Tells (form : CommandForm) (parts : List ArgumentPart) (rows : List Row) : Type 0 where
   pub flags : (name : Text) → has name form.options.flags ≡ true → one_of name rows ≡ Some (flag_text (flags_of name parts))
-  pub valued : (name : Text) → has name form.options.valued ≡ true → first_of name rows ≡ slice_get (values_of name parts) 0
+  pub valued : (name : Text) → has name form.options.valued ≡ true → first_of name rows ≡ slice_get (option_values name parts) 0
   pub arguments : (name : Text) → has name form.positions ≡ true → first_of name rows ≡ first_of name (argument_rows form.positions (positions parts))
 
 no_row_from : (name : Text) (rows : List Row) → rows_named name rows ≡ [] → has_row name rows ≡ false
@@ -70,7 +70,7 @@ some_row_from name rows r rs e = go (has_row name rows) refl
     go true t = t
     go false t = let none' = none_named rows t in absurd (cc)
 
-module _ (form : Form) (sound : is_sound_form form ≡ true) (parts : List Part) (named : AreNamed form.options parts) where
+module _ (form : CommandForm) (sound : is_sound_form form ≡ true) (parts : List ArgumentPart) (named : AreNamed form.options parts) where
   abbrev own : List Row
   own = part_rows form.positions parts
 
@@ -83,7 +83,7 @@ module _ (form : Form) (sound : is_sound_form form ≡ true) (parts : List Part)
   flag_rows : (name : Text) → has name form.options.flags ≡ true → rows_named name own ≡ map flag_row (flags_of name parts)
   flag_rows name h = rows_of_flags form.options name (flag_no_option form sound name h) parts named form.positions (flag_no_position form sound name h)
 
-  value_rows : (name : Text) → has name form.options.valued ≡ true → rows_named name own ≡ map (value_row name) (values_of name parts)
+  value_rows : (name : Text) → has name form.options.valued ≡ true → rows_named name own ≡ map (value_row name) (option_values name parts)
   value_rows name h = rows_of_values form.options name (option_no_flag form sound name h) parts named form.positions (option_no_position form sound name h)
 
   other_rows : (name : Text) → has name form.options.flags ≡ false → has name form.options.valued ≡ false → rows_named name own ≡ rows_named name (argument_rows form.positions (positions parts))
@@ -100,7 +100,7 @@ module _ (form : Form) (sound : is_sound_form form ≡ true) (parts : List Part)
       let row : row_at name final ≡ Some (flag_row flag) = row_final name ∙ rw (some_row_from name own _ _ some', first) refl in
       ap (option_and_then row_text) row ∙ rw e refl
 
-  tells_value : (name : Text) → has name form.options.valued ≡ true → (values : List Text) → values_of name parts ≡ values → first_of name final ≡ slice_get (values_of name parts) 0
+  tells_value : (name : Text) → has name form.options.valued ≡ true → (values : List Text) → option_values name parts ≡ values → first_of name final ≡ slice_get (option_values name parts) 0
   tells_value name h [] e =
       let none' : rows_named name own ≡ [] = value_rows name h ∙ ap (map (value_row name)) e in
       let row : row_at name final ≡ None = row_final name ∙ rw (no_row_from name own none', option_no_flag form sound name h) refl in
@@ -135,7 +135,7 @@ module _ (form : Form) (sound : is_sound_form form ≡ true) (parts : List Part)
   tells : Tells form parts final
   tells = record {
     flags = λ name h. tells_flag name h (flags_of name parts) refl;
-    valued = λ name h. tells_value name h (values_of name parts) refl;
+    valued = λ name h. tells_value name h (option_values name parts) refl;
     arguments = λ name h. ap (option_and_then (λ r. slice_get r.values 0)) (row_of_argument name h);
   }
 
@@ -147,7 +147,7 @@ module _ (form : Form) (sound : is_sound_form form ≡ true) (parts : List Part)
   fits_from : Fresh [] own → AreCounted form.needs_all (length (positions parts)) (length form.positions) → Fits form parts
   fits_from fresh all = record {
     flags = λ name h. omega (arith, (fresh_once name [] own fresh).0, ap length (flag_rows name h), length-map (flags_of name parts) flag_row);
-    valued = λ name h. omega (arith, (fresh_once name [] own fresh).0, ap length (value_rows name h), length-map (values_of name parts) (value_row name));
+    valued = λ name h. omega (arith, (fresh_once name [] own fresh).0, ap length (value_rows name h), length-map (option_values name parts) (value_row name));
     all = all;
   }
 
@@ -156,7 +156,7 @@ module _ (form : Form) (sound : is_sound_form form ≡ true) (parts : List Part)
     where
       go : (name : Text) (a b : Bool) → has name form.options.flags ≡ a → has name form.options.valued ≡ b → length (rows_named name own) ≤ 1
       go name true b h g = omega (arith, fits.flags name h, ap length (flag_rows name h), length-map (flags_of name parts) flag_row)
-      go name false true h g = omega (arith, fits.valued name g, ap length (value_rows name g), length-map (values_of name parts) (value_row name))
+      go name false true h g = omega (arith, fits.valued name g, ap length (value_rows name g), length-map (option_values name parts) (value_row name))
       go name false false h g = omega (arith, ap length (other_rows name h g), argument_once name form.positions (positions parts) (positions_distinct form sound))
 
   -- the last checks
@@ -184,10 +184,10 @@ module _ (form : Form) (sound : is_sound_form form ≡ true) (parts : List Part)
       go false all = refl
 
 -- the mistakes of a command in the arguments after it
-abbrev pub command_fault : Form → List Text → Kinds
+abbrev pub command_fault : CommandForm → List Text → Kinds
 command_fault form arguments = level_fault (leaf form) [] nothing_held arguments false []
 
-abbrev pub command_rows : Form → List Text → List Row
+abbrev pub command_rows : CommandForm → List Text → List Row
 command_rows form arguments = rows_after (built_rules form) [] arguments
 
 level_quiet : (a b c d : Kinds) → (or_else a (or_else [] (or_else b (or_else c d))) ≡ []) ↔ ((a ≡ []) × (b ≡ []) × (c ≡ []) × (d ≡ []))
@@ -201,12 +201,12 @@ level_quiet a b c d = (
 )
 
 -- arguments with parts that fit
-pub record IsTaken (form : Form) (arguments : List Text) (parts : List Part) : Type 0 where
-  pub are_parts : AreParts form.options arguments parts
+pub record IsTaken (form : CommandForm) (arguments : List Text) (parts : List ArgumentPart) : Type 0 where
+  pub are_parts : AreArgumentParts form.options arguments parts
   pub fits : Fits form parts
 
-module _ (form : Form) (sound : is_sound_form form ≡ true) (arguments : List Text) where
-  pub level_from : (parts : List Part) → IsTaken form arguments parts → (command_fault form arguments ≡ []) × Tells form parts (command_rows form arguments)
+module _ (form : CommandForm) (sound : is_sound_form form ≡ true) (arguments : List Text) where
+  pub level_from : (parts : List ArgumentPart) → IsTaken form arguments parts → (command_fault form arguments ≡ []) × Tells form parts (command_rows form arguments)
   level_from parts taken =
       let named = named_of form.options taken.are_parts in
       let done = walk_from form sound taken.are_parts [] None 0 form.positions refl refl (counted_few form.needs_all _ _ taken.fits.all) (fresh_of form sound parts named taken.fits) in
@@ -221,7 +221,7 @@ module _ (form : Form) (sound : is_sound_form form ≡ true) (arguments : List T
         subst (λ (rs : List Row). Tells form parts rs) (sym rows) (tells form sound parts named),
       )
 
-  pub level_to : AreUtf8 arguments → command_fault form arguments ≡ [] → (parts : List Part) × IsTaken form arguments parts
+  pub level_to : AreUtf8 arguments → command_fault form arguments ≡ [] → (parts : List ArgumentPart) × IsTaken form arguments parts
   level_to utf8 quiet =
       let four = (level_quiet _ _ _ _).0 quiet in
       let cut = walk_to form sound arguments utf8 (four.0, four.1) in

@@ -5,7 +5,7 @@ use Rattle.clap.specs.Kinds.{Kinds, or_else}
 use Rattle.clap.specs.Faults.{defaults_fault, fault_of, flags_fault, turn_fault, walk_fault}
 use Rattle.clap.specs.Simple.{Shape, built, label_of, names_of, subcommand_of}
 use Rattle.clap.specs.Walk.{Names, Walk, answers_to, idle, nothing_held, subcommand_met, walk, walk_from, walked}
-use Rattle.command_line.specs.inner.Forms.{Form, check_form, program_app, make_form, match_form, serve_form, show_form}
+use Rattle.command_line.specs.inner.Forms.{CommandForm, check_form, program_app, make_form, match_form, serve_form, show_form}
 use Rattle.command_line.proofs.HasLemmas.{Text, same_text}
 use Rattle.command_line.proofs.FormLemmas.{is_sound_form}
 use Rattle.command_line.proofs.LexerLemmas.{Look, look, dashes, alone, with_value, short, plain, plain_argument_is}
@@ -15,14 +15,14 @@ use Rattle.command_line.proofs.CutLemmas.{AreUtf8}
 use Rattle.command_line.proofs.LevelLemmas.{command_fault, command_rows}
 
 -- the commands of the program
-pub data Known : Form → Type 0 where
+pub data Known : CommandForm → Type 0 where
   is_match : Known match_form
   is_check : Known check_form
   is_show : Known show_form
   is_make : Known make_form
   is_serve : Known serve_form
 
-pub sound_of : {form : Form} → Known form → is_sound_form form ≡ true
+pub sound_of : {form : CommandForm} → Known form → is_sound_form form ≡ true
 sound_of is_match = refl
 sound_of is_check = refl
 sound_of is_show = refl
@@ -39,12 +39,12 @@ program_names = names_of (built program_app)
 abbrev met : Text → List Text → Walk
 met name arguments = record { held = nothing_held; waiting = idle; position = 1; is_trailing = false; stopped = Some (name, arguments) }
 
-record IsCommand (form : Form) : Type 0 where
+record IsCommand (form : CommandForm) : Type 0 where
   goes : walked [] program_names (walk_from nothing_held) form.name ≡ met form.name []
   quiet : turn_fault program_shape program_names (walk_from nothing_held) form.name ≡ []
   found : find (λ s. answers_to form.name (label_of s)) (built program_app).subs ≡ Some (leaf form)
 
-known_command : {form : Form} → Known form → IsCommand form
+known_command : {form : CommandForm} → Known form → IsCommand form
 unfolding walked
 known_command is_match = record { goes = refl; quiet = refl; found = refl }
 known_command is_check = record { goes = refl; quiet = refl; found = refl }
@@ -63,7 +63,7 @@ unfolding walked
 met_all name before [] = ap (met name) (sym (append-nil before))
 met_all name before (argument ∷ arguments) = met_all name (before ++ argument ∷ []) arguments ∙ ap (met name) (append_assoc before (argument ∷ []) arguments)
 
-module _ (form : Form) (known : Known form) (arguments : List Text) where
+module _ (form : CommandForm) (known : Known form) (arguments : List Text) where
   walks_to : walk [] program_names nothing_held (form.name ∷ arguments) ≡ met form.name arguments
   walks_to = ap (λ (w : Walk). fold (walked [] program_names) w arguments) (known_command known).goes ∙ met_all form.name [] arguments
 
@@ -123,7 +123,7 @@ module _ (argument : Text) (arguments : List Text) (no_match : bytes_eq (codes "
 
 -- arguments that the program takes begin with a command
 pub record Called (arguments : List Text) : Type 0 where
-  pub form : Form
+  pub form : CommandForm
   pub known : Known form
   pub rest : List Text
   pub utf8 : AreUtf8 rest
@@ -131,7 +131,7 @@ pub record Called (arguments : List Text) : Type 0 where
   pub quiet : command_fault form rest ≡ []
   pub rows : subcommand_of program_app arguments ≡ Some (form.name, command_rows form rest)
 
-called_as : (form : Form) (known : Known form) (argument : Text) (arguments : List Text) → AreUtf8 arguments → bytes_eq form.name argument ≡ true → fault_of program_app (argument ∷ arguments) ≡ [] → Called (argument ∷ arguments)
+called_as : (form : CommandForm) (known : Known form) (argument : Text) (arguments : List Text) → AreUtf8 arguments → bytes_eq form.name argument ≡ true → fault_of program_app (argument ∷ arguments) ≡ [] → Called (argument ∷ arguments)
 called_as form known argument arguments utf8 t h =
     let is : argument ≡ form.name = sym (same_text form.name argument t) in
     record {

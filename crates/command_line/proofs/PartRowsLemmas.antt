@@ -2,8 +2,8 @@
 use Rattle.std.proofs.lemmas.Bool.{false≢true}
 use Rattle.std.proofs.Common.{◌≡◌, ◌≤◌, ◌+◌, suc, Bool, true, false, ◌||◌, cond, List, [], ◌∷◌, ◌++◌, map, length, filter, find, Option, Some, slice_get, bytes_eq, append_assoc, length-append, refl, sym, ap, ◌∙◌, subst, arith}
 use Rattle.clap.specs.Walk.{Row, has_row}
-use Rattle.command_line.specs.Parts.{Part, Flag, Valued, Position, Options, AreParts, none, flag, joined, apart, position, rest, positions}
-use Rattle.command_line.specs.CommandLines.{flags_of, values_of}
+use Rattle.command_line.specs.Parts.{ArgumentPart, Flag, Valued, Position, Options, AreArgumentParts, none, flag, joined, apart, position, rest, positions}
+use Rattle.command_line.specs.CommandLines.{flags_of, option_values}
 use Rattle.command_line.proofs.HasLemmas.{Text, are_distinct, and_left, and_right, eq_self, has, has_from, not_true, or_right, same_text}
 use Rattle.command_line.proofs.RowsLemmas.{Fresh, flag_row, part_rows, value_row}
 
@@ -22,7 +22,7 @@ argument_rows (name ∷ left) [] = []
 argument_rows (name ∷ left) (argument ∷ arguments) = value_row name argument ∷ argument_rows left arguments
 
 -- each option among the parts is one of the command
-abbrev pub AreNamed : Options → List Part → Type 0
+abbrev pub AreNamed : Options → List ArgumentPart → Type 0
 AreNamed options [] = Unit {0}
 AreNamed options (Flag name ∷ parts) = (has name options.flags ≡ true) × AreNamed options parts
 AreNamed options (Valued name value ∷ parts) = (has name options.valued ≡ true) × AreNamed options parts
@@ -32,7 +32,7 @@ arguments_named : (options : Options) (arguments : List Text) → AreNamed optio
 arguments_named options [] = tt
 arguments_named options (argument ∷ arguments) = arguments_named options arguments
 
-pub named_of : (options : Options) {arguments : List Text} {parts : List Part} → AreParts options arguments parts → AreNamed options parts
+pub named_of : (options : Options) {arguments : List Text} {parts : List ArgumentPart} → AreArgumentParts options arguments parts → AreNamed options parts
 named_of options none = tt
 named_of options (flag {name} c d) = (has_from options.flags name c, named_of options d)
 named_of options (joined {name} {value} c d) = (has_from options.valued name c, named_of options d)
@@ -63,15 +63,15 @@ absent_rest p name left h = go (bytes_eq p name) h
     go false h = h
 
 -- the rows of an option with a value
-pub rows_of_values : (options : Options) (name : Text) → has name options.flags ≡ false → (parts : List Part) → AreNamed options parts → (left : List Text) → has name left ≡ false
-    → rows_named name (part_rows left parts) ≡ map (value_row name) (values_of name parts)
+pub rows_of_values : (options : Options) (name : Text) → has name options.flags ≡ false → (parts : List ArgumentPart) → AreNamed options parts → (left : List Text) → has name left ≡ false
+    → rows_named name (part_rows left parts) ≡ map (value_row name) (option_values name parts)
 rows_of_values options name not_flag [] named left h = refl
 rows_of_values options name not_flag (Flag other ∷ parts) named left h =
     rw (apart_names other name options.flags named.0 not_flag) (rows_of_values options name not_flag parts named.1 left h)
 rows_of_values options name not_flag (Valued other value ∷ parts) named left h = go (bytes_eq other name) refl (rows_of_values options name not_flag parts named.1 left h)
   where
-    go : (t : Bool) → bytes_eq other name ≡ t → rows_named name (part_rows left parts) ≡ map (value_row name) (values_of name parts)
-        → rows_named name (part_rows left (Valued other value ∷ parts)) ≡ map (value_row name) (values_of name (Valued other value ∷ parts))
+    go : (t : Bool) → bytes_eq other name ≡ t → rows_named name (part_rows left parts) ≡ map (value_row name) (option_values name parts)
+        → rows_named name (part_rows left (Valued other value ∷ parts)) ≡ map (value_row name) (option_values name (Valued other value ∷ parts))
     go true t rec = rw t (ap (λ (x : Text). value_row x value ∷ rows_named name (part_rows left parts)) (same_text other name t) ∙ ap (λ (rs : List Row). value_row name value ∷ rs) rec)
     go false t rec = rw t rec
 rows_of_values options name not_flag (Position argument ∷ parts) named [] h = rows_of_values options name not_flag parts named [] h
@@ -79,7 +79,7 @@ rows_of_values options name not_flag (Position argument ∷ parts) named (p ∷ 
     rw (absent_first p name left h) (rows_of_values options name not_flag parts named left (absent_rest p name left h))
 
 -- the rows of a flag
-pub rows_of_flags : (options : Options) (name : Text) → has name options.valued ≡ false → (parts : List Part) → AreNamed options parts → (left : List Text) → has name left ≡ false
+pub rows_of_flags : (options : Options) (name : Text) → has name options.valued ≡ false → (parts : List ArgumentPart) → AreNamed options parts → (left : List Text) → has name left ≡ false
     → rows_named name (part_rows left parts) ≡ map flag_row (flags_of name parts)
 rows_of_flags options name not_valued [] named left h = refl
 rows_of_flags options name not_valued (Flag other ∷ parts) named left h = go (bytes_eq other name) refl (rows_of_flags options name not_valued parts named.1 left h)
@@ -95,7 +95,7 @@ rows_of_flags options name not_valued (Position argument ∷ parts) named (p ∷
     rw (absent_first p name left h) (rows_of_flags options name not_valued parts named left (absent_rest p name left h))
 
 -- and those of a position, which are those of the arguments
-pub rows_of_arguments : (options : Options) (name : Text) → has name options.flags ≡ false → has name options.valued ≡ false → (parts : List Part) → AreNamed options parts → (left : List Text)
+pub rows_of_arguments : (options : Options) (name : Text) → has name options.flags ≡ false → has name options.valued ≡ false → (parts : List ArgumentPart) → AreNamed options parts → (left : List Text)
     → rows_named name (part_rows left parts) ≡ rows_named name (argument_rows left (positions parts))
 rows_of_arguments options name not_flag not_valued [] named [] = refl
 rows_of_arguments options name not_flag not_valued [] named (p ∷ left) = refl

@@ -2,25 +2,25 @@
 use Rattle.std.proofs.Common.{◌≡◌, ◌↔◌, ◌<◌, ◌+◌, ℕ, zero, suc, Bool, true, false, ◌||◌, List, [], ◌∷◌, ◌++◌, drop, length, fold, Some, None, option_map, slice_get, bytes_eq, append_assoc, sym, ap, ◌∙◌, subst, arith}
 use Rattle.clap.specs.Faults.{settle_fault, turn_fault, walk_fault}
 use Rattle.clap.specs.Walk.{Row, Walk, arg_by_id, arg_by_index, has_row, settled, walked}
-use Rattle.command_line.specs.inner.Forms.{Form}
+use Rattle.command_line.specs.inner.Forms.{CommandForm}
 use Rattle.command_line.proofs.HasLemmas.{Text, eq_self, has, or_right}
 use Rattle.command_line.proofs.FormLemmas.{built_option, built_position, built_rules, id_option, id_position, index_after, is_sound_form, option_no_flag, few_positions, position_no_flag, position_no_option}
 use Rattle.command_line.proofs.RowsLemmas.{both_quiet, position_quiet, option_quiet, used_option, used_position, value_row}
 use Rattle.command_line.proofs.StepLemmas.{Settles, Steps, leaf, rows_with}
 
 -- no mistake from a state on, to the end of the arguments
-abbrev pub Quiet : Form → Walk → List Text → Type 0
+abbrev pub Quiet : CommandForm → Walk → List Text → Type 0
 Quiet form from arguments = (walk_fault (leaf form) [] from arguments ≡ []) × (settle_fault (built_rules form) false (fold (walked (built_rules form) []) from arguments).held ≡ [])
 
 -- the rows at the end of the arguments
-abbrev pub end_rows : Form → Walk → List Text → List Row
+abbrev pub end_rows : CommandForm → Walk → List Text → List Row
 end_rows form from arguments = (settled (built_rules form) (fold (walked (built_rules form) []) from arguments).held).rows
 
-pub record Done (form : Form) (from : Walk) (arguments : List Text) (rows : List Row) : Type 0 where
+pub record Done (form : CommandForm) (from : Walk) (arguments : List Text) (rows : List Row) : Type 0 where
   pub quiet : Quiet form from arguments
   pub ends : end_rows form from arguments ≡ rows
 
-module _ (form : Form) (from to : Walk) (argument : Text) (arguments : List Text) (P : Type 0) (step : Steps form from argument to P) where
+module _ (form : CommandForm) (from to : Walk) (argument : Text) (arguments : List Text) (P : Type 0) (step : Steps form from argument to P) where
   pub quiet_first : Quiet form from (argument ∷ arguments) → P × Quiet form to arguments
   unfolding walk_fault
   quiet_first q =
@@ -41,7 +41,7 @@ module _ (form : Form) (from to : Walk) (argument : Text) (arguments : List Text
   done_with p now grown more r same done =
       done_first p (now ++ (r ∷ more)) (subst (λ (rs : List Row). Done form to arguments rs) (ap (λ (rs : List Row). rs ++ more) same ∙ append_assoc now (r ∷ []) more) done)
 
-pub turn_of : (form : Form) (from : Walk) (argument : Text) (arguments : List Text) → Quiet form from (argument ∷ arguments) → turn_fault (leaf form) [] from argument ≡ []
+pub turn_of : (form : CommandForm) (from : Walk) (argument : Text) (arguments : List Text) → Quiet form from (argument ∷ arguments) → turn_fault (leaf form) [] from argument ≡ []
 unfolding walk_fault
 turn_of form from argument arguments q = ((both_quiet _ _).0 q.0).0
 
@@ -58,7 +58,7 @@ drop_first (y ∷ ys) (suc k) x left e =
     let rec = drop_first ys k x left e in
     (omega (arith, rec.0), rec.1, or_right (bytes_eq y x) (has x ys) rec.2)
 
-module _ (form : Form) (sound : is_sound_form form ≡ true) where
+module _ (form : CommandForm) (sound : is_sound_form form ≡ true) where
   -- what is left of the positions after k of them
   pub record Left (k : ℕ) (name : Text) (left : List Text) : Type 0 where
     pub few : k < 1000

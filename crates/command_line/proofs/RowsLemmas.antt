@@ -7,7 +7,7 @@ use Rattle.clap.specs.Walk.{Row, at_row, has_row, more_values, used}
 use Rattle.clap.specs.declared.builder.value_parser.Reading.TheVariants.{AsWritten}
 use Rattle.clap.specs.declared.error.kind.ErrorKind.TheVariants.{ArgumentConflict}
 use Rattle.clap.specs.declared.parser.matches.ValueSource.TheVariants.{CommandLine}
-use Rattle.command_line.specs.Parts.{Part, Flag, Valued, Position}
+use Rattle.command_line.specs.Parts.{ArgumentPart, Flag, Valued, Position}
 use Rattle.command_line.proofs.HasLemmas.{Text}
 use Rattle.command_line.proofs.FormLemmas.{built_flag, built_option, built_position}
 
@@ -18,7 +18,7 @@ abbrev pub flag_row : Text → Row
 flag_row name = value_row name (codes "true")
 
 -- the rows of some parts, where these positions are left
-abbrev pub part_rows : List Text → List Part → List Row
+abbrev pub part_rows : List Text → List ArgumentPart → List Row
 part_rows left [] = []
 part_rows left (Flag name ∷ parts) = flag_row name ∷ part_rows left parts
 part_rows left (Valued name value ∷ parts) = value_row name value ∷ part_rows left parts

@@ -2,8 +2,8 @@
 use Rattle.std.proofs.Common.{◌≡◌, ◌≤◌, ◌+◌, ℕ, suc, true, false, List, [], ◌∷◌, ◌++◌, map, drop, length, Some, None, append-nil, refl, sym, arith}
 use Rattle.clap.specs.Faults.{walk_fault}
 use Rattle.clap.specs.Walk.{Row, Waiting, has_row, idle, option, used}
-use Rattle.command_line.specs.Parts.{Part, Position, AreParts, none, flag, joined, apart, position, rest, positions}
-use Rattle.command_line.specs.inner.Forms.{Form}
+use Rattle.command_line.specs.Parts.{ArgumentPart, Position, AreArgumentParts, none, flag, joined, apart, position, rest, positions}
+use Rattle.command_line.specs.inner.Forms.{CommandForm}
 use Rattle.command_line.proofs.HasLemmas.{Text, has_from}
 use Rattle.command_line.proofs.FormLemmas.{built_flag, built_option, is_sound_form, flag_name, option_name, option_no_flag}
 use Rattle.command_line.proofs.LexerLemmas.{plain_argument_is, long_alone, long_joined, named_is_long, joined_is_long}
@@ -11,7 +11,7 @@ use Rattle.command_line.proofs.RowsLemmas.{Fresh, fresh_with, flag_row, part_row
 use Rattle.command_line.proofs.StepLemmas.{Pending, Settles, rows_with, stands, step_apart, step_dashes, step_flag, step_joined, step_position, step_trailing, step_value}
 use Rattle.command_line.proofs.QuietLemmas.{Done, done_first, done_with, left_is, option_found, option_rows, option_settles, position_rows, position_settles}
 
-module _ (form : Form) (sound : is_sound_form form ≡ true) where
+module _ (form : CommandForm) (sound : is_sound_form form ≡ true) where
   -- after `--`
   pub trail_from : (arguments : List Text) (rows : List Row) (pending : Pending) (waiting : Waiting) (k : ℕ) (left : List Text) → drop k form.positions ≡ left
       → Settles form rows pending → length (positions (map Position arguments)) ≤ length left → Fresh (rows_with form rows pending) (part_rows left (map Position arguments))
@@ -29,7 +29,7 @@ module _ (form : Form) (sound : is_sound_form form ≡ true) where
       (trail_from arguments now (Some (name, argument ∷ [])) idle (suc k) left l.after ((position_settles form sound now name argument l.stands_there).1 fresh.0) few (fresh_with _ _ _ _ same fresh.1))
 
   -- arguments that have parts that fit
-  pub walk_from : {arguments : List Text} {parts : List Part} → AreParts form.options arguments parts → (rows : List Row) (pending : Pending) (k : ℕ) (left : List Text)
+  pub walk_from : {arguments : List Text} {parts : List ArgumentPart} → AreArgumentParts form.options arguments parts → (rows : List Row) (pending : Pending) (k : ℕ) (left : List Text)
       → drop k form.positions ≡ left → Settles form rows pending → length (positions parts) ≤ length left → Fresh (rows_with form rows pending) (part_rows left parts)
       → Done form (stands rows pending idle (1 + k) false) arguments (rows_with form rows pending ++ part_rows left parts)
   unfolding walk_fault

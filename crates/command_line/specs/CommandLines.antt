@@ -3,30 +3,30 @@ use Rattle.std.specs.Prelude.{◌≡◌, ◌≢◌, ◌≤◌, ◌⊎◌, ⊤, �
 use Rattle.std.specs.List.{IsDistinct}
 use Rattle.std.specs.Str.Parse.{IsNumeral, digits_value}
 use Rattle.std.specs.declared.alloc.Global.{Global}
-use Rattle.command_line.specs.Parts.{Part, Flag, Valued, Position, Options, AreParts, positions}
+use Rattle.command_line.specs.Parts.{ArgumentPart, Flag, Valued, Position, Options, AreArgumentParts, positions}
 use Rattle.match_generator.specs.declared.log.TheConstants.{MAX_SEED, MAX_COUNT}
 use Rattle.stix_ids.specs.Uuid.{IsUuidOf}
 use Rattle.command_line.specs.declared.numbers.TheConstants.{DEFAULT_RETAINED_LIMIT, MAX_RETAINED_LIMIT, MAX_PORT, MAX_CONNECTIONS}
 use Rattle.command_line.specs.declared.collections.TheConstants.{MAX_COLLECTIONS, MAX_TITLE}
 use Rattle.command_line.specs.declared.base.TheConstants.{MAX_BASE}
 
--- the texts of the arguments
-abbrev pub texts : List (String Global) → List (List ℕ)
-texts arguments = map string_bytes arguments
+-- the argument_texts of the arguments
+abbrev pub argument_texts : List (String Global) → List (List ℕ)
+argument_texts arguments = map string_bytes arguments
 
 -- the flags of that name
-abbrev pub flags_of : List ℕ → List Part → List (List ℕ)
+abbrev pub flags_of : List ℕ → List ArgumentPart → List (List ℕ)
 flags_of name [] = []
 flags_of name (Flag other ∷ parts) = if bytes_eq other name then other ∷ flags_of name parts else flags_of name parts
 flags_of name (Valued other value ∷ parts) = flags_of name parts
 flags_of name (Position argument ∷ parts) = flags_of name parts
 
 -- the values that are given to the option of that name, in order
-abbrev pub values_of : List ℕ → List Part → List (List ℕ)
-values_of name [] = []
-values_of name (Flag other ∷ parts) = values_of name parts
-values_of name (Valued other value ∷ parts) = if bytes_eq other name then value ∷ values_of name parts else values_of name parts
-values_of name (Position argument ∷ parts) = values_of name parts
+abbrev pub option_values : List ℕ → List ArgumentPart → List (List ℕ)
+option_values name [] = []
+option_values name (Flag other ∷ parts) = option_values name parts
+option_values name (Valued other value ∷ parts) = if bytes_eq other name then value ∷ option_values name parts else option_values name parts
+option_values name (Position argument ∷ parts) = option_values name parts
 
 -- a flag occurs once, or not at all
 abbrev pub IsFlag : List (List ℕ) → Bool → Type 0
@@ -46,13 +46,13 @@ pub record IsNumberIn (least most : ℕ) (text : List ℕ) (number : ℕ) : Type
 abbrev pub IsNumberOr : ℕ → ℕ → ℕ → List (List ℕ) → ℕ → Type 0
 IsNumberOr usual least most [] number = number ≡ usual
 IsNumberOr usual least most (text ∷ []) number = IsNumberIn least most text number
-IsNumberOr usual least most (text ∷ other ∷ texts) number = ⊥
+IsNumberOr usual least most (text ∷ other ∷ argument_texts) number = ⊥
 
 -- the command, and then arguments that consist of these parts
-pub record IsCalledWith (command : List ℕ) (options : Options) (arguments : List (List ℕ)) (parts : List Part) : Type 0 where
+pub record IsCalledWith (command : List ℕ) (options : Options) (arguments : List (List ℕ)) (parts : List ArgumentPart) : Type 0 where
   pub rest : List (List ℕ)
   pub line : arguments ≡ command ∷ rest
-  pub are_parts : AreParts options rest parts
+  pub are_parts : AreArgumentParts options rest parts
 
 abbrev pub match_options : Options
 match_options = record { flags = codes "whole" ∷ []; valued = codes "cap" ∷ [] }
@@ -62,27 +62,27 @@ no_options = record { flags = []; valued = [] }
 
 -- match [--whole] [--cap N] PATTERN
 pub record IsMatchLine (arguments : List (List ℕ)) (whole : Bool) (retained_limit : ℕ) (pattern : List ℕ) : Type 0 where
-  pub parts : List Part
+  pub parts : List ArgumentPart
   pub called : IsCalledWith (codes "match") match_options arguments parts
   pub whole_is : IsFlag (flags_of (codes "whole") parts) whole
-  pub retained_limit_is : IsNumberOr DEFAULT_RETAINED_LIMIT 1 MAX_RETAINED_LIMIT (values_of (codes "cap") parts) retained_limit
+  pub retained_limit_is : IsNumberOr DEFAULT_RETAINED_LIMIT 1 MAX_RETAINED_LIMIT (option_values (codes "cap") parts) retained_limit
   pub pattern_is : positions parts ≡ pattern ∷ []
 
 -- check
 pub record IsCheckLine (arguments : List (List ℕ)) : Type 0 where
-  pub parts : List Part
+  pub parts : List ArgumentPart
   pub called : IsCalledWith (codes "check") no_options arguments parts
   pub alone : positions parts ≡ []
 
 -- show PATTERN
 pub record IsShowLine (arguments : List (List ℕ)) (pattern : List ℕ) : Type 0 where
-  pub parts : List Part
+  pub parts : List ArgumentPart
   pub called : IsCalledWith (codes "show") no_options arguments parts
   pub pattern_is : positions parts ≡ pattern ∷ []
 
 -- make SEED COUNT
 pub record IsMakeLine (arguments : List (List ℕ)) (seed count : ℕ) : Type 0 where
-  pub parts : List Part
+  pub parts : List ArgumentPart
   pub called : IsCalledWith (codes "make") no_options arguments parts
   pub seed_text : List ℕ
   pub count_text : List ℕ
@@ -94,7 +94,7 @@ pub record IsMakeLine (arguments : List (List ℕ)) (seed count : ℕ) : Type 0 
 abbrev pub IsNumberOf : ℕ → ℕ → List (List ℕ) → ℕ → Type 0
 IsNumberOf least most [] number = ⊥
 IsNumberOf least most (text ∷ []) number = IsNumberIn least most text number
-IsNumberOf least most (text ∷ other ∷ texts) number = ⊥
+IsNumberOf least most (text ∷ other ∷ argument_texts) number = ⊥
 
 -- the well-formed value of an option, or none if it is absent
 abbrev pub IsValueOrNone : (List ℕ → Type 0) → List (List ℕ) → Option (List ℕ) → Type 0
@@ -156,12 +156,12 @@ serve_options = record { flags = []; valued = codes "port" ∷ codes "connection
 
 -- serve --port P --connections N [--store FILE] [--base URL] COLLECTION...
 pub record IsServeLine (arguments : List (List ℕ)) (service : PlainService) : Type 0 where
-  pub parts : List Part
+  pub parts : List ArgumentPart
   pub called : IsCalledWith (codes "serve") serve_options arguments parts
-  pub port_is : IsNumberOf 1 MAX_PORT (values_of (codes "port") parts) service.port
-  pub connections_is : IsNumberOf 1 MAX_CONNECTIONS (values_of (codes "connections") parts) service.connections
-  pub store_is : IsValueOrNone IsFile (values_of (codes "store") parts) service.store
-  pub base_is : IsValueOrNone IsBase (values_of (codes "base") parts) service.base
+  pub port_is : IsNumberOf 1 MAX_PORT (option_values (codes "port") parts) service.port
+  pub connections_is : IsNumberOf 1 MAX_CONNECTIONS (option_values (codes "connections") parts) service.connections
+  pub store_is : IsValueOrNone IsFile (option_values (codes "store") parts) service.store
+  pub base_is : IsValueOrNone IsBase (option_values (codes "base") parts) service.base
   pub collections_are : AreCollectionsOf (positions parts) service.collections
   pub some : 1 ≤ length service.collections
   pub few : length service.collections ≤ MAX_COLLECTIONS

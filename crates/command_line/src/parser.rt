@@ -4,7 +4,7 @@ ghost use Rattle.std.specs.Prelude.{◌≡◌, ◌++◌, ◌∷◌, [], List, If
 ghost use Rattle.std.specs.List.{AllZip};
 ghost use Rattle.clap.specs.Words.{App, Rule, app_of, rule_of, FailsBy, fault_of, subcommand_of};
 ghost use Rattle.clap.specs.Words.{subcommand_rows_of};
-ghost use Rattle.command_line.specs.CommandLines.{texts};
+ghost use Rattle.command_line.specs.CommandLines.{argument_texts};
 ghost use Rattle.command_line.specs.inner.Forms.{flag_rule, option_rule, position_rule, free_rules};
 ghost use Rattle.command_line.specs.inner.Forms.{app_with, command_of, HasRule, IsCommandOf};
 ghost use Rattle.command_line.specs.inner.Forms.{bare_app, program_app, match_form, check_form};
@@ -157,8 +157,8 @@ fn program<'a>(alloc: Global) -> Result<Command<'a>, AllocError>
 /// Parses the arguments with `clap`.
 pub(crate) fn parse<'a>(alloc: Global, arguments: &'a [String]) -> Result<ArgMatches<'a>, Error>
     ensures matches { IfOk result
-        (λ m. subcommand_rows_of m ≡ subcommand_of program_app (texts arguments.entry.now)) }
-    ensures exact { FailsBy (fault_of program_app (texts arguments.entry.now)) result }
+        (λ m. subcommand_rows_of m ≡ subcommand_of program_app (argument_texts arguments.entry.now)) }
+    ensures exact { FailsBy (fault_of program_app (argument_texts arguments.entry.now)) result }
 {
     let program = program(alloc)?;
     program.try_get_matches_from(arguments)

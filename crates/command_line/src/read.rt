@@ -4,10 +4,11 @@ ghost use Rattle.std.specs.Prelude.{◌≡◌, ◌≢◌, ◌↔◌, ℕ, List, 
 ghost use Rattle.std.specs.Prelude.{Some, codes, option_copied};
 ghost use Rattle.clap.specs.Words.{first_of, kind_of, one_of};
 ghost use Rattle.clap.specs.declared.error.kind.ErrorKind.TheVariants.{OutOfMemory};
-ghost use Rattle.command_line.specs.CommandLines.{texts, PlainRequest, IsCommandLine};
+ghost use Rattle.command_line.specs.CommandLines.{argument_texts, PlainRequest, IsCommandLine};
 ghost use Rattle.command_line.specs.Request.{plain_request};
 ghost use Rattle.command_line.specs.inner.Rows.{IsAskedIn, IsRetainedLimitText, IsFlagText};
-ghost use Rattle.command_line.specs.inner.Rows.{IsMakeIn, IsMatchIn, IsNumberText, rows_in};
+ghost use Rattle.command_line.specs.inner.Rows.{IsMakeIn, IsMatchIn, IsPresentNumberText};
+ghost use Rattle.command_line.specs.inner.Rows.{parsed_rows};
 
 use crate::numbers::{DEFAULT_RETAINED_LIMIT, MAX_RETAINED_LIMIT, number_in};
 use crate::parser::parse;
@@ -25,9 +26,9 @@ pub fn read_arguments<'a>(
     arguments: &'a [String],
 ) -> Result<Request<'a>, ArgumentsRefusal>
     ensures ok { IfOk result
-        (λ request. IsCommandLine (texts arguments.entry.now) (plain_request request)) }
+        (λ request. IsCommandLine (argument_texts arguments.entry.now) (plain_request request)) }
     ensures no_line { IfErr result (λ refusal. refusal ≡ ArgumentsRefusal.NoLine
-        → (request : PlainRequest) → ¬ IsCommandLine (texts arguments.entry.now) request) }
+        → (request : PlainRequest) → ¬ IsCommandLine (argument_texts arguments.entry.now) request) }
 {
     let matches = match parse(alloc, arguments) {
         Ok(matches) => matches,
@@ -61,9 +62,9 @@ fn request_in<'a>(
     values: &ArgMatches<'a>,
 ) -> Result<Option<Request<'a>>, NoMemory>
     ensures some { IfOk result (λ found. IfSome found
-        (λ request. IsAskedIn command.now (rows_in values.now) (plain_request request))) }
+        (λ request. IsAskedIn command.now (parsed_rows values.now) (plain_request request))) }
     ensures none { IfOk result (λ found. IfNone found ((request : PlainRequest)
-        → ¬ IsAskedIn command.now (rows_in values.now) request)) }
+        → ¬ IsAskedIn command.now (parsed_rows values.now) request)) }
 {
     if command == "serve" {
         match serve_in(alloc, values)? {
@@ -78,9 +79,9 @@ fn request_in<'a>(
 /// The request of a subcommand other than `serve`.
 fn other_request_in<'a>(command: &str, values: &ArgMatches<'a>) -> Option<Request<'a>>
     ensures some { IfSome result
-        (λ request. IsAskedIn command.now (rows_in values.now) (plain_request request)) }
+        (λ request. IsAskedIn command.now (parsed_rows values.now) (plain_request request)) }
     ensures none { command.now ≢ codes "serve" → IfNone result ((request : PlainRequest)
-        → ¬ IsAskedIn command.now (rows_in values.now) request) }
+        → ¬ IsAskedIn command.now (parsed_rows values.now) request) }
 {
     match command {
         "match" => Some(Request::Match(match_in(values)?)),
@@ -99,9 +100,9 @@ fn other_request_in<'a>(command: &str, values: &ArgMatches<'a>) -> Option<Reques
 /// The request of a `match`.
 fn match_in<'a>(values: &ArgMatches<'a>) -> Option<MatchRequest<'a>>
     ensures some { IfSome result (λ request.
-        IsMatchIn (rows_in values.now) request.whole request.retained_limit request.pattern.now) }
+        IsMatchIn (parsed_rows values.now) request.whole request.retained_limit request.pattern.now) }
     ensures none { IfNone result ((whole : Bool) (retained_limit : ℕ) (pattern : List ℕ)
-        → ¬ IsMatchIn (rows_in values.now) whole retained_limit pattern) }
+        → ¬ IsMatchIn (parsed_rows values.now) whole retained_limit pattern) }
 {
     let pattern = value_of(values, "pattern")?;
     let retained_limit = retained_limit_in(value_of(values, "cap"))?;
@@ -127,9 +128,9 @@ fn retained_limit_in(text: Option<&str>) -> Option<u32>
 
 /// The seed and the count of a `make`.
 fn make_in(values: &ArgMatches<'_>) -> Option<(u32, u32)>
-    ensures some { IfSome result (λ both. IsMakeIn (rows_in values.now) both.0 both.1) }
+    ensures some { IfSome result (λ both. IsMakeIn (parsed_rows values.now) both.0 both.1) }
     ensures none { IfNone result
-        ((seed count : ℕ) → ¬ IsMakeIn (rows_in values.now) seed count) }
+        ((seed count : ℕ) → ¬ IsMakeIn (parsed_rows values.now) seed count) }
 {
     let seed = number_of(values, "seed", 0, MAX_SEED)?;
     let count = number_of(values, "count", 1, MAX_COUNT)?;
@@ -139,7 +140,7 @@ fn make_in(values: &ArgMatches<'_>) -> Option<(u32, u32)>
 /// The numeric value of an option or positional argument.
 pub(crate) fn number_of(values: &ArgMatches<'_>, name: &str, least: u32, most: u32) -> Option<u32>
     ensures { (number : ℕ) → (result ≡ Some number)
-        ↔ IsNumberText least most (first_of name.now (rows_in values.now)) number }
+        ↔ IsPresentNumberText least most (first_of name.now (parsed_rows values.now)) number }
 {
     let text = value_of(values, name)?;
     number_in(text, least, most)
@@ -147,14 +148,14 @@ pub(crate) fn number_of(values: &ArgMatches<'_>, name: &str, least: u32, most: u
 
 /// The value of an option or positional argument.
 pub(crate) fn value_of<'a>(values: &ArgMatches<'a>, name: &str) -> Option<&'a str>
-    ensures { option_copied result ≡ first_of name.now (rows_in values.now) }
+    ensures { option_copied result ≡ first_of name.now (parsed_rows values.now) }
 {
     values.get_str(name)
 }
 
 /// Whether a flag was given.
 fn is_given(values: &ArgMatches<'_>, name: &str) -> bool
-    ensures { IsFlagText (one_of name.now (rows_in values.now)) result }
+    ensures { IsFlagText (one_of name.now (parsed_rows values.now)) result }
 {
     values.get_flag(name)
 }

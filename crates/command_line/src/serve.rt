@@ -8,7 +8,8 @@ ghost use Rattle.command_line.specs.CommandLines.{AreCollectionsOf, IsBase, IsFi
 ghost use Rattle.command_line.specs.CommandLines.{PlainCollection, PlainService};
 ghost use Rattle.command_line.specs.Request.{plain_collection, plain_service};
 ghost use Rattle.command_line.specs.declared.numbers.TheConstants.{MAX_PORT};
-ghost use Rattle.command_line.specs.inner.Rows.{IsNumberText, IsServeIn, IsTextOrNone, rows_in};
+ghost use Rattle.command_line.specs.inner.Rows.{IsPresentNumberText, IsServeIn, IsTextOrNone};
+ghost use Rattle.command_line.specs.inner.Rows.{parsed_rows};
 ghost use Rattle.command_line.specs.inner.Rows.{arguments_at};
 
 use crate::base::is_base;
@@ -34,9 +35,9 @@ pub(crate) fn serve_in<'a>(
     values: &ArgMatches<'a>,
 ) -> Result<Option<ServeRequest<'a>>, NoMemory>
     ensures some { IfOk result (λ found. IfSome found
-        (λ asked. IsServeIn (rows_in values.now) (plain_service asked))) }
+        (λ asked. IsServeIn (parsed_rows values.now) (plain_service asked))) }
     ensures none { IfOk result (λ found. IfNone found
-        ((service : PlainService) → ¬ IsServeIn (rows_in values.now) service)) }
+        ((service : PlainService) → ¬ IsServeIn (parsed_rows values.now) service)) }
 {
     let Some(port) = port_in(values) else {
         return Ok(None);
@@ -68,7 +69,7 @@ pub(crate) fn serve_in<'a>(
 /// The port.
 fn port_in(values: &ArgMatches<'_>) -> Option<u16>
     ensures { (port : ℕ) → (result ≡ Some port)
-        ↔ IsNumberText 1 MAX_PORT (first_of (codes "port") (rows_in values.now)) port }
+        ↔ IsPresentNumberText 1 MAX_PORT (first_of (codes "port") (parsed_rows values.now)) port }
 {
     let port = number_of(values, "port", 1, MAX_PORT)?;
     Some(port as u16)
@@ -105,10 +106,10 @@ fn collections_in<'a>(
     names: &[&str],
 ) -> Result<Option<Items<CollectionRequest<'a>>>, NoMemory>
     ensures some { IfOk result (λ found. IfSome found (λ asked. AreCollectionsOf
-        (arguments_at (map (λ name. name.now) names.now) (rows_in values.now))
+        (arguments_at (map (λ name. name.now) names.now) (parsed_rows values.now))
         (map plain_collection asked))) }
     ensures none { IfOk result (λ found. IfNone found ((collections : List PlainCollection)
-        → ¬ AreCollectionsOf (arguments_at (map (λ name. name.now) names.now) (rows_in values.now))
+        → ¬ AreCollectionsOf (arguments_at (map (λ name. name.now) names.now) (parsed_rows values.now))
         collections)) }
 {
     let mut collections = Items::new(alloc);

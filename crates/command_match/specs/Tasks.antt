@@ -17,5 +17,5 @@ pub record MatchTask : Type 0 where
   pub pattern : List ℕ
 
 -- the task of a request
-abbrev pub request_of : MatchRequest → MatchTask
-request_of request = record { mode = mode_of request.whole; retained_limit = request.retained_limit; pattern = request.pattern.now }
+abbrev pub match_task : MatchRequest → MatchTask
+match_task request = record { mode = mode_of request.whole; retained_limit = request.retained_limit; pattern = request.pattern.now }

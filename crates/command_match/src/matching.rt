@@ -3,7 +3,7 @@ ghost use Rattle.flow_edges.specs.Faults.{Counted};
 ghost use Rattle.flow_edges.specs.Flow.{WritesWhole};
 ghost use Rattle.pattern_reader.specs.Read.{IsReadAs};
 ghost use Rattle.flow_edges.specs.Streams.{streams};
-ghost use Rattle.command_match.specs.Tasks.{request_of};
+ghost use Rattle.command_match.specs.Tasks.{match_task};
 ghost use Rattle.command_match.specs.Tasks.{mode_of};
 ghost use Rattle.command_match.specs.MatchEndings.{EndsMatch, match_status};
 
@@ -86,7 +86,7 @@ fn match_pattern<I: Source, O: Sink>(
     output: &mut O,
 ) -> MatchEnding
     requires { IsReadAs request.pattern.now pattern.now }
-    ensures end { EndsMatch (request_of request.entry)
+    ensures end { EndsMatch (match_task request.entry)
         (streams (I.left input.old) (I.began input.old) (O.written output.old))
         (streams (I.left input.new) (I.began input.new) (O.written output.new)) result }
     ensures read { match_status result ≢ 3 }
@@ -118,7 +118,7 @@ pub fn match_bindings<I: Source, O: Sink>(
     input: &mut I,
     output: &mut O,
 ) -> MatchEnding
-    ensures end { EndsMatch (request_of request.entry)
+    ensures end { EndsMatch (match_task request.entry)
         (streams (I.left input.old) (I.began input.old) (O.written output.old))
         (streams (I.left input.new) (I.began input.new) (O.written output.new)) result }
     ensures untouched { match_status result ≡ 3

@@ -10,7 +10,7 @@ use Rattle.taxii_client.specs.Endings.{is_store_fault}
 use Rattle.taxii_client.specs.declared.totals.Totals.{Totals}
 use Rattle.command_mirror.specs.declared.ending.MirrorEnding.{MirrorEnding}
 use Rattle.command_mirror.specs.declared.ending.MirrorEnding.TheVariants.{Usage, Done, WriteFault, Stopped, NoMemory}
-use Rattle.command_mirror.specs.Endings.{Concludes, stop_status, mirror_status}
+use Rattle.command_mirror.specs.Endings.{ConcludesCopy, stop_status, mirror_status}
 
 pub nine_exactly : (stop : CopyStop) → (stop_status stop ≡ 9) ↔ (is_store_fault stop ≡ true)
 nine_exactly (NotLoaded Load.KeeperFault) = (λ nine. refl, λ fault. refl)
@@ -32,7 +32,7 @@ counted_when same it = record {
 }
 
 -- what was told at the end of a copy has to do with no store
-pub told_never_nine : (totals : Totals) (written written_now : Option (List ℕ)) (ending : MirrorEnding) → Concludes totals written written_now ending → mirror_status ending ≢ 9
+pub told_never_nine : (totals : Totals) (written written_now : Option (List ℕ)) (ending : MirrorEnding) → ConcludesCopy totals written written_now ending → mirror_status ending ≢ 9
 told_never_nine totals written written_now Usage concludes is = concludes
 told_never_nine totals written written_now Done concludes is = cc is
 told_never_nine totals written written_now WriteFault concludes is = cc is

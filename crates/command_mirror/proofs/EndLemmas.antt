@@ -4,8 +4,8 @@ use Rattle.std.proofs.lemmas.Bool.{cases_lt}
 use Rattle.std.proofs.lemmas.List.{append-nil}
 use Rattle.stix_json.specs.declared.entry.Entry.{Entry}
 use Rattle.taxii_rows.specs.StoreState.{StoreState}
-use Rattle.taxii_client.specs.Environment.{LinkView, DialView}
-use Rattle.taxii_client.specs.Pulls.{PassThrough, InTurn as PagesInTurn}
+use Rattle.taxii_client.specs.Environment.{ClientLinkView, DialView}
+use Rattle.taxii_client.specs.Pulls.{PassThroughDial, ArePagesInTurn as PagesInTurn}
 use Rattle.taxii_client.specs.declared.target.Target.{Target}
 use Rattle.taxii_client.specs.declared.fetch_end.FetchEnd.{FetchEnd}
 use Rattle.taxii_client.specs.declared.cursor.Cursor.{Cursor}
@@ -18,14 +18,14 @@ use Rattle.taxii_client.specs.declared.stop.CopyStop.{CopyStop}
 use Rattle.taxii_client.specs.declared.stop.CopyStop.TheVariants.{NotLoaded, NotFetched, NotAbsorbed}
 use Rattle.taxii_client.specs.declared.stop.FetchStop.TheVariants as Stop
 use Rattle.taxii_client.specs.Copying.{Copying}
-use Rattle.command_mirror.specs.Arguments.{AskForNothing}
-use Rattle.taxii_client.specs.Attempts.{Attempt, InTurn, undialled, links_of, lost_links, pages_of, entries_of, CountsDials}
-use Rattle.taxii_client.specs.Filling.{Environment}
+use Rattle.command_mirror.specs.Arguments.{AskForNoCopy}
+use Rattle.taxii_client.specs.Attempts.{Attempt, AreAttemptsInTurn, undialled, links_of, lost_links, pages_of, entries_of, CountsDials}
+use Rattle.taxii_client.specs.Filling.{CopyEnvironment}
 use Rattle.taxii_client.specs.Endings.{Stops, StopsLost, StopsAt, StopsShort, StopsBefore, ExplainsStop, Copies}
 use Rattle.taxii_client.specs.declared.totals.Totals.{Totals}
 use Rattle.flow_edges.specs.Flow.{written_with, WritesPart}
-use Rattle.command_mirror.specs.Summary.{summary_text}
-use Rattle.command_mirror.specs.Endings.{EndsMirror, Concludes, AskSo, EndsArguments, stop_status, mirror_status}
+use Rattle.command_mirror.specs.Summary.{mirror_summary}
+use Rattle.command_mirror.specs.Endings.{EndsMirror, ConcludesCopy, AskForCopyWhere, EndsMirrorArguments, stop_status, mirror_status}
 use Rattle.command_mirror.specs.Runs.{CopiesAll, LosesAll, HoldsMirrored}
 use Rattle.taxii_client.proofs.AttemptLemmas.{pages_turn, all_failed, lost_counts, undialled_lost, pages_same}
 
@@ -48,7 +48,7 @@ stop_is (NotAbsorbed Store.NoMemory) = (λ is. cc, λ is. cc, λ is. cc)
 pub stop_never_six : (stop : CopyStop) → stop_status stop ≢ 6
 stop_never_six stop = (stop_is stop).2
 
-module _ (L : Type 0) (view : L → LinkView) (before now : Environment L) (written written_now : Option (List ℕ)) where
+module _ (L : Type 0) (view : L → ClientLinkView) (before now : CopyEnvironment L) (written written_now : Option (List ℕ)) where
   pub no_usage : (asked : Copying) (ending : MirrorEnding) → EndsMirror view asked before now written written_now ending → mirror_status ending ≢ 2
   no_usage asked Usage ends is = absurd ends
   no_usage asked Done ends is = cc
@@ -56,7 +56,7 @@ module _ (L : Type 0) (view : L → LinkView) (before now : Environment L) (writ
   no_usage asked (Stopped stop) ends is = (stop_is stop).1 is
   no_usage asked NoMemory ends is = cc
 
-  pub usage_exactly : (arguments : List (List ℕ)) (ending : MirrorEnding) → EndsArguments view arguments before now written written_now ending → (mirror_status ending ≡ 2) ↔ AskForNothing arguments
+  pub usage_exactly : (arguments : List (List ℕ)) (ending : MirrorEnding) → EndsMirrorArguments view arguments before now written written_now ending → (mirror_status ending ≡ 2) ↔ AskForNoCopy arguments
   usage_exactly arguments ending (inl (nothing, is, same, observable)) = (λ status. nothing, λ none. ap mirror_status is)
   usage_exactly arguments ending (inr so) = (
     λ status. absurd (no_usage so.asked ending so.holds status),
@@ -64,17 +64,17 @@ module _ (L : Type 0) (view : L → LinkView) (before now : Environment L) (writ
   )
 
   -- of the ending what holds of a copy holds where the arguments ask for one
-  pub of_copy : (Holds : Copying → Type 0) (arguments : List (List ℕ)) (ending : MirrorEnding) → EndsArguments view arguments before now written written_now ending
-      → mirror_status ending ≢ 2 → ((asked : Copying) → EndsMirror view asked before now written written_now ending → Holds asked) → AskSo arguments Holds
+  pub of_copy : (Holds : Copying → Type 0) (arguments : List (List ℕ)) (ending : MirrorEnding) → EndsMirrorArguments view arguments before now written written_now ending
+      → mirror_status ending ≢ 2 → ((asked : Copying) → EndsMirror view asked before now written written_now ending → Holds asked) → AskForCopyWhere arguments Holds
   of_copy Holds arguments ending (inl (nothing, is, same, observable)) other says = absurd (other (ap mirror_status is))
   of_copy Holds arguments ending (inr so) other says = record { asked = so.asked; arguments_ask = so.arguments_ask; holds = says so.asked so.holds }
 
   -- what was told at the end of a copy
-  pub concluded : (asked : Copying) (totals : Totals) (ending : MirrorEnding) → Copies view asked before now (Ok totals) → Concludes totals written written_now ending
+  pub concluded : (asked : Copying) (totals : Totals) (ending : MirrorEnding) → Copies view asked before now (Ok totals) → ConcludesCopy totals written written_now ending
       → EndsMirror view asked before now written written_now ending
   concluded asked totals Usage copies concludes = absurd concludes
-  concluded asked totals Done (copied, is) concludes = (copied, concludes ∙ ap (λ (t : Totals). written_with (summary_text t) written) is)
-  concluded asked totals WriteFault (copied, is) concludes = (copied, subst (λ (t : Totals). WritesPart (summary_text t) written written_now) is concludes)
+  concluded asked totals Done (copied, is) concludes = (copied, concludes ∙ ap (λ (t : Totals). written_with (mirror_summary t) written) is)
+  concluded asked totals WriteFault (copied, is) concludes = (copied, subst (λ (t : Totals). WritesPart (mirror_summary t) written written_now) is concludes)
   concluded asked totals (Stopped stop) copies concludes = absurd concludes
   concluded asked totals NoMemory copies concludes = absurd concludes
 
@@ -85,7 +85,7 @@ module _ (L : Type 0) (view : L → LinkView) (before now : Environment L) (writ
   copies_all asked Usage is ends = absurd ends
   copies_all asked Done is (copied, observable) =
       let stops = copied.stops in
-      let turns = subst (λ (those : List (Attempt L)). InTurn view asked.target First those stops.cursor) (append-nil stops.attempts) stops.in_turn in record {
+      let turns = subst (λ (those : List (Attempt L)). AreAttemptsInTurn view asked.target First those stops.cursor) (append-nil stops.attempts) stops.in_turn in record {
         pages = pages_of stops.attempts;
         pull = subst (λ (t : Cursor). PagesInTurn view asked.target First (pages_of stops.attempts) t) copied.over (pages_turn view asked.target First stops.cursor stops.attempts turns stops.proceed);
         absorbed = stops.absorbed;
@@ -102,11 +102,11 @@ module _ (L : Type 0) (view : L → LinkView) (before now : Environment L) (writ
   loses asked lost =
       let stops = lost.stops in
       let attempts = stops.attempts in
-      let turns = subst (λ (those : List (Attempt L)). InTurn view asked.target First those stops.cursor) (append-nil attempts) stops.in_turn in
+      let turns = subst (λ (those : List (Attempt L)). AreAttemptsInTurn view asked.target First those stops.cursor) (append-nil attempts) stops.in_turn in
       let counts = subst (λ (those : List (Attempt L)). CountsDials (undialled those) before.dial.faults now.dial.faults) (append-nil attempts) stops.counts in
       let all = lost_counts attempts (undialled_lost view asked.target First stops.cursor attempts turns) in record {
         attempts = attempts;
-        through = subst (λ (those : List (Attempt L)). PassThrough asked.target (links_of those) before.dial.observable now.dial.observable) (append-nil attempts) stops.through;
+        through = subst (λ (those : List (Attempt L)). PassThroughDial asked.target (links_of those) before.dial.observable now.dial.observable) (append-nil attempts) stops.through;
         failed = all_failed view asked.target First stops.cursor attempts turns;
         all = lost.all;
         bound = within before.dial.faults (undialled attempts) now.dial.faults (length (lost_links attempts)) asked.tries counts.rose (omega (arith, all, lost.all));
@@ -169,12 +169,12 @@ module _ (L : Type 0) (view : L → LinkView) (before now : Environment L) (writ
       holds_at asked status [] (stops.entries ∷ []) stops.stops (ap pages_of (append-nil stops.stops.attempts)) (omega arith) (λ a b c. absurd (known a b c))
 
   -- no page was asked for
-  holds_none : (asked : Copying) (status : ℕ) → PassThrough asked.target [] before.dial.observable before.dial.observable → StopsBefore before now → HoldsMirrored view before now status asked
+  holds_none : (asked : Copying) (status : ℕ) → PassThroughDial asked.target [] before.dial.observable before.dial.observable → StopsBefore before now → HoldsMirrored view before now status asked
   holds_none asked status none stops = record {
     attempts = [];
     cursor = First;
     in_turn = refl;
-    through = subst (λ (d : DialView L). PassThrough asked.target [] before.dial.observable d.observable) (sym stops.dial) none;
+    through = subst (λ (d : DialView L). PassThroughDial asked.target [] before.dial.observable d.observable) (sym stops.dial) none;
     absorbed = [];
     left = [];
     pages_are = refl;
@@ -195,7 +195,7 @@ module _ (L : Type 0) (view : L → LinkView) (before now : Environment L) (writ
       kept None = tt
       kept (Some state) = refl
 
-  pub holds_mirrored : ((target : Target) → PassThrough target [] before.dial.observable before.dial.observable) → (asked : Copying) (ending : MirrorEnding)
+  pub holds_mirrored : ((target : Target) → PassThroughDial target [] before.dial.observable before.dial.observable) → (asked : Copying) (ending : MirrorEnding)
       → EndsMirror view asked before now written written_now ending → HoldsMirrored view before now (mirror_status ending) asked
   holds_mirrored none asked Usage ends = absurd ends
   holds_mirrored none asked Done (copied, observable) = holds_all asked 0 copied.stops
@@ -211,7 +211,7 @@ module _ (L : Type 0) (view : L → LinkView) (before now : Environment L) (writ
   holds_mirrored none asked (Stopped (NotAbsorbed Store.Fault)) (ends, observable) = holds_short asked 9 (ExplainsStop asked Store.Fault) ends (λ a b c. b refl)
   holds_mirrored none asked (Stopped (NotAbsorbed Store.NoMemory)) (ends, observable) = holds_short asked 1 (ExplainsStop asked Store.NoMemory) ends (λ a b c. a refl)
   holds_mirrored none asked NoMemory (same, observable) = holds_none asked 1 (none asked.target) (record {
-    dial = ap (λ (o : Environment L). o.dial) same;
-    rows = ap (λ (o : Environment L). o.kept.observable) same;
-    moments = ap (λ (o : Environment L). o.moments) same;
+    dial = ap (λ (o : CopyEnvironment L). o.dial) same;
+    rows = ap (λ (o : CopyEnvironment L). o.kept.observable) same;
+    moments = ap (λ (o : CopyEnvironment L). o.moments) same;
   })

@@ -7,5 +7,5 @@ abbrev pub counts_text : List ℕ → List ℕ → List ℕ → List ℕ → Lis
 counts_text pages added present skipped =
     codes "pages " ++ (pages ++ (codes " added " ++ (added ++ (codes " present " ++ (present ++ (codes " skipped " ++ (skipped ++ codes "\n")))))))
 
-abbrev pub summary_text : Totals → List ℕ
-summary_text totals = counts_text (decimal totals.pages) (decimal totals.added) (decimal totals.present) (decimal totals.skipped)
+abbrev pub mirror_summary : Totals → List ℕ
+mirror_summary totals = counts_text (decimal totals.pages) (decimal totals.added) (decimal totals.present) (decimal totals.skipped)

@@ -2,9 +2,9 @@
 
 ghost use Rattle.std.specs.Prelude.{◌≡◌, ◌≢◌, ◌↔◌, ℕ, List, Option, [], ◌∷◌, option_map, IfNone};
 ghost use Rattle.std.specs.Prelude.{IfOk, IfSome, IsTrue};
-ghost use Rattle.command_line.specs.CommandLines.{texts};
-ghost use Rattle.command_mirror.specs.Arguments.{AskFor, AskForNothing, AreStoreArguments};
-ghost use Rattle.command_mirror.specs.Arguments.{IsSinceOf, IsTimestamp, copying_of};
+ghost use Rattle.command_line.specs.CommandLines.{argument_texts};
+ghost use Rattle.command_mirror.specs.Arguments.{AskForCopy, AskForNoCopy, AreStoreArguments};
+ghost use Rattle.command_mirror.specs.Arguments.{IsSinceOf, IsInstantText, copying_of};
 
 use command_peer::{PeerArguments, number_to};
 use flow_values::NoMemory;
@@ -47,8 +47,8 @@ impl<'a> MirrorRequest<'a> {
 /// Parses the arguments after the program's name; `None` if they are no command line.
 pub(crate) fn read_request<'a>(arguments: &'a [String]) -> Option<MirrorRequest<'a>>
     ensures some { IfSome result
-        (λ request. AskFor (texts arguments.entry.now) (copying_of request)) }
-    ensures none { IfNone result (AskForNothing (texts arguments.entry.now)) }
+        (λ request. AskForCopy (argument_texts arguments.entry.now) (copying_of request)) }
+    ensures none { IfNone result (AskForNoCopy (argument_texts arguments.entry.now)) }
 {
     let [host, port, root, collection, more @ ..] = arguments else {
         return None;
@@ -66,10 +66,10 @@ pub(crate) fn read_request<'a>(arguments: &'a [String]) -> Option<MirrorRequest<
 /// Parses the arguments after the first four.
 fn store_of<'a>(more: &'a [String]) -> Option<StoreArguments<'a>>
     ensures some { IfSome result
-        (λ store. AreStoreArguments (texts more.entry.now) store.file.now store.tries
+        (λ store. AreStoreArguments (argument_texts more.entry.now) store.file.now store.tries
         (option_map (λ time. time.now) store.since)) }
     ensures none { IfNone result ((file : List ℕ) (tries : ℕ) (since : Option (List ℕ))
-        → ¬ AreStoreArguments (texts more.entry.now) file tries since) }
+        → ¬ AreStoreArguments (argument_texts more.entry.now) file tries since) }
 {
     let [file, tries, last @ ..] = more else {
         return None;
@@ -91,9 +91,9 @@ fn file_of<'a>(text: &'a str) -> Option<&'a str>
 /// Parses the optional `--since TIME`.
 fn since_of<'a>(last: &'a [String]) -> Option<Option<&'a str>>
     ensures some { IfSome result
-        (λ since. IsSinceOf (texts last.entry.now) (option_map (λ time. time.now) since)) }
+        (λ since. IsSinceOf (argument_texts last.entry.now) (option_map (λ time. time.now) since)) }
     ensures none { IfNone result ((since : Option (List ℕ))
-        → ¬ IsSinceOf (texts last.entry.now) since) }
+        → ¬ IsSinceOf (argument_texts last.entry.now) since) }
 {
     match last {
         [] => Some(None),
@@ -119,7 +119,7 @@ fn time_behind<'a>(flag: &str, time: &'a str) -> Option<Option<&'a str>>
 
 /// Whether the text is a timestamp.
 fn is_timestamp(text: &str) -> bool
-    ensures { IsTrue result ↔ IsTimestamp text.now }
+    ensures { IsTrue result ↔ IsInstantText text.now }
 {
     read(text).is_ok()
 }

@@ -26,7 +26,7 @@ pub enum MirrorEnding {
 }
 
 impl MirrorEnding {
-    ghost use Rattle.command_mirror.specs.Endings.{mirror_status, reason_of};
+    ghost use Rattle.command_mirror.specs.Endings.{mirror_status, mirror_reason};
 
     /// The program's exit status.
     pub fn status(&self) -> u8
@@ -44,7 +44,7 @@ impl MirrorEnding {
     /// Writes why the program ends, in one line, or nothing after success; `cause` is that of the
     /// keeper's last fault. Allocates nothing.
     pub fn write_reason<S: Sink>(&self, cause: FaultCause, reasons: &mut S) -> Result<(), Fault>
-        ensures text { WritesWhole (reason_of cause self.now) (S.written reasons.old)
+        ensures text { WritesWhole (mirror_reason cause self.now) (S.written reasons.old)
             (S.written reasons.new) result }
         ensures causes { Counted (IsErr result) (S.faults reasons.old) (S.faults reasons.new) }
     {

@@ -1,13 +1,14 @@
 ghost use Rattle.std.specs.Prelude.{◌≡◌, ◌↔◌, ◌≤◌};
 ghost use Rattle.flow_edges.specs.Faults.{Counted};
-ghost use Rattle.command_line.specs.CommandLines.{texts};
+ghost use Rattle.command_line.specs.CommandLines.{argument_texts};
 ghost use Rattle.taxii_client.specs.Environment.{link_view};
 ghost use Rattle.command_reasons.specs.Reasons.{WritesReason};
 ghost use Rattle.command_peer.specs.Arguments.{IsHost};
-ghost use Rattle.command_mirror.specs.Arguments.{AskForNothing, copying_of};
-ghost use Rattle.taxii_client.specs.Filling.{environment};
-ghost use Rattle.command_mirror.specs.Endings.{AskSo, Concludes, EndsMirror, EndsArguments};
-ghost use Rattle.command_mirror.specs.Endings.{mirror_status, reason_of};
+ghost use Rattle.command_mirror.specs.Arguments.{AskForNoCopy, copying_of};
+ghost use Rattle.taxii_client.specs.Filling.{copy_environment};
+ghost use Rattle.command_mirror.specs.Endings.{AskForCopyWhere, ConcludesCopy, EndsMirror};
+ghost use Rattle.command_mirror.specs.Endings.{EndsMirrorArguments};
+ghost use Rattle.command_mirror.specs.Endings.{mirror_status, mirror_reason};
 ghost use Rattle.command_mirror.specs.Runs.{Ends, CopiesAll, LosesAll, HoldsMirrored};
 
 use crate::arguments::{MirrorRequest, read_request};
@@ -23,7 +24,7 @@ use taxii_rows::{FaultCause, Keeper};
 
 /// Writes the summary.
 fn conclude<O: Sink>(totals: &Totals, output: &mut O) -> MirrorEnding
-    ensures concludes { Concludes totals.now (O.written output.old) (O.written output.new) result }
+    ensures concludes { ConcludesCopy totals.now (O.written output.old) (O.written output.new) result }
     ensures output { Counted (mirror_status result ≡ 6) (O.faults output.old)
         (O.faults output.new) }
 {
@@ -47,9 +48,9 @@ fn answer<D: Dial, K: Keeper, C: Clock, O: Sink>(
     ensures ends { EndsMirror
         (link_view D.Link.left D.Link.written D.Link.Source.faults D.Link.Sink.faults)
         (copying_of request.now)
-        (environment (D.observable dial.old) (D.faults dial.old) (K.kept keeper.old)
+        (copy_environment (D.observable dial.old) (D.faults dial.old) (K.kept keeper.old)
         (C.moments clock.old))
-        (environment (D.observable dial.new) (D.faults dial.new) (K.kept keeper.new)
+        (copy_environment (D.observable dial.new) (D.faults dial.new) (K.kept keeper.new)
         (C.moments clock.new)) (O.written output.old) (O.written output.new) result }
     ensures store { Counted (mirror_status result ≡ 9) (K.faults keeper.old) (K.faults keeper.new) }
     ensures output { Counted (mirror_status result ≡ 6) (O.faults output.old)
@@ -82,12 +83,12 @@ fn execute<D: Dial, K: Keeper, C: Clock, O: Sink>(
     clock: &mut C,
     output: &mut O,
 ) -> MirrorEnding
-    ensures ends { EndsArguments
+    ensures ends { EndsMirrorArguments
         (link_view D.Link.left D.Link.written D.Link.Source.faults D.Link.Sink.faults)
-        (texts arguments.now)
-        (environment (D.observable dial.old) (D.faults dial.old) (K.kept keeper.old)
+        (argument_texts arguments.now)
+        (copy_environment (D.observable dial.old) (D.faults dial.old) (K.kept keeper.old)
         (C.moments clock.old))
-        (environment (D.observable dial.new) (D.faults dial.new) (K.kept keeper.new)
+        (copy_environment (D.observable dial.new) (D.faults dial.new) (K.kept keeper.new)
         (C.moments clock.new)) (O.written output.old) (O.written output.new) result }
     ensures untouched { mirror_status result ≡ 2
         → (dial.new ≡ dial.old) × (keeper.new ≡ keeper.old) × (clock.new ≡ clock.old)
@@ -131,42 +132,42 @@ pub fn run_mirror<D: Dial, K: Keeper, C: Clock, O: Sink, E: Sink>(
 ) -> u8
     ensures ends { Ends
         (link_view D.Link.left D.Link.written D.Link.Source.faults D.Link.Sink.faults)
-        (texts arguments.now)
-        (environment (D.observable dial.old) (D.faults dial.old) (K.kept keeper.old)
+        (argument_texts arguments.now)
+        (copy_environment (D.observable dial.old) (D.faults dial.old) (K.kept keeper.old)
         (C.moments clock.old))
-        (environment (D.observable dial.new) (D.faults dial.new) (K.kept keeper.new)
+        (copy_environment (D.observable dial.new) (D.faults dial.new) (K.kept keeper.new)
         (C.moments clock.new)) (O.written output.old) (O.written output.new) result
         (K.last_cause keeper.new)
         (λ reason. WritesReason reason (E.written faults.old) (E.written faults.new)
         (E.faults faults.old) (E.faults faults.new)) }
     // status 2 if and only if the arguments are no command line
-    ensures refusals { (result ≡ 2) ↔ AskForNothing (texts arguments.now) }
+    ensures refusals { (result ≡ 2) ↔ AskForNoCopy (argument_texts arguments.now) }
     ensures untouched { result ≡ 2
         → (dial.new ≡ dial.old) × (keeper.new ≡ keeper.old) × (clock.new ≡ clock.old)
         × (output.new ≡ output.old) }
     ensures all { result ≡ 0
-        → AskSo (texts arguments.now)
+        → AskForCopyWhere (argument_texts arguments.now)
         (CopiesAll (link_view D.Link.left D.Link.written D.Link.Source.faults D.Link.Sink.faults)
-        (environment (D.observable dial.old) (D.faults dial.old) (K.kept keeper.old)
+        (copy_environment (D.observable dial.old) (D.faults dial.old) (K.kept keeper.old)
         (C.moments clock.old))
-        (environment (D.observable dial.new) (D.faults dial.new) (K.kept keeper.new)
+        (copy_environment (D.observable dial.new) (D.faults dial.new) (K.kept keeper.new)
         (C.moments clock.new)) (O.written output.old) (O.written output.new)) }
     // with status 5 the allowed number of fetches were lost, and the page was to be requested again
     ensures lost { result ≡ 5
-        → AskSo (texts arguments.now)
+        → AskForCopyWhere (argument_texts arguments.now)
         (LosesAll (link_view D.Link.left D.Link.written D.Link.Source.faults D.Link.Sink.faults)
-        (environment (D.observable dial.old) (D.faults dial.old) (K.kept keeper.old)
+        (copy_environment (D.observable dial.old) (D.faults dial.old) (K.kept keeper.old)
         (C.moments clock.old))
-        (environment (D.observable dial.new) (D.faults dial.new) (K.kept keeper.new)
+        (copy_environment (D.observable dial.new) (D.faults dial.new) (K.kept keeper.new)
         (C.moments clock.new))) }
     // whatever the status, the store is what the absorbed pages make of it
     ensures mirrored { ¬ (result ≡ 2)
-        → AskSo (texts arguments.now)
+        → AskForCopyWhere (argument_texts arguments.now)
         (HoldsMirrored (link_view D.Link.left D.Link.written D.Link.Source.faults
         D.Link.Sink.faults)
-        (environment (D.observable dial.old) (D.faults dial.old) (K.kept keeper.old)
+        (copy_environment (D.observable dial.old) (D.faults dial.old) (K.kept keeper.old)
         (C.moments clock.old))
-        (environment (D.observable dial.new) (D.faults dial.new) (K.kept keeper.new)
+        (copy_environment (D.observable dial.new) (D.faults dial.new) (K.kept keeper.new)
         (C.moments clock.new)) result) }
     ensures store { Counted (result ≡ 9) (K.faults keeper.old) (K.faults keeper.new) }
     ensures output { Counted (result ≡ 6) (O.faults output.old) (O.faults output.new) }
@@ -180,7 +181,7 @@ pub fn run_mirror<D: Dial, K: Keeper, C: Clock, O: Sink, E: Sink>(
 /// fault.
 fn finish<E: Sink>(ending: &MirrorEnding, cause: FaultCause, faults: &mut E) -> u8
     ensures status { result ≡ mirror_status ending.now }
-    ensures reason { WritesReason (reason_of cause ending.now) (E.written faults.old)
+    ensures reason { WritesReason (mirror_reason cause ending.now) (E.written faults.old)
         (E.written faults.new) (E.faults faults.old) (E.faults faults.new) }
 {
     let _ = ending.write_reason(cause, faults);

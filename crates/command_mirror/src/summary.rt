@@ -1,7 +1,7 @@
 ghost use Rattle.std.specs.Prelude.{OnErr, IsErr};
 ghost use Rattle.flow_edges.specs.Faults.{Counted};
 ghost use Rattle.flow_edges.specs.Flow.{WritesWhole, WritesPart};
-ghost use Rattle.command_mirror.specs.Summary.{counts_text, summary_text};
+ghost use Rattle.command_mirror.specs.Summary.{counts_text, mirror_summary};
 
 use flow_edges::{Sink, write_all_vectored};
 use flow_values::Fault;
@@ -10,10 +10,10 @@ use taxii_client::Totals;
 
 /// Writes the summary, as `pages 1 added 3 present 0 skipped 0` and a line feed. Allocates nothing.
 pub(crate) fn write_summary<O: Sink>(totals: &Totals, output: &mut O) -> Result<(), Fault>
-    ensures text { WritesWhole (summary_text totals.now) (O.written output.old)
+    ensures text { WritesWhole (mirror_summary totals.now) (O.written output.old)
         (O.written output.new) result }
     ensures part { OnErr result
-        (WritesPart (summary_text totals.now) (O.written output.old) (O.written output.new)) }
+        (WritesPart (mirror_summary totals.now) (O.written output.old) (O.written output.new)) }
     ensures causes { Counted (IsErr result) (O.faults output.old) (O.faults output.new) }
 {
     let mut buffer = Buffer::new();

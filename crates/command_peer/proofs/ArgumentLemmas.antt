@@ -2,7 +2,7 @@
 use Rattle.std.proofs.Common.{◌≡◌, ◌↔◌, ℕ, ◌-◌, ◌≤◌, List, [], ◌∷◌, length, take, drop, get_or, String, Global, string_bytes, Option, None, Some, refl, ap, ◌∙◌, arith}
 use Rattle.std.proofs.Math.Seq.{take-length}
 use Rattle.std.specs.Prelude.{IfSome, IfNone}
-use Rattle.command_line.specs.CommandLines.{texts}
+use Rattle.command_line.specs.CommandLines.{argument_texts}
 
 -- a value of which a rule holds exactly, where there is one
 pub found_some : (Rule : ℕ → Type 0) (found : Option ℕ) → ((n : ℕ) → (found ≡ Some n) ↔ Rule n) → IfSome found Rule
@@ -30,6 +30,6 @@ four (x ∷ y ∷ z ∷ w ∷ arguments) a b c d least is_a is_b is_c is_d =
 pub four_arguments : (arguments : List Argument) (a b c d : Argument) (host port root collection : List ℕ) → 4 ≤ length arguments
     → a ≡ get_or arguments 0 a → b ≡ get_or arguments 1 b → c ≡ get_or arguments 2 c → d ≡ get_or arguments 3 d
     → host ≡ string_bytes a → port ≡ string_bytes b → root ≡ string_bytes c → collection ≡ string_bytes d
-    → texts arguments ≡ host ∷ port ∷ root ∷ collection ∷ texts (take (length arguments - 4) (drop 4 arguments))
+    → argument_texts arguments ≡ host ∷ port ∷ root ∷ collection ∷ argument_texts (take (length arguments - 4) (drop 4 arguments))
 four_arguments arguments a b c d host port root collection least is_a is_b is_c is_d is_host is_port is_root is_collection =
-    let are = ap texts (four arguments a b c d least is_a is_b is_c is_d) in cc
+    let are = ap argument_texts (four arguments a b c d least is_a is_b is_c is_d) in cc

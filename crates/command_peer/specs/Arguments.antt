@@ -24,24 +24,24 @@ abbrev pub IsRootByte : ℕ → Type 0
 IsRootByte byte = IsAsciiAlphanumeric byte ⊎ (byte ≡ 45) ⊎ (byte ≡ 95) ⊎ (byte ≡ 46) ⊎ (byte ≡ 47)
 
 -- the path of an API root: it begins with `/`, and ends in it
-pub record IsRoot (text : List ℕ) : Type 0 where
+pub record IsApiRoot (text : List ℕ) : Type 0 where
   pub first : (rest : List ℕ) × (text ≡ codes "/" ++ rest)
   pub last : (front : List ℕ) × (text ≡ front ++ codes "/")
   pub short : length text ≤ MAX_ROOT
   pub bytes : All IsRootByte text
 
 -- the four arguments name the target's collection
-pub record IsTargetOf (host port root collection : List ℕ) (target : Target) : Type 0 where
+pub record IsPeerTarget (host port root collection : List ℕ) (target : Target) : Type 0 where
   pub host_is : target.host ≡ host
   pub host_form : IsHost host
   pub port_is : IsNumberIn 1 MAX_PORT port target.port
   pub root_is : target.root ≡ root
-  pub root_form : IsRoot root
+  pub root_form : IsApiRoot root
   pub collection_is : IsUuidOf collection target.collection
 
 -- the collection of the arguments with a page size, and only what was added after a time, if given
-abbrev pub target_of : PeerArguments → ℕ → Option (List ℕ) → Target
-target_of peer limit since = record {
+abbrev pub peer_target : PeerArguments → ℕ → Option (List ℕ) → Target
+peer_target peer limit since = record {
   host = peer.host.now;
   port = peer.port;
   root = peer.root.now;

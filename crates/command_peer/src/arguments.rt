@@ -4,7 +4,7 @@ ghost use Rattle.std.specs.Prelude.{◌≡◌, ℕ, List, Option, IfNone, IfOk, 
 ghost use Rattle.command_line.specs.CommandLines.{IsNumberIn};
 ghost use Rattle.command_line.specs.declared.numbers.TheConstants.{MAX_PORT};
 ghost use Rattle.taxii_client.specs.declared.target.Target.{Target};
-ghost use Rattle.command_peer.specs.Arguments.{IsTargetOf, target_of};
+ghost use Rattle.command_peer.specs.Arguments.{IsPeerTarget, peer_target};
 
 use crate::forms::{is_host, is_root};
 use command_line::{MAX_PORT, number_in};
@@ -34,10 +34,10 @@ impl<'a> PeerArguments<'a> {
         collection: &'a str,
     ) -> Option<PeerArguments<'a>>
         ensures some { IfSome result (λ peer. (limit : ℕ) (since : Option (List ℕ))
-            → IsTargetOf host.entry.now port.entry.now root.entry.now collection.entry.now
-            (target_of peer limit since)) }
+            → IsPeerTarget host.entry.now port.entry.now root.entry.now collection.entry.now
+            (peer_target peer limit since)) }
         ensures none { IfNone result ((target : Target)
-            → ¬ IsTargetOf host.entry.now port.entry.now root.entry.now collection.entry.now
+            → ¬ IsPeerTarget host.entry.now port.entry.now root.entry.now collection.entry.now
             target) }
     {
         if !is_host(host) || !is_root(root) {
@@ -58,7 +58,7 @@ impl<'a> PeerArguments<'a> {
     pub fn target(&self, alloc: Global, limit: u64, since: Option<&str>) -> Result<Target, NoMemory>
         ensures { IfOk result
             (λ target. target
-            ≡ target_of self.now limit (option_map (λ time. time.now) since.entry)) }
+            ≡ peer_target self.now limit (option_map (λ time. time.now) since.entry)) }
     {
         Ok(Target {
             host: Text::from_text(alloc, self.host)?,

@@ -1,7 +1,7 @@
 //! The syntax of a host and of an API root.
 
 ghost use Rattle.std.specs.Prelude.{◌≡◌, ◌↔◌, ◌++◌, List, ℕ, All, IsTrue, codes};
-ghost use Rattle.command_peer.specs.Arguments.{IsHost, IsHostByte, IsRoot, IsRootByte};
+ghost use Rattle.command_peer.specs.Arguments.{IsHost, IsHostByte, IsApiRoot, IsRootByte};
 
 use flow_links::MAX_HOST;
 
@@ -19,7 +19,7 @@ pub(crate) fn is_host(text: &str) -> bool
 
 /// Whether the text is the path of an API root.
 pub(crate) fn is_root(text: &str) -> bool
-    ensures { IsTrue result ↔ IsRoot text.now }
+    ensures { IsTrue result ↔ IsApiRoot text.now }
 {
     begins_with_slash(text) && ends_in_slash(text) && text.len() <= MAX_ROOT && are_root_bytes(text)
 }

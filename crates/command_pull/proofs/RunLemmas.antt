@@ -7,9 +7,9 @@ use Rattle.flow_edges.specs.Faults.{HasIncreased}
 use Rattle.flow_edges.specs.Flow.{written_with, WritesPrefix}
 use Rattle.flow_links.specs.Dials.{DialState}
 use Rattle.stix_json.specs.declared.entry.Entry.{Entry}
-use Rattle.taxii_client.specs.Environment.{LinkView, DialView}
+use Rattle.taxii_client.specs.Environment.{ClientLinkView, DialView}
 use Rattle.taxii_client.specs.Fetches.{Fetched}
-use Rattle.taxii_client.specs.Pulls.{PullState, Lent, Page, PassThrough, IsPageAt, IsPull, cursor_after, AsksFor, GivesPage, Dials, Answers}
+use Rattle.taxii_client.specs.Pulls.{PullState, Lent, Page, PassThroughDial, IsPageAt, IsPull, cursor_after, AsksFor, GivesPage, Dials, Answers}
 use Rattle.taxii_client.specs.declared.fetch_end.FetchEnd.{FetchEnd}
 use Rattle.taxii_client.specs.declared.fetch_end.FetchEnd.TheVariants as Fetch
 use Rattle.taxii_client.specs.declared.page_end.PageEnd.{PageEnd}
@@ -19,13 +19,13 @@ use Rattle.taxii_client.specs.declared.target.Target.{Target}
 use Rattle.taxii_client.specs.declared.cursor.Cursor.{Cursor}
 use Rattle.taxii_client.specs.declared.cursor.Cursor.TheVariants.{First}
 use Rattle.command_pull.specs.declared.ending.PullEnding.TheVariants.{Lost}
-use Rattle.taxii_client.specs.Telling.{told_of, told_of_pages, bad_in, bad_in_pages, IsWritable}
-use Rattle.command_pull.specs.Pulling.{Environment, links_of, Pulls, WritesPages, DialIsQuiet, StopsAsking, StopsBehind, StopsWriting}
+use Rattle.taxii_client.specs.Telling.{told_of, told_of_pages, bad_in, bad_in_pages, IsWritableEntry}
+use Rattle.command_pull.specs.Pulling.{PullEnvironment, page_links, Pulls, WritesPages, DialIsQuiet, StopsAsking, StopsBehind, StopsWriting}
 use Rattle.command_pull.specs.Endings.{EndsPull, AreTooFew}
 use Rattle.command_pull.proofs.WritingLemmas.{all-writable, written-none, written-more}
 
 -- these pages came, all were written, and the walk stands after them
-pub record RunsSo {L : Type 0} (view : L → LinkView) (target : Target) (before now : Environment L) (state : PullState) (skipped : ℕ) : Type 0 where
+pub record RunsSo {L : Type 0} (view : L → ClientLinkView) (target : Target) (before now : PullEnvironment L) (state : PullState) (skipped : ℕ) : Type 0 where
   pub pages : List (Page L)
   pub pulls : Pulls view target before now pages state.cursor [] skipped
   pub quiet : DialIsQuiet before now
@@ -33,8 +33,8 @@ pub record RunsSo {L : Type 0} (view : L → LinkView) (target : Target) (before
   pub target_is : state.target ≡ target
   pub count : state.pages ≡ length pages
 
-pub run-start : (L : Type 0) (view : L → LinkView) (target : Target) (environment : Environment L)
-    → PassThrough target [] environment.dial.observable environment.dial.observable → RunsSo view target environment environment (record { target = target; cursor = First; pages = 0 }) 0
+pub run-start : (L : Type 0) (view : L → ClientLinkView) (target : Target) (environment : PullEnvironment L)
+    → PassThroughDial target [] environment.dial.observable environment.dial.observable → RunsSo view target environment environment (record { target = target; cursor = First; pages = 0 }) 0
 run-start L view target environment none = record {
   pages = [];
   pulls = record { pull = refl; through = none; skipped_is = refl };
@@ -44,7 +44,7 @@ run-start L view target environment none = record {
   count = refl;
 }
 
-links-more : {L : Type 0} (pages : List (Page L)) (page : Page L) → links_of (pages ++ page ∷ []) ≡ links_of pages ++ page.link ∷ []
+links-more : {L : Type 0} (pages : List (Page L)) (page : Page L) → page_links (pages ++ page ∷ []) ≡ page_links pages ++ page.link ∷ []
 links-more [] page = refl
 links-more (first ∷ pages) page = ap (λ (links : List (Lent _)). first.link ∷ links) (links-more pages page)
 
@@ -62,16 +62,16 @@ bad-more : {L : Type 0} (pages : List (Page L)) (page : Page L) → bad_in_pages
 bad-more pages page = fold-more (λ (a : ℕ) (p : Page _). a + bad_in p.envelope.entries) 0 pages page
 
 -- a page came over a link that the dial gave for it
-pub record CameOver {L : Type 0} (view : L → LinkView) (before after : PullState) (dial now : DialView L) (entries : List Entry) : Type 0 where
+pub record CameOver {L : Type 0} (view : L → ClientLinkView) (before after : PullState) (dial now : DialView L) (entries : List Entry) : Type 0 where
   pub page : Page L
   pub at : IsPageAt view before.target before.cursor page
-  pub through : PassThrough before.target (page.link ∷ []) dial.observable now.observable
+  pub through : PassThroughDial before.target (page.link ∷ []) dial.observable now.observable
   pub quiet : now.faults ≡ dial.faults
   pub entries_are : entries ≡ page.envelope.entries
   pub few : before.pages < MAX_PAGES
   pub after_is : after ≡ record { target = before.target; cursor = cursor_after page.envelope; pages = before.pages + 1 }
 
-pub came-over : {L : Type 0} (view : L → LinkView) (before after : PullState) (dial now : DialView L) (entries : List Entry)
+pub came-over : {L : Type 0} (view : L → ClientLinkView) (before after : PullState) (dial now : DialView L) (entries : List Entry)
     → GivesPage view before after dial now entries → CameOver view before after dial now entries
 came-over view before after dial now entries gives = go gives.asks.dials
   where
@@ -88,35 +88,35 @@ came-over view before after dial now entries gives = go gives.asks.dials
     go (inr fails) = let no = fails.fault in absurd cc
 
 -- what stands in the entries of a page that came can be written
-pub page-writable : {L : Type 0} (view : L → LinkView) (before after : PullState) (dial now : DialView L) (entries : List Entry)
-    → GivesPage view before after dial now entries → All IsWritable entries
+pub page-writable : {L : Type 0} (view : L → ClientLinkView) (before after : PullState) (dial now : DialView L) (entries : List Entry)
+    → GivesPage view before after dial now entries → All IsWritableEntry entries
 page-writable view before after dial now entries gives =
     let came = came-over view before after dial now entries gives in
     let is = came.at.fetched.reads.answers.is_envelope in
-    subst (All IsWritable) (sym came.entries_are) (all-writable is.list came.page.envelope.entries is.checked)
+    subst (All IsWritableEntry) (sym came.entries_are) (all-writable is.list came.page.envelope.entries is.checked)
 
-module _ (L : Type 0) (view : L → LinkView) (target : Target) (before : Environment L)
-    (goes : (v : L → LinkView) (t : Target) (pages : List (Page L)) (cursor : Cursor) (page : Page L)
+module _ (L : Type 0) (view : L → ClientLinkView) (target : Target) (before : PullEnvironment L)
+    (goes : (v : L → ClientLinkView) (t : Target) (pages : List (Page L)) (cursor : Cursor) (page : Page L)
     → IsPull v t pages cursor → IsPageAt v t cursor page → IsPull v t (pages ++ page ∷ []) (cursor_after page.envelope))
     (joins : (t : Target) (links more : List (Lent L)) (first middle last : Option (DialState L))
-    → PassThrough t links first middle → PassThrough t more middle last → PassThrough t (links ++ more) first last) where
+    → PassThroughDial t links first middle → PassThroughDial t more middle last → PassThroughDial t (links ++ more) first last) where
   links-joined : (pages : List (Page L)) (more : List (Lent L)) (middle last : Option (DialState L))
-      → PassThrough target (links_of pages ++ []) before.dial.observable middle → PassThrough target more middle last
-      → PassThrough target (links_of pages ++ more) before.dial.observable last
+      → PassThroughDial target (page_links pages ++ []) before.dial.observable middle → PassThroughDial target more middle last
+      → PassThroughDial target (page_links pages ++ more) before.dial.observable last
   links-joined pages more middle last through then =
-      joins target (links_of pages) more before.dial.observable middle last
-      (subst (λ (links : List (Lent L)). PassThrough target links before.dial.observable middle) (append-nil (links_of pages)) through) then
+      joins target (page_links pages) more before.dial.observable middle last
+      (subst (λ (links : List (Lent L)). PassThroughDial target links before.dial.observable middle) (append-nil (page_links pages)) through) then
 
-  module _ (now : Environment L) (state : PullState) (skipped : ℕ) (runs : RunsSo view target before now state skipped) where
+  module _ (now : PullEnvironment L) (state : PullState) (skipped : ℕ) (runs : RunsSo view target before now state skipped) where
     pulls-more : (after : PullState) (dial : DialView L) (written : Option (List ℕ)) (entries : List Entry) (came : CameOver view state after now.dial dial entries)
         → Pulls view target before (record { dial = dial; written = written }) (runs.pages ++ came.page ∷ []) (cursor_after came.page.envelope) [] (skipped + bad_in entries)
     pulls-more after dial written entries came = record {
       pull = goes view target runs.pages state.cursor came.page runs.pulls.pull
           (subst (λ (t : Target). IsPageAt view t state.cursor came.page) runs.target_is came.at);
-      through = subst (λ (links : List (Lent L)). PassThrough target links before.dial.observable dial.observable)
-          (sym (append-nil (links_of (runs.pages ++ came.page ∷ [])) ∙ links-more runs.pages came.page))
+      through = subst (λ (links : List (Lent L)). PassThroughDial target links before.dial.observable dial.observable)
+          (sym (append-nil (page_links (runs.pages ++ came.page ∷ [])) ∙ links-more runs.pages came.page))
           (links-joined runs.pages (came.page.link ∷ []) now.dial.observable dial.observable runs.pulls.through
-          (subst (λ (t : Target). PassThrough t (came.page.link ∷ []) now.dial.observable dial.observable) runs.target_is came.through));
+          (subst (λ (t : Target). PassThroughDial t (came.page.link ∷ []) now.dial.observable dial.observable) runs.target_is came.through));
       skipped_is = ap (λ (k : ℕ). k + bad_in entries) runs.pulls.skipped_is
           ∙ ap (λ (e : List Entry). bad_in_pages runs.pages + bad_in e) came.entries_are ∙ sym (bad-more runs.pages came.page);
     }
@@ -182,7 +182,7 @@ module _ (L : Type 0) (view : L → LinkView) (target : Target) (before : Enviro
           pulls = record {
             pull = runs.pulls.pull;
             through = links-joined runs.pages (over.link ∷ []) now.dial.observable dial.observable runs.pulls.through
-                (subst (λ (t : Target). PassThrough t (over.link ∷ []) now.dial.observable dial.observable) runs.target_is over.through);
+                (subst (λ (t : Target). PassThroughDial t (over.link ∷ []) now.dial.observable dial.observable) runs.target_is over.through);
             skipped_is = runs.pulls.skipped_is;
           };
           loses = (
@@ -199,7 +199,7 @@ module _ (L : Type 0) (view : L → LinkView) (target : Target) (before : Enviro
           lost = [];
           pulls = record {
             pull = runs.pulls.pull;
-            through = subst (λ (d : Option (DialState L)). PassThrough target (links_of runs.pages ++ []) before.dial.observable d) (sym fails.same) runs.pulls.through;
+            through = subst (λ (d : Option (DialState L)). PassThroughDial target (page_links runs.pages ++ []) before.dial.observable d) (sym fails.same) runs.pulls.through;
             skipped_is = runs.pulls.skipped_is;
           };
           loses = (

@@ -11,14 +11,14 @@ use Rattle.stix_json.specs.Reading.{IsEntryFor}
 use Rattle.stix_json.specs.declared.entry.Entry.{Entry}
 use Rattle.stix_json.specs.declared.entry.Entry.TheVariants.{Good, Bad}
 use Rattle.serde_json.specs.Data.{Data}
-use Rattle.taxii_client.specs.Telling.{line_of, told_of, IsWritable}
+use Rattle.taxii_client.specs.Telling.{line_of, told_of, IsWritableEntry}
 
 -- what stands in the entries of a page can be written
-one-writable : (d : Data) (entry : Entry) → IsEntryFor d entry → IsWritable entry
+one-writable : (d : Data) (entry : Entry) → IsEntryFor d entry → IsWritableEntry entry
 one-writable d (Good json) is = subst IsOrdered (sym is.same) is.ordered
 one-writable d (Bad refusal) is = tt
 
-pub all-writable : (items : Items) (entries : List Entry) → AreEntriesFor items entries → All IsWritable entries
+pub all-writable : (items : Items) (entries : List Entry) → AreEntriesFor items entries → All IsWritableEntry entries
 all-writable no_items [] are k e within = absurd (omega (arith, within))
 all-writable no_items (entry ∷ entries) are k e within = absurd are
 all-writable (item d items) [] are k e within = absurd (omega (arith, within))

@@ -1,8 +1,8 @@
 //! The arguments `HOST PORT ROOT COLLECTION [LIMIT]`.
 
 ghost use Rattle.std.specs.Prelude.{◌≡◌, ℕ, IfNone, IfOk, IfSome};
-ghost use Rattle.command_line.specs.CommandLines.{texts};
-ghost use Rattle.command_pull.specs.Arguments.{AskFor, AskForNothing, IsLimitOf, target_of};
+ghost use Rattle.command_line.specs.CommandLines.{argument_texts};
+ghost use Rattle.command_pull.specs.Arguments.{AskForPull, AskForNoPull, IsPageLimit, pull_target};
 
 use command_peer::{PeerArguments, number_to};
 use flow_values::NoMemory;
@@ -22,7 +22,7 @@ pub(crate) struct PullRequest<'a> {
 impl<'a> PullRequest<'a> {
     /// The target of the pull.
     pub(crate) fn target(&self, alloc: Global) -> Result<Target, NoMemory>
-        ensures { IfOk result (λ target. target ≡ target_of self.now) }
+        ensures { IfOk result (λ target. target ≡ pull_target self.now) }
     {
         self.peer.target(alloc, u64::from(self.limit), None)
     }
@@ -31,8 +31,8 @@ impl<'a> PullRequest<'a> {
 /// Parses the arguments after the program's name; `None` if they are no command line.
 pub(crate) fn read_request<'a>(arguments: &'a [String]) -> Option<PullRequest<'a>>
     ensures some { IfSome result
-        (λ request. AskFor (texts arguments.entry.now) (target_of request)) }
-    ensures none { IfNone result (AskForNothing (texts arguments.entry.now)) }
+        (λ request. AskForPull (argument_texts arguments.entry.now) (pull_target request)) }
+    ensures none { IfNone result (AskForNoPull (argument_texts arguments.entry.now)) }
 {
     let [host, port, root, collection, more @ ..] = arguments else {
         return None;
@@ -49,8 +49,8 @@ pub(crate) fn read_request<'a>(arguments: &'a [String]) -> Option<PullRequest<'a
 
 /// Parses the optional LIMIT.
 fn limit_of(more: &[String]) -> Option<u32>
-    ensures some { IfSome result (IsLimitOf (texts more.now)) }
-    ensures none { IfNone result ((limit : ℕ) → ¬ IsLimitOf (texts more.now) limit) }
+    ensures some { IfSome result (IsPageLimit (argument_texts more.now)) }
+    ensures none { IfNone result ((limit : ℕ) → ¬ IsPageLimit (argument_texts more.now) limit) }
 {
     match more {
         [] => Some(MAX_LIMIT),

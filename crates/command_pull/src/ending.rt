@@ -1,7 +1,7 @@
 ghost use Rattle.std.specs.Prelude.{◌≡◌, IsErr};
 ghost use Rattle.flow_edges.specs.Faults.{Counted};
 ghost use Rattle.flow_edges.specs.Flow.{WritesWhole};
-ghost use Rattle.command_pull.specs.Endings.{skipped_text, end_reason};
+ghost use Rattle.command_pull.specs.Endings.{skipped_count_text, end_reason};
 
 use command_peer::write_refusal;
 use command_reasons::{write_no_memory, write_write_fault};
@@ -53,7 +53,7 @@ impl PullEnd {
 }
 
 impl PullEnding {
-    ghost use Rattle.command_pull.specs.Endings.{pull_status, reason_of};
+    ghost use Rattle.command_pull.specs.Endings.{pull_status, pull_reason};
 
     /// The program's exit status.
     pub fn status(&self) -> u8
@@ -75,7 +75,7 @@ impl PullEnding {
 
     /// Writes why the program ends, in one line, or nothing after success. Allocates nothing.
     pub fn write_reason<S: Sink>(&self, reasons: &mut S) -> Result<(), Fault>
-        ensures text { WritesWhole (reason_of self.now) (S.written reasons.old)
+        ensures text { WritesWhole (pull_reason self.now) (S.written reasons.old)
             (S.written reasons.new) result }
         ensures causes { Counted (IsErr result) (S.faults reasons.old) (S.faults reasons.new) }
     {
@@ -99,7 +99,7 @@ impl PullEnding {
 
 /// Writes how many entries were skipped, if any.
 fn write_skipped<S: Sink>(skipped: u128, reasons: &mut S) -> Result<(), Fault>
-    ensures text { WritesWhole (skipped_text skipped) (S.written reasons.old)
+    ensures text { WritesWhole (skipped_count_text skipped) (S.written reasons.old)
         (S.written reasons.new) result }
     ensures causes { Counted (IsErr result) (S.faults reasons.old) (S.faults reasons.new) }
 {

@@ -2,7 +2,7 @@ ghost use Rattle.std.specs.Prelude.{◌≡◌, ◌≤◌, length};
 ghost use Rattle.flow_edges.specs.Faults.{Counted};
 ghost use Rattle.flow_links.specs.declared.dial.TheConstants.{MAX_HOST};
 ghost use Rattle.taxii_client.specs.Environment.{link_view};
-ghost use Rattle.command_pull.specs.Pulling.{environment};
+ghost use Rattle.command_pull.specs.Pulling.{pull_environment};
 ghost use Rattle.command_pull.specs.Endings.{EndsPull, pull_status};
 
 use crate::ending::{PullEnd, PullEnding};
@@ -24,8 +24,8 @@ pub(crate) fn pull_all<D: Dial, O: Sink>(
     requires short { length target.now.host ≤ MAX_HOST }
     ensures end { EndsPull
         (link_view D.Link.left D.Link.written D.Link.Source.faults D.Link.Sink.faults) target.now
-        (environment (D.observable dial.old) (D.faults dial.old) (O.written output.old))
-        (environment (D.observable dial.new) (D.faults dial.new) (O.written output.new))
+        (pull_environment (D.observable dial.old) (D.faults dial.old) (O.written output.old))
+        (pull_environment (D.observable dial.new) (D.faults dial.new) (O.written output.new))
         result.skipped result.ending }
     ensures output { Counted (pull_status result.ending ≡ 6) (O.faults output.old)
         (O.faults output.new) }

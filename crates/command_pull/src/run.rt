@@ -1,12 +1,12 @@
 ghost use Rattle.std.specs.Prelude.{◌≡◌, ◌↔◌, ℕ, List};
 ghost use Rattle.flow_edges.specs.Faults.{Counted};
-ghost use Rattle.command_line.specs.CommandLines.{texts};
+ghost use Rattle.command_line.specs.CommandLines.{argument_texts};
 ghost use Rattle.command_reasons.specs.Reasons.{WritesReason};
 ghost use Rattle.taxii_client.specs.Environment.{link_view};
 ghost use Rattle.command_peer.specs.Arguments.{IsHost};
-ghost use Rattle.command_pull.specs.Arguments.{AskForNothing, target_of};
-ghost use Rattle.command_pull.specs.Pulling.{environment};
-ghost use Rattle.command_pull.specs.Endings.{EndsPull, EndsArguments, pull_status, end_reason};
+ghost use Rattle.command_pull.specs.Arguments.{AskForNoPull, pull_target};
+ghost use Rattle.command_pull.specs.Pulling.{pull_environment};
+ghost use Rattle.command_pull.specs.Endings.{EndsPull, EndsPullArguments, pull_status, end_reason};
 ghost use Rattle.command_pull.specs.Runs.{Ends, PullsAll, CountsDial};
 
 use crate::arguments::{PullRequest, read_request};
@@ -27,9 +27,9 @@ fn answer<D: Dial, O: Sink>(
     requires { IsHost request.now.peer.host.now }
     ensures end { EndsPull
         (link_view D.Link.left D.Link.written D.Link.Source.faults D.Link.Sink.faults)
-        (target_of request.now)
-        (environment (D.observable dial.old) (D.faults dial.old) (O.written output.old))
-        (environment (D.observable dial.new) (D.faults dial.new) (O.written output.new))
+        (pull_target request.now)
+        (pull_environment (D.observable dial.old) (D.faults dial.old) (O.written output.old))
+        (pull_environment (D.observable dial.new) (D.faults dial.new) (O.written output.new))
         result.skipped result.ending }
     ensures output { Counted (pull_status result.ending ≡ 6) (O.faults output.old)
         (O.faults output.new) }
@@ -47,11 +47,11 @@ fn execute<D: Dial, O: Sink>(
     dial: &mut D,
     output: &mut O,
 ) -> PullEnd
-    ensures end { EndsArguments
+    ensures end { EndsPullArguments
         (link_view D.Link.left D.Link.written D.Link.Source.faults D.Link.Sink.faults)
-        (texts arguments.now)
-        (environment (D.observable dial.old) (D.faults dial.old) (O.written output.old))
-        (environment (D.observable dial.new) (D.faults dial.new) (O.written output.new)) result }
+        (argument_texts arguments.now)
+        (pull_environment (D.observable dial.old) (D.faults dial.old) (O.written output.old))
+        (pull_environment (D.observable dial.new) (D.faults dial.new) (O.written output.new)) result }
     ensures untouched { pull_status result.ending ≡ 2
         → (dial.new ≡ dial.old) × (output.new ≡ output.old) }
     ensures output { Counted (pull_status result.ending ≡ 6) (O.faults output.old)
@@ -88,26 +88,26 @@ pub fn run_pull<D: Dial, O: Sink, E: Sink>(
 ) -> u8
     ensures ends { Ends
         (link_view D.Link.left D.Link.written D.Link.Source.faults D.Link.Sink.faults)
-        (texts arguments.now)
-        (environment (D.observable dial.old) (D.faults dial.old) (O.written output.old))
-        (environment (D.observable dial.new) (D.faults dial.new) (O.written output.new)) result
+        (argument_texts arguments.now)
+        (pull_environment (D.observable dial.old) (D.faults dial.old) (O.written output.old))
+        (pull_environment (D.observable dial.new) (D.faults dial.new) (O.written output.new)) result
         (λ reason. WritesReason reason (E.written faults.old) (E.written faults.new)
         (E.faults faults.old) (E.faults faults.new)) }
     // status 2 if and only if the arguments are no command line
-    ensures refusals { (result ≡ 2) ↔ AskForNothing (texts arguments.now) }
+    ensures refusals { (result ≡ 2) ↔ AskForNoPull (argument_texts arguments.now) }
     ensures untouched { result ≡ 2 → (dial.new ≡ dial.old) × (output.new ≡ output.old) }
     // with status 0 all pages were received and written
     ensures all { result ≡ 0
         → PullsAll (link_view D.Link.left D.Link.written D.Link.Source.faults D.Link.Sink.faults)
-        (texts arguments.now)
-        (environment (D.observable dial.old) (D.faults dial.old) (O.written output.old))
-        (environment (D.observable dial.new) (D.faults dial.new) (O.written output.new)) }
+        (argument_texts arguments.now)
+        (pull_environment (D.observable dial.old) (D.faults dial.old) (O.written output.old))
+        (pull_environment (D.observable dial.new) (D.faults dial.new) (O.written output.new)) }
     // which statuses a fault of the dial or a link may have, and which imply one
     ensures dial { CountsDial
         (link_view D.Link.left D.Link.written D.Link.Source.faults D.Link.Sink.faults)
-        (texts arguments.now)
-        (environment (D.observable dial.old) (D.faults dial.old) (O.written output.old))
-        (environment (D.observable dial.new) (D.faults dial.new) (O.written output.new)) result }
+        (argument_texts arguments.now)
+        (pull_environment (D.observable dial.old) (D.faults dial.old) (O.written output.old))
+        (pull_environment (D.observable dial.new) (D.faults dial.new) (O.written output.new)) result }
     ensures output { Counted (result ≡ 6) (O.faults output.old) (O.faults output.new) }
 {
     let end = execute(alloc, arguments, dial, output);

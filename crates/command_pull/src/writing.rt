@@ -2,7 +2,7 @@ ghost use Rattle.std.specs.Prelude.{◌≡◌, ◌++◌, [], ℕ, List, Option, 
 ghost use Rattle.flow_edges.specs.Faults.{Counted};
 ghost use Rattle.flow_edges.specs.Flow.{written_with, WritesPrefix};
 ghost use Rattle.match_run.specs.Buffered.{IsBuffered};
-ghost use Rattle.taxii_client.specs.Telling.{line_of, told_of, bad_in, IsWritable};
+ghost use Rattle.taxii_client.specs.Telling.{line_of, told_of, bad_in, IsWritableEntry};
 
 use flow_edges::Sink;
 use flow_values::{NoMemory, Text};
@@ -27,7 +27,7 @@ pub(crate) fn write_page<O: Sink>(
     entries: &[Entry],
     output: &mut O,
 ) -> Result<(), CutShort>
-    requires { All IsWritable entries.now }
+    requires { All IsWritableEntry entries.now }
     ensures ok { OnOk result
         (O.written output.new ≡ written_with (told_of entries.now) (O.written output.old)) }
     ensures err { OnErr result
@@ -48,7 +48,7 @@ fn add_page<O: Sink>(
     pending: &mut Pending,
     output: &mut O,
 ) -> Result<(), CutShort>
-    requires ordered { All IsWritable entries.now }
+    requires ordered { All IsWritableEntry entries.now }
     requires empty { pending.old ≡ [] }
     ensures ok { OnOk result
         (IsBuffered (told_of entries.now) pending.new (O.written output.old)
@@ -72,7 +72,7 @@ fn add_entry<O: Sink>(
     pending: &mut Pending,
     output: &mut O,
 ) -> Result<(), CutShort>
-    requires { IsWritable entry.now }
+    requires { IsWritableEntry entry.now }
     ensures ok { (before : List ℕ) (first : Option (List ℕ))
         → IsBuffered before pending.old first (O.written output.old)
         → OnOk result (IsBuffered (before ++ line_of entry.now) pending.new first
@@ -90,7 +90,7 @@ fn add_entry<O: Sink>(
 
 /// The line of a valid entry, or an empty text.
 fn text_of(alloc: Global, entry: &Entry) -> Result<Text, NoMemory>
-    requires { IsWritable entry.now }
+    requires { IsWritableEntry entry.now }
     ensures { IfOk result (λ line. line ≡ line_of entry.now) }
 {
     match entry {

@@ -4,21 +4,21 @@ use Rattle.flow_edges.specs.Faults.{HasIncreased}
 use Rattle.flow_edges.specs.Flow.{written_with, WritesPrefix}
 use Rattle.pattern_types.specs.declared.pattern.Pattern.{Pattern}
 use Rattle.pattern_reader.specs.declared.pattern_refusal.PatternRefusal.{PatternRefusal}
-use Rattle.pattern_reader.specs.PatternRefusal.{refusal_text}
+use Rattle.pattern_reader.specs.PatternRefusal.{pattern_refusal_text}
 use Rattle.pattern_reader.specs.Read.{IsReadAs, IsRefusedAs}
 
 -- the text is read as no pattern
-abbrev pub IsUnread : List ℕ → Type 0
-IsUnread text = (pattern : Pattern) → ¬ IsReadAs text pattern
+abbrev pub IsUnreadPattern : List ℕ → Type 0
+IsUnreadPattern text = (pattern : Pattern) → ¬ IsReadAs text pattern
 
 -- it is refused as a pattern for this reason
 pub record IsRefusedPattern (text : List ℕ) (refusal : PatternRefusal) : Type 0 where
-  pub unread : IsUnread text
+  pub unread : IsUnreadPattern text
   pub why : IsRefusedAs text refusal
 
 -- why a pattern is refused
 abbrev pub pattern_reason : PatternRefusal → List ℕ
-pattern_reason refusal = codes "pattern refused: " ++ (refusal_text refusal ++ codes "\n")
+pattern_reason refusal = codes "pattern refused: " ++ (pattern_refusal_text refusal ++ codes "\n")
 
 -- the message for an exceeded limit on retained partial matches
 abbrev pub over_limit_reason : ℕ → ℕ → List ℕ

@@ -1,7 +1,7 @@
 ghost use Rattle.std.specs.Prelude.{◌++◌, codes, IsErr};
 ghost use Rattle.flow_edges.specs.Faults.{Counted};
 ghost use Rattle.flow_edges.specs.Flow.{WritesWhole};
-ghost use Rattle.pattern_reader.specs.PatternRefusal.{refusal_text};
+ghost use Rattle.pattern_reader.specs.PatternRefusal.{pattern_refusal_text};
 
 use flow_edges::{Sink, write_all_vectored, write_whole};
 use flow_values::Fault;
@@ -10,7 +10,7 @@ use pattern_reader::PatternRefusal;
 
 /// Writes why a pattern is refused, as `BadToken at 5`. Allocates nothing.
 pub(crate) fn write_refusal<S: Sink>(refusal: &PatternRefusal, sink: &mut S) -> Result<(), Fault>
-    ensures text { WritesWhole (refusal_text refusal.now) (S.written sink.old)
+    ensures text { WritesWhole (pattern_refusal_text refusal.now) (S.written sink.old)
         (S.written sink.new) result }
     ensures causes { Counted (IsErr result) (S.faults sink.old) (S.faults sink.new) }
 {

@@ -16,21 +16,21 @@ use Rattle.command_run.specs.declared.ending.Ending.TheVariants.{Match, Check, S
 use Rattle.command_run.specs.declared.serve_ending.ServeEnding.{ServeEnding}
 use Rattle.command_run.specs.declared.serve_ending.ServeEnding.TheVariants as serving
 use Rattle.command_run.specs.ServeEndings.{EndsServe, serve_status, IsEarly, IsStoreFault}
-use Rattle.command_run.specs.Services.{Places}
+use Rattle.command_run.specs.Services.{ServiceEnvironment}
 use Rattle.match_input.specs.declared.mode.Mode.{Mode}
 use Rattle.taxii_server.specs.Environment.{LinkView}
 use Rattle.command_line.specs.CommandLines.{PlainRequest, PlainService, IsCommandLine}
 use Rattle.command_line.specs.CommandLines as asked
 use Rattle.command_match.specs.Tasks.{MatchTask, mode_of}
-use Rattle.command_run.specs.Requests.{IsMatchLine, IsShowLine, IsCheckLine, IsMakeLine, IsServeLine, AskForNoInput}
+use Rattle.command_run.specs.Requests.{IsMatchRequest, IsShowRequest, IsCheckRequest, IsMakeRequest, IsServeRequest, AskForNoInput}
 use Rattle.flow_edges.specs.Streams.{Streams}
-use Rattle.command_reasons.specs.Reasons.{IsUnread}
+use Rattle.command_reasons.specs.Reasons.{IsUnreadPattern}
 use Rattle.command_reasons.proofs.CountedLemmas.{counted-when}
 use Rattle.command_match.specs.MatchEndings.{EndsMatch, match_status}
 use Rattle.command_check.specs.CheckEndings.{check_status}
 use Rattle.command_show.specs.ShowEndings.{EndsShow, show_status}
 use Rattle.command_make.specs.MakeEndings.{EndsMake, make_status}
-use Rattle.command_run.specs.RunEndings.{Environment, streams_of, status_of, IsNoCommand, EndsRun, RefusesMatch, RefusesShow, RefusesPattern, ListsBindings, TellsNumbers, ServesNone}
+use Rattle.command_run.specs.RunEndings.{RunEnvironment, streams_of, exit_status, IsNoCommand, EndsRun, RefusesMatch, RefusesShow, RefusesPattern, ListsBindings, TellsNumbers, ServesNone}
 
 -- arguments ask for one thing at most
 abbrev pub OneRequest : Type 0
@@ -75,43 +75,43 @@ module _ (one : OneRequest) (arguments : List (List ℕ)) where
   other_kind : (first second : PlainRequest) → IsCommandLine arguments first → IsCommandLine arguments second → kind first ≡ kind second
   other_kind first second is also = ap kind (one arguments first second is also)
 
-  match_isn't_check : (request : MatchTask) → IsMatchLine arguments request → ¬ IsCheckLine arguments
+  match_isn't_check : (request : MatchTask) → IsMatchRequest arguments request → ¬ IsCheckRequest arguments
   match_isn't_check request line check = absurd (omega (arith, other_kind (asked.Match line.whole request.retained_limit request.pattern) asked.Check line.line check))
 
-  match_isn't_show : (request : MatchTask) (pattern : List ℕ) → IsMatchLine arguments request → ¬ IsShowLine arguments pattern
+  match_isn't_show : (request : MatchTask) (pattern : List ℕ) → IsMatchRequest arguments request → ¬ IsShowRequest arguments pattern
   match_isn't_show request pattern line show =
       absurd (omega (arith, other_kind (asked.Match line.whole request.retained_limit request.pattern) (asked.Show pattern) line.line show))
 
-  match_isn't_make : (request : MatchTask) (seed count : ℕ) → IsMatchLine arguments request → ¬ IsMakeLine arguments seed count
+  match_isn't_make : (request : MatchTask) (seed count : ℕ) → IsMatchRequest arguments request → ¬ IsMakeRequest arguments seed count
   match_isn't_make request seed count line making =
       absurd (omega (arith, other_kind (asked.Match line.whole request.retained_limit request.pattern) (asked.Make seed count) line.line making))
 
-  show_isn't_check : (pattern : List ℕ) → IsShowLine arguments pattern → ¬ IsCheckLine arguments
+  show_isn't_check : (pattern : List ℕ) → IsShowRequest arguments pattern → ¬ IsCheckRequest arguments
   show_isn't_check pattern show check = absurd (omega (arith, other_kind (asked.Show pattern) asked.Check show check))
 
-  show_isn't_make : (pattern : List ℕ) (seed count : ℕ) → IsShowLine arguments pattern → ¬ IsMakeLine arguments seed count
+  show_isn't_make : (pattern : List ℕ) (seed count : ℕ) → IsShowRequest arguments pattern → ¬ IsMakeRequest arguments seed count
   show_isn't_make pattern seed count show making = absurd (omega (arith, other_kind (asked.Show pattern) (asked.Make seed count) show making))
 
-  check_isn't_make : (seed count : ℕ) → IsCheckLine arguments → ¬ IsMakeLine arguments seed count
+  check_isn't_make : (seed count : ℕ) → IsCheckRequest arguments → ¬ IsMakeRequest arguments seed count
   check_isn't_make seed count check making = absurd (omega (arith, other_kind asked.Check (asked.Make seed count) check making))
 
-  pub match_isn't_serve : (request : MatchTask) (service : PlainService) → IsMatchLine arguments request → ¬ IsServeLine arguments service
+  pub match_isn't_serve : (request : MatchTask) (service : PlainService) → IsMatchRequest arguments request → ¬ IsServeRequest arguments service
   match_isn't_serve request service line served =
       absurd (omega (arith, other_kind (asked.Match line.whole request.retained_limit request.pattern) (asked.Serve service) line.line served))
 
-  pub check_isn't_serve : (service : PlainService) → IsCheckLine arguments → ¬ IsServeLine arguments service
+  pub check_isn't_serve : (service : PlainService) → IsCheckRequest arguments → ¬ IsServeRequest arguments service
   check_isn't_serve service check served = absurd (omega (arith, other_kind asked.Check (asked.Serve service) check served))
 
-  pub show_isn't_serve : (pattern : List ℕ) (service : PlainService) → IsShowLine arguments pattern → ¬ IsServeLine arguments service
+  pub show_isn't_serve : (pattern : List ℕ) (service : PlainService) → IsShowRequest arguments pattern → ¬ IsServeRequest arguments service
   show_isn't_serve pattern service show served = absurd (omega (arith, other_kind (asked.Show pattern) (asked.Serve service) show served))
 
-  pub make_isn't_serve : (seed count : ℕ) (service : PlainService) → IsMakeLine arguments seed count → ¬ IsServeLine arguments service
+  pub make_isn't_serve : (seed count : ℕ) (service : PlainService) → IsMakeRequest arguments seed count → ¬ IsServeRequest arguments service
   make_isn't_serve seed count service making served = absurd (omega (arith, other_kind (asked.Make seed count) (asked.Serve service) making served))
 
-  one_shown : (a b : List ℕ) → IsShowLine arguments a → IsShowLine arguments b → a ≡ b
+  one_shown : (a b : List ℕ) → IsShowRequest arguments a → IsShowRequest arguments b → a ≡ b
   one_shown a b first second = ap pattern_in (one arguments (asked.Show a) (asked.Show b) first second)
 
-  one_matched : (a b : MatchTask) → IsMatchLine arguments a → IsMatchLine arguments b → a ≡ b
+  one_matched : (a b : MatchTask) → IsMatchRequest arguments a → IsMatchRequest arguments b → a ≡ b
   one_matched a b first second =
       let same = one arguments (asked.Match first.whole a.retained_limit a.pattern) (asked.Match second.whole b.retained_limit b.pattern) first.line second.line in
       let mode : a.mode ≡ b.mode = first.mode_is ∙ ap mode_of (ap whole_in same) ∙ sym second.mode_is in
@@ -119,7 +119,7 @@ module _ (one : OneRequest) (arguments : List (List ℕ)) where
       ∙ ap (λ (c : ℕ). record { mode = b.mode; retained_limit = c; pattern = a.pattern }) (ap first_in same)
       ∙ ap (λ (p : List ℕ). record { mode = b.mode; retained_limit = b.retained_limit; pattern = p }) (ap pattern_in same)
 
-  one_made : (seed count other also : ℕ) → IsMakeLine arguments seed count → IsMakeLine arguments other also → (seed ≡ other) × (count ≡ also)
+  one_made : (seed count other also : ℕ) → IsMakeRequest arguments seed count → IsMakeRequest arguments other also → (seed ≡ other) × (count ≡ also)
   one_made seed count other also first second =
       let same = one arguments (asked.Make seed count) (asked.Make other also) first second in
       (ap first_in same, ap second_in same)
@@ -165,7 +165,7 @@ serve_statuses serving.DoorFault = (λ is. omega arith, λ is. omega arith)
 serve_statuses (serving.StoreFault cause) = (λ is. omega arith, λ is. omega arith)
 serve_statuses (serving.BadRow date) = (λ is. omega arith, λ is. omega arith)
 
-pub usage-run : {L : Type 0} (view : L → LinkView) (arguments : List (List ℕ)) (before after : Environment L) (ending : Ending) → EndsRun view arguments before after ending → status_of ending ≡ 2 → IsNoCommand arguments
+pub usage-run : {L : Type 0} (view : L → LinkView) (arguments : List (List ℕ)) (before after : RunEnvironment L) (ending : Ending) → EndsRun view arguments before after ending → exit_status ending ≡ 2 → IsNoCommand arguments
 usage-run view arguments before after (Match ending) ends is = absurd (match_isn't_usage ending is)
 usage-run view arguments before after (Check ending) ends is = absurd ((check_statuses ending).0 is)
 usage-run view arguments before after (Show ending) ends is = absurd (show_isn't_usage ending is)
@@ -174,8 +174,8 @@ usage-run view arguments before after (Serve ending) ends is = absurd ((serve_st
 usage-run view arguments before after Usage ends is = ends.0
 usage-run view arguments before after NoMemory ends is = absurd (omega arith)
 
-pub no_line-run : {L : Type 0} (view : L → LinkView) (arguments : List (List ℕ)) (before after : Environment L) (ending : Ending) → EndsRun view arguments before after ending → IsNoCommand arguments
-    → (status_of ending ≡ 2) ⊎ (status_of ending ≡ 1)
+pub no_line-run : {L : Type 0} (view : L → LinkView) (arguments : List (List ℕ)) (before after : RunEnvironment L) (ending : Ending) → EndsRun view arguments before after ending → IsNoCommand arguments
+    → (exit_status ending ≡ 2) ⊎ (exit_status ending ≡ 1)
 no_line-run view arguments before after (Match ending) ends none = absurd (none (asked.Match ends.command.whole ends.request.retained_limit ends.request.pattern) ends.command.line)
 no_line-run view arguments before after (Check ending) ends none = absurd (none asked.Check ends.command)
 no_line-run view arguments before after (Show ending) ends none = absurd (none (asked.Show ends.pattern) ends.command)
@@ -186,7 +186,7 @@ no_line-run view arguments before after NoMemory ends none = inr refl
 
 -- status 3 comes for a pattern that is refused
 match-pattern : (arguments : List (List ℕ)) (request : MatchTask) (before after : Streams) (ending : MatchEnding)
-    → IsMatchLine arguments request → EndsMatch request before after ending → match_status ending ≡ 3 → RefusesMatch arguments
+    → IsMatchRequest arguments request → EndsMatch request before after ending → match_status ending ≡ 3 → RefusesMatch arguments
 match-pattern arguments request before after (matching.PatternRefused refusal) command ends is = record { request = request; command = command; none = ends.0.unread }
 match-pattern arguments request before after (matching.Ended (end.Done observations bindings last)) command ends is = absurd (omega arith)
 match-pattern arguments request before after (matching.Ended (end.Input line rule)) command ends is = absurd (omega arith)
@@ -197,13 +197,13 @@ match-pattern arguments request before after (matching.Ended end.NoMemory) comma
 match-pattern arguments request before after matching.NoMemory command ends is = absurd (omega arith)
 
 show-pattern : (arguments : List (List ℕ)) (pattern : List ℕ) (before after : Streams) (ending : ShowEnding)
-    → IsShowLine arguments pattern → EndsShow pattern before after ending → show_status ending ≡ 3 → RefusesShow arguments
+    → IsShowRequest arguments pattern → EndsShow pattern before after ending → show_status ending ≡ 3 → RefusesShow arguments
 show-pattern arguments pattern before after showing.Shown command ends is = absurd (omega arith)
 show-pattern arguments pattern before after (showing.PatternRefused refusal) command ends is = record { pattern = pattern; command = command; none = ends.0.unread }
 show-pattern arguments pattern before after showing.WriteFault command ends is = absurd (omega arith)
 show-pattern arguments pattern before after showing.NoMemory command ends is = absurd (omega arith)
 
-pub pattern-run : {L : Type 0} (view : L → LinkView) (arguments : List (List ℕ)) (before after : Environment L) (ending : Ending) → EndsRun view arguments before after ending → status_of ending ≡ 3 → RefusesPattern arguments
+pub pattern-run : {L : Type 0} (view : L → LinkView) (arguments : List (List ℕ)) (before after : RunEnvironment L) (ending : Ending) → EndsRun view arguments before after ending → exit_status ending ≡ 3 → RefusesPattern arguments
 pattern-run view arguments before after (Match ending) ends is = inl (match-pattern arguments ends.request (streams_of before) (streams_of after) ending ends.command ends.match_ends is)
 pattern-run view arguments before after (Check ending) ends is = absurd ((check_statuses ending).1 is)
 pattern-run view arguments before after (Show ending) ends is = inr (show-pattern arguments ends.pattern (streams_of before) (streams_of after) ending ends.command ends.show_ends is)
@@ -214,30 +214,30 @@ pattern-run view arguments before after NoMemory ends is = absurd (omega arith)
 
 -- a pattern that is refused ends in status 3, or memory ran out
 match-refused : (request : MatchTask) (before after : Streams) (ending : MatchEnding)
-    → IsUnread request.pattern → EndsMatch request before after ending → (match_status ending ≡ 3) ⊎ (match_status ending ≡ 1)
+    → IsUnreadPattern request.pattern → EndsMatch request before after ending → (match_status ending ≡ 3) ⊎ (match_status ending ≡ 1)
 match-refused request before after (matching.PatternRefused refusal) none ends = inl refl
 match-refused request before after (matching.Ended ended) none ends = absurd (none ends.pattern ends.read)
 match-refused request before after matching.NoMemory none ends = inr refl
 
 show-refused : (pattern : List ℕ) (before after : Streams) (ending : ShowEnding)
-    → IsUnread pattern → EndsShow pattern before after ending → (show_status ending ≡ 3) ⊎ (show_status ending ≡ 1)
+    → IsUnreadPattern pattern → EndsShow pattern before after ending → (show_status ending ≡ 3) ⊎ (show_status ending ≡ 1)
 show-refused pattern before after showing.Shown none ends = absurd (none ends.1.pattern ends.1.read)
 show-refused pattern before after (showing.PatternRefused refusal) none ends = inl refl
 show-refused pattern before after showing.WriteFault none ends = absurd (none ends.1.pattern ends.1.read)
 show-refused pattern before after showing.NoMemory none ends = inr refl
 
-pub refused-run : OneRequest → {L : Type 0} (view : L → LinkView) (arguments : List (List ℕ)) (before after : Environment L) (ending : Ending) → EndsRun view arguments before after ending → RefusesPattern arguments
-    → (status_of ending ≡ 3) ⊎ (status_of ending ≡ 1)
+pub refused-run : OneRequest → {L : Type 0} (view : L → LinkView) (arguments : List (List ℕ)) (before after : RunEnvironment L) (ending : Ending) → EndsRun view arguments before after ending → RefusesPattern arguments
+    → (exit_status ending ≡ 3) ⊎ (exit_status ending ≡ 1)
 refused-run one view arguments before after (Match ending) ends (inl refuses) =
     match-refused ends.request (streams_of before) (streams_of after) ending
-    (subst (λ (r : MatchTask). IsUnread r.pattern) (one_matched one arguments refuses.request ends.request refuses.command ends.command) refuses.none) ends.match_ends
+    (subst (λ (r : MatchTask). IsUnreadPattern r.pattern) (one_matched one arguments refuses.request ends.request refuses.command ends.command) refuses.none) ends.match_ends
 refused-run one view arguments before after (Match ending) ends (inr refuses) = absurd (match_isn't_show one arguments ends.request refuses.pattern ends.command refuses.command)
 refused-run one view arguments before after (Check ending) ends (inl refuses) = absurd (match_isn't_check one arguments refuses.request refuses.command ends.command)
 refused-run one view arguments before after (Check ending) ends (inr refuses) = absurd (show_isn't_check one arguments refuses.pattern refuses.command ends.command)
 refused-run one view arguments before after (Show ending) ends (inl refuses) = absurd (match_isn't_show one arguments refuses.request ends.pattern refuses.command ends.command)
 refused-run one view arguments before after (Show ending) ends (inr refuses) =
     show-refused ends.pattern (streams_of before) (streams_of after) ending
-    (subst (λ (p : List ℕ). IsUnread p) (one_shown one arguments refuses.pattern ends.pattern refuses.command ends.command) refuses.none) ends.show_ends
+    (subst (λ (p : List ℕ). IsUnreadPattern p) (one_shown one arguments refuses.pattern ends.pattern refuses.command ends.command) refuses.none) ends.show_ends
 refused-run one view arguments before after (Make ending) ends (inl refuses) = absurd (match_isn't_make one arguments refuses.request ends.seed ends.count refuses.command ends.command)
 refused-run one view arguments before after (Make ending) ends (inr refuses) = absurd (show_isn't_make one arguments refuses.pattern ends.seed ends.count refuses.command ends.command)
 refused-run one view arguments before after (Serve ending) ends (inl refuses) = absurd (match_isn't_serve one arguments refuses.request ends.service refuses.command ends.command)
@@ -271,8 +271,8 @@ match-listing request before after (matching.Ended (end.OverLimit number retaine
 match-listing request before after (matching.Ended end.NoMemory) ends is = absurd (omega arith)
 match-listing request before after matching.NoMemory ends is = absurd (omega arith)
 
-pub listing-run : OneRequest → {L : Type 0} (view : L → LinkView) (arguments : List (List ℕ)) (before after : Environment L) (ending : Ending) → EndsRun view arguments before after ending → status_of ending ≡ 0
-    → (request : MatchTask) → IsMatchLine arguments request → ListsBindings request (streams_of before) (streams_of after)
+pub listing-run : OneRequest → {L : Type 0} (view : L → LinkView) (arguments : List (List ℕ)) (before after : RunEnvironment L) (ending : Ending) → EndsRun view arguments before after ending → exit_status ending ≡ 0
+    → (request : MatchTask) → IsMatchRequest arguments request → ListsBindings request (streams_of before) (streams_of after)
 listing-run one view arguments before after (Match ending) ends is request line =
     subst (λ (r : MatchTask). ListsBindings r (streams_of before) (streams_of after)) (one_matched one arguments ends.request request ends.command line)
     (match-listing ends.request (streams_of before) (streams_of after) ending ends.match_ends is)
@@ -291,8 +291,8 @@ made-numbers seed count before after (making.Refused line rule) ends is = absurd
 made-numbers seed count before after making.WriteFault ends is = absurd (omega arith)
 made-numbers seed count before after making.NoMemory ends is = absurd (omega arith)
 
-pub making-run : OneRequest → {L : Type 0} (view : L → LinkView) (arguments : List (List ℕ)) (before after : Environment L) (ending : Ending) → EndsRun view arguments before after ending → status_of ending ≡ 0
-    → (seed count : ℕ) → IsMakeLine arguments seed count → TellsNumbers seed count (streams_of before) (streams_of after)
+pub making-run : OneRequest → {L : Type 0} (view : L → LinkView) (arguments : List (List ℕ)) (before after : RunEnvironment L) (ending : Ending) → EndsRun view arguments before after ending → exit_status ending ≡ 0
+    → (seed count : ℕ) → IsMakeRequest arguments seed count → TellsNumbers seed count (streams_of before) (streams_of after)
 making-run one view arguments before after (Match ending) ends is seed count line = absurd (match_isn't_make one arguments ends.request seed count ends.command line)
 making-run one view arguments before after (Check ending) ends is seed count line = absurd (check_isn't_make one arguments seed count ends.command line)
 making-run one view arguments before after (Show ending) ends is seed count line = absurd (show_isn't_make one arguments ends.pattern seed count ends.command line)
@@ -427,18 +427,18 @@ pub counted-as : {status own wanted before now : ℕ} → status ≡ own → Cou
 counted-as same = counted-when (λ is. sym same ∙ is, λ is. same ∙ is)
 
 -- `match` and `check` read their input
-pub match_reads : OneRequest → (arguments : List (List ℕ)) (task : MatchTask) → IsMatchLine arguments task → ¬ AskForNoInput arguments
+pub match_reads : OneRequest → (arguments : List (List ℕ)) (task : MatchTask) → IsMatchRequest arguments task → ¬ AskForNoInput arguments
 match_reads one arguments task line (inl shows) = match_isn't_show one arguments task shows.0 line shows.1
 match_reads one arguments task line (inr (inl makes)) = match_isn't_make one arguments task makes.0 makes.1 line makes.2
 match_reads one arguments task line (inr (inr serves)) = match_isn't_serve one arguments task serves.0 line serves.1
 
-pub check_reads : OneRequest → (arguments : List (List ℕ)) → IsCheckLine arguments → ¬ AskForNoInput arguments
+pub check_reads : OneRequest → (arguments : List (List ℕ)) → IsCheckRequest arguments → ¬ AskForNoInput arguments
 check_reads one arguments line (inl shows) = show_isn't_check one arguments shows.0 shows.1 line
 check_reads one arguments line (inr (inl makes)) = check_isn't_make one arguments makes.0 makes.1 line makes.2
 check_reads one arguments line (inr (inr serves)) = check_isn't_serve one arguments serves.0 line serves.1
 
 -- where a `serve` ended before the door was opened, the rows are as they were
-pub early-rows : {L : Type 0} (view : L → LinkView) (service : PlainService) (before after : Places L) (ending : ServeEnding)
+pub early-rows : {L : Type 0} (view : L → LinkView) (service : PlainService) (before after : ServiceEnvironment L) (ending : ServeEnding)
     → IsEarly ending → EndsServe view service before after ending → after.kept.observable ≡ before.kept.observable
 early-rows view service before after (serving.Done served) is ends = absurd is
 early-rows view service before after serving.WriteFault is ends = absurd is

@@ -17,8 +17,8 @@ use Rattle.taxii_server.specs.Serving.{Client, exchanges_of, HaveConnections}
 use Rattle.command_line.specs.CommandLines.{PlainService}
 use Rattle.command_run.specs.declared.serve_ending.ServeEnding.{ServeEnding}
 use Rattle.command_run.specs.declared.serve_ending.ServeEnding.TheVariants.{Done, NoMemory, WriteFault, DoorFault, StoreFault, BadRow}
-use Rattle.command_run.specs.Services.{store_name, Begins, Places, Serves}
-use Rattle.command_run.specs.ServeEndings.{summary_text, ServesAll, EndsServe, Concludes}
+use Rattle.command_run.specs.Services.{store_name, Begins, ServiceEnvironment, Serves}
+use Rattle.command_run.specs.ServeEndings.{serve_summary, ServesAll, EndsServe, ConcludesServing}
 
 some_same : {A : Type 0} (observable : Option A) (one : A) → IfSome observable (λ kept. kept ≡ one) → IfSome observable (λ kept. one ≡ kept)
 some_same None one is = tt
@@ -39,10 +39,10 @@ told_still (Some rows) (Some its) none last same held = ap Some held
 dated : (store : StoreState) → IsSoundState store → IsDated store
 dated store sound = record { ascend = sound.ascend; marked = sound.marked }
 
-module _ {L : Type 0} (view : L → LinkView) (service : PlainService) (before after : Places L) where
-  pub concluded-ends : (served : Served) (ending : ServeEnding) → ServesAll view service before after served → Concludes served before.written after.written ending
+module _ {L : Type 0} (view : L → LinkView) (service : PlainService) (before after : ServiceEnvironment L) where
+  pub concluded-ends : (served : Served) (ending : ServeEnding) → ServesAll view service before after served → ConcludesServing served before.written after.written ending
       → EndsServe view service before after ending
-  concluded-ends served (Done observable) all ends = (subst (λ (it : Served). ServesAll view service before after it) (sym ends.0) all, subst (λ (it : Served). after.written ≡ written_with (summary_text it) before.written) (sym ends.0) ends.1)
+  concluded-ends served (Done observable) all ends = (subst (λ (it : Served). ServesAll view service before after it) (sym ends.0) all, subst (λ (it : Served). after.written ≡ written_with (serve_summary it) before.written) (sym ends.0) ends.1)
   concluded-ends served WriteFault all ends = (served, all, ends)
   concluded-ends served DoorFault all ends = absurd ends
   concluded-ends served NoMemory all ends = absurd ends

@@ -40,7 +40,7 @@ pub record Begins (service : PlainService) (kept : Kept) (server : Server) : Typ
 
 -- the environment of a server at one moment: its door, the keeper's observable state, the output,
 -- and the clock with the keeper's count of faults
-pub record Places (L : Type 0) : Type 0 where
+pub record ServiceEnvironment (L : Type 0) : Type 0 where
   pub door : Option (DoorState L)
   pub kept : Kept
   pub written : Option (List ℕ)
@@ -50,7 +50,7 @@ pub record Places (L : Type 0) : Type 0 where
 -- had its connection, from the state that the one before left, and no more were served than
 -- requested. If the keeper's rows are observable, they are those of the last state. No walk among
 -- the requests skips a row
-pub record Serves {L : Type 0} (view : L → LinkView) (service : PlainService) (before after : Places L) (clients : List (Client L)) : Type 0 where
+pub record Serves {L : Type 0} (view : L → LinkView) (service : PlainService) (before after : ServiceEnvironment L) (clients : List (Client L)) : Type 0 where
   pub config : Config
   pub config_is : IsConfigOf service config
   pub store : StoreState

@@ -26,11 +26,11 @@ pub enum Ending {
 
 impl Ending {
     ghost use Rattle.std.specs.Prelude.{◌≡◌, List, ℕ, IsErr};
-    ghost use Rattle.command_run.specs.RunEndings.{status_of, IsReasonOf};
+    ghost use Rattle.command_run.specs.RunEndings.{exit_status, IsReasonOf};
 
     /// The program's exit status.
     pub fn status(&self) -> u8
-        ensures { result ≡ status_of self.now }
+        ensures { result ≡ exit_status self.now }
     {
         match self {
             Ending::Match(ending) => ending.status(),

@@ -1,12 +1,12 @@
 ghost use Rattle.std.specs.Prelude.{◌≡◌, ◌⊎◌, ℕ, List};
 ghost use Rattle.flow_edges.specs.Faults.{Counted};
 ghost use Rattle.flow_edges.specs.Streams.{streams};
-ghost use Rattle.command_line.specs.CommandLines.{texts};
+ghost use Rattle.command_line.specs.CommandLines.{argument_texts};
 ghost use Rattle.command_reasons.specs.Reasons.{WritesReason};
 ghost use Rattle.command_run.specs.Requests.{AskForNoInput, AskToServe};
-ghost use Rattle.command_run.specs.RunEndings.{status_of, IsReasonOf, EndsRun, ServesNone, Ends};
-ghost use Rattle.command_run.specs.RunEndings.{IsDone, environment};
-ghost use Rattle.taxii_server.specs.Environment.{link_view};
+ghost use Rattle.command_run.specs.RunEndings.{exit_status, IsReasonOf, EndsRun, ServesNone, Ends};
+ghost use Rattle.command_run.specs.RunEndings.{IsCommandDone, command_environment};
+ghost use Rattle.taxii_server.specs.Environment.{client_view};
 
 use crate::ending::Ending;
 use crate::serve;
@@ -32,27 +32,27 @@ fn execute<I: Source, O: Sink, D: Door, K: Keeper, C: Clock>(
     clock: &mut C,
 ) -> Ending
     ensures end { EndsRun
-        (link_view D.Link.left D.Link.began D.Link.written D.Link.Source.faults D.Link.Sink.faults)
-        (texts arguments.now)
-        (environment (I.left input.old) (I.began input.old) (O.written output.old)
+        (client_view D.Link.left D.Link.began D.Link.written D.Link.Source.faults D.Link.Sink.faults)
+        (argument_texts arguments.now)
+        (command_environment (I.left input.old) (I.began input.old) (O.written output.old)
         (D.observable door.old) (K.kept keeper.old) (C.moments clock.old) (K.faults keeper.old))
-        (environment (I.left input.new) (I.began input.new) (O.written output.new)
+        (command_environment (I.left input.new) (I.began input.new) (O.written output.new)
         (D.observable door.new) (K.kept keeper.new) (C.moments clock.new)
         (K.faults keeper.new)) result }
-    ensures untouched { (status_of result ≡ 2) ⊎ (status_of result ≡ 3)
+    ensures untouched { (exit_status result ≡ 2) ⊎ (exit_status result ≡ 3)
         → (input.new ≡ input.old) × (output.new ≡ output.old) }
-    ensures unasked { (AskForNoInput (texts arguments.now) → input.new ≡ input.old)
-        × (¬ AskToServe (texts arguments.now)
+    ensures unasked { (AskForNoInput (argument_texts arguments.now) → input.new ≡ input.old)
+        × (¬ AskToServe (argument_texts arguments.now)
         → (door.new ≡ door.old) × (clock.new ≡ clock.old) × (keeper.new ≡ keeper.old)) }
     // with these statuses no client was served, so door, clock and stored rows are untouched
-    ensures unserved { ServesNone (status_of result)
+    ensures unserved { ServesNone (exit_status result)
         → (door.new ≡ door.old) × (clock.new ≡ clock.old)
         × ((K.kept keeper.new).observable ≡ (K.kept keeper.old).observable) }
-    ensures input { Counted (status_of result ≡ 5) (I.faults input.old) (I.faults input.new) }
-    ensures output { Counted (status_of result ≡ 6) (O.faults output.old) (O.faults output.new) }
-    ensures door { Counted (status_of result ≡ 8) (D.faults door.old) (D.faults door.new) }
-    ensures keeper { ServesNone (status_of result)
-        → Counted (status_of result ≡ 9) (K.faults keeper.old) (K.faults keeper.new) }
+    ensures input { Counted (exit_status result ≡ 5) (I.faults input.old) (I.faults input.new) }
+    ensures output { Counted (exit_status result ≡ 6) (O.faults output.old) (O.faults output.new) }
+    ensures door { Counted (exit_status result ≡ 8) (D.faults door.old) (D.faults door.new) }
+    ensures keeper { ServesNone (exit_status result)
+        → Counted (exit_status result ≡ 9) (K.faults keeper.old) (K.faults keeper.new) }
 {
     one_request();
     match read_arguments(alloc, arguments) {
@@ -97,28 +97,28 @@ pub fn run<I: Source, O: Sink, E: Sink, D: Door, K: Keeper, C: Clock>(
     clock: &mut C,
 ) -> u8
     ensures ends { Ends
-        (link_view D.Link.left D.Link.began D.Link.written D.Link.Source.faults D.Link.Sink.faults)
-        (texts arguments.now)
-        (environment (I.left input.old) (I.began input.old) (O.written output.old)
+        (client_view D.Link.left D.Link.began D.Link.written D.Link.Source.faults D.Link.Sink.faults)
+        (argument_texts arguments.now)
+        (command_environment (I.left input.old) (I.began input.old) (O.written output.old)
         (D.observable door.old) (K.kept keeper.old) (C.moments clock.old) (K.faults keeper.old))
-        (environment (I.left input.new) (I.began input.new) (O.written output.new)
+        (command_environment (I.left input.new) (I.began input.new) (O.written output.new)
         (D.observable door.new) (K.kept keeper.new) (C.moments clock.new)
         (K.faults keeper.new)) result
         (λ reason. WritesReason reason (E.written reasons.old) (E.written reasons.new)
         (E.faults reasons.old) (E.faults reasons.new)) }
     ensures done { result ≡ 0
-        → IsDone (texts arguments.now)
+        → IsCommandDone (argument_texts arguments.now)
         (streams (I.left input.old) (I.began input.old) (O.written output.old))
         (streams (I.left input.new) (I.began input.new) (O.written output.new)) }
     ensures untouched { (result ≡ 2) ⊎ (result ≡ 3)
         → (input.new ≡ input.old) × (output.new ≡ output.old) }
     // commands without input leave it untouched
-    ensures unread { AskForNoInput (texts arguments.now) → input.new ≡ input.old }
+    ensures unread { AskForNoInput (argument_texts arguments.now) → input.new ≡ input.old }
     ensures unserved { ServesNone result
         → (door.new ≡ door.old) × (clock.new ≡ clock.old)
         × ((K.kept keeper.new).observable ≡ (K.kept keeper.old).observable) }
     // only `serve` uses the door, the clock and the keeper
-    ensures others { ¬ AskToServe (texts arguments.now)
+    ensures others { ¬ AskToServe (argument_texts arguments.now)
         → (door.new ≡ door.old) × (clock.new ≡ clock.old) × (keeper.new ≡ keeper.old) }
     ensures input { Counted (result ≡ 5) (I.faults input.old) (I.faults input.new) }
     ensures output { Counted (result ≡ 6) (O.faults output.old) (O.faults output.new) }
@@ -133,7 +133,7 @@ pub fn run<I: Source, O: Sink, E: Sink, D: Door, K: Keeper, C: Clock>(
 
 /// Writes why the program ends, and returns its exit status.
 fn finish<E: Sink>(ending: &Ending, reasons: &mut E) -> u8
-    ensures status { result ≡ status_of ending.now }
+    ensures status { result ≡ exit_status ending.now }
     ensures reason { (text : List ℕ) × IsReasonOf ending.now text
         × WritesReason text (E.written reasons.old) (E.written reasons.new) (E.faults reasons.old)
         (E.faults reasons.new) }

@@ -1,9 +1,10 @@
 ghost use Rattle.std.specs.Prelude.{◌≡◌};
 ghost use Rattle.flow_edges.specs.Faults.{Counted};
 ghost use Rattle.taxii_rows.specs.declared.fault_cause.FaultCause.{FaultCause as Cause};
-ghost use Rattle.taxii_server.specs.Environment.{link_view};
+ghost use Rattle.taxii_server.specs.Environment.{client_view};
 ghost use Rattle.command_line.specs.Request.{plain_service};
-ghost use Rattle.command_run.specs.ServeEndings.{EndsServe, IsEarly, IsStoreFault, Concludes};
+ghost use Rattle.command_run.specs.ServeEndings.{EndsServe, IsEarly, IsStoreFault};
+ghost use Rattle.command_run.specs.ServeEndings.{ConcludesServing};
 
 use crate::opening::open;
 use crate::serve_ending::ServeEnding;
@@ -28,7 +29,7 @@ pub fn serve<O: Sink, D: Door, K: Keeper, C: Clock>(
     clock: &mut C,
 ) -> ServeEnding
     ensures ends { EndsServe
-        (link_view D.Link.left D.Link.began D.Link.written D.Link.Source.faults D.Link.Sink.faults)
+        (client_view D.Link.left D.Link.began D.Link.written D.Link.Source.faults D.Link.Sink.faults)
         (plain_service request.now)
         (record {
           door = D.observable door.old;
@@ -69,7 +70,7 @@ pub fn serve<O: Sink, D: Door, K: Keeper, C: Clock>(
 
 /// Writes the summary.
 fn conclude<O: Sink>(served: Served, output: &mut O) -> ServeEnding
-    ensures concludes { Concludes served (O.written output.old) (O.written output.new) result }
+    ensures concludes { ConcludesServing served (O.written output.old) (O.written output.new) result }
     ensures output { Counted (result ≡ ServeEnding.WriteFault) (O.faults output.old)
         (O.faults output.new) }
 {

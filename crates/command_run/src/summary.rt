@@ -1,7 +1,7 @@
 ghost use Rattle.std.specs.Prelude.{◌++◌, codes, OnErr, IsErr};
 ghost use Rattle.flow_edges.specs.Faults.{Counted};
 ghost use Rattle.flow_edges.specs.Flow.{WritesWhole, WritesPart};
-ghost use Rattle.command_run.specs.ServeEndings.{summary_text};
+ghost use Rattle.command_run.specs.ServeEndings.{serve_summary};
 
 use flow_edges::{Sink, write_all_vectored};
 use flow_values::Fault;
@@ -10,10 +10,10 @@ use taxii_server::Served;
 
 /// Writes what a server did, as `connections 2 requests 5` and a line feed.
 pub(crate) fn write_summary<O: Sink>(served: Served, output: &mut O) -> Result<(), Fault>
-    ensures text { WritesWhole (summary_text served) (O.written output.old)
+    ensures text { WritesWhole (serve_summary served) (O.written output.old)
         (O.written output.new) result }
     ensures part { OnErr result
-        (WritesPart (summary_text served) (O.written output.old) (O.written output.new)) }
+        (WritesPart (serve_summary served) (O.written output.old) (O.written output.new)) }
     ensures causes { Counted (IsErr result) (O.faults output.old) (O.faults output.new) }
 {
     let mut buffer = Buffer::new();

@@ -18,15 +18,15 @@ pub record IsLineOfPattern (pattern : Pattern) (line : List ℕ) : Type 0 where
   pub line_is : line ≡ written ++ codes "\n"
 
 -- the text is read as a pattern, whose line it is
-pub record IsLineOf (text line : List ℕ) : Type 0 where
+pub record IsPatternLine (text line : List ℕ) : Type 0 where
   pub pattern : Pattern
   pub read : IsReadAs text pattern
   pub line_is : IsLineOfPattern pattern line
 
 abbrev pub EndsShow : List ℕ → Streams → Streams → ShowEnding → Type 0
-EndsShow pattern before after Shown = (line : List ℕ) × IsLineOf pattern line × (after.written ≡ written_with line before.written)
+EndsShow pattern before after Shown = (line : List ℕ) × IsPatternLine pattern line × (after.written ≡ written_with line before.written)
 EndsShow pattern before after (PatternRefused refusal) = IsRefusedPattern pattern refusal × AreUntouched before after
-EndsShow pattern before after WriteFault = (line : List ℕ) × IsLineOf pattern line × WritesPrefix line before.written after.written
+EndsShow pattern before after WriteFault = (line : List ℕ) × IsPatternLine pattern line × WritesPrefix line before.written after.written
 EndsShow pattern before after NoMemory = AreUntouched before after
 
 abbrev pub show_status : ShowEnding → ℕ

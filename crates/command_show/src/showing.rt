@@ -4,7 +4,8 @@ ghost use Rattle.flow_edges.specs.Flow.{WritesWhole};
 ghost use Rattle.pattern_reader.specs.declared.pattern_refusal.PatternRefusal.TheVariants as PatternRefusal;
 ghost use Rattle.flow_edges.specs.Streams.{streams};
 ghost use Rattle.command_reasons.specs.Reasons.{IsRefusedPattern};
-ghost use Rattle.command_show.specs.ShowEndings.{IsLineOf, IsLineOfPattern, EndsShow, show_status};
+ghost use Rattle.command_show.specs.ShowEndings.{IsPatternLine, IsLineOfPattern, EndsShow};
+ghost use Rattle.command_show.specs.ShowEndings.{show_status};
 
 use command_reasons::{write_no_memory, write_pattern_reason, write_write_fault};
 use flow_edges::{Sink, write_whole};
@@ -78,7 +79,7 @@ pub fn show<O: Sink>(alloc: Global, pattern: &str, output: &mut O) -> ShowEnding
 
 /// The canonical text of a pattern and a line feed.
 fn canonical_line(alloc: Global, pattern: &str) -> Result<Text, PatternRefusal>
-    ensures ok { IfOk result (IsLineOf pattern.now) }
+    ensures ok { IfOk result (IsPatternLine pattern.now) }
     ensures err { IfErr result (λ refusal. refusal ≢ PatternRefusal.NoMemory
         → IsRefusedPattern pattern.now refusal) }
 {

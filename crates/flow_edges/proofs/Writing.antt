@@ -4,7 +4,7 @@ use Rattle.std.proofs.lemmas.List.{append-nil, take-append-drop, take-append-le}
 use Rattle.std.proofs.lemmas.Grind.{flat_map-append}
 use Rattle.std.proofs.Math.Seq.{take-append_seam, take-length, take-append-add, take-suc}
 use Rattle.std.specs.Prelude.{Result, Ok, Err, IsErr, OnErr}
-use Rattle.flow_edges.specs.Flow.{written_with, WritesPrefix, WritesPart, WritesWhole, joined}
+use Rattle.flow_edges.specs.Flow.{written_with, WritesPrefix, WritesPart, WritesWhole, joined_slices}
 
 pub written_with-written_with : (a b : List ℕ) (w : Option (List ℕ)) → written_with b (written_with a w) ≡ written_with (a ++ b) w
 written_with-written_with a b None = refl
@@ -48,36 +48,36 @@ part_way-part all rest before now later some way same = (
 
 -- ---- several pieces
 
-pub joined-step : (pieces : List (Bor (List ℕ))) (i : ℕ) (d : Bor (List ℕ)) → i < length pieces → joined (take (i + 1) pieces) ≡ joined (take i pieces) ++ (get_or pieces i d).now
+pub joined-step : (pieces : List (Bor (List ℕ))) (i : ℕ) (d : Bor (List ℕ)) → i < length pieces → joined_slices (take (i + 1) pieces) ≡ joined_slices (take i pieces) ++ (get_or pieces i d).now
 joined-step pieces i d within =
-    ap (λ k. joined (take k pieces)) (add-one i) ∙ ap joined (take-suc pieces i d within)
+    ap (λ k. joined_slices (take k pieces)) (add-one i) ∙ ap joined_slices (take-suc pieces i d within)
     ∙ flat_map-append (λ (p : Bor (List ℕ)). p.now) (take i pieces) (get_or pieces i d ∷ [])
-    ∙ ap (λ last. joined (take i pieces) ++ last) (append-nil (get_or pieces i d).now)
+    ∙ ap (λ last. joined_slices (take i pieces) ++ last) (append-nil (get_or pieces i d).now)
 
-pub joined-split : (pieces : List (Bor (List ℕ))) (i : ℕ) → joined pieces ≡ joined (take i pieces) ++ joined (drop i pieces)
-joined-split pieces i = ap joined (sym (take-append-drop i pieces)) ∙ flat_map-append (λ (p : Bor (List ℕ)). p.now) (take i pieces) (drop i pieces)
+pub joined-split : (pieces : List (Bor (List ℕ))) (i : ℕ) → joined_slices pieces ≡ joined_slices (take i pieces) ++ joined_slices (drop i pieces)
+joined-split pieces i = ap joined_slices (sym (take-append-drop i pieces)) ∙ flat_map-append (λ (p : Bor (List ℕ)). p.now) (take i pieces) (drop i pieces)
 
 -- the first bytes of a piece after the pieces before it are the first bytes of all
 pub first-joined : (pieces : List (Bor (List ℕ))) (i : ℕ) (d : Bor (List ℕ)) (before mid now : Option (List ℕ)) (n : ℕ) → i < length pieces
-    → mid ≡ written_with (joined (take i pieces)) before → n ≤ length (get_or pieces i d).now → now ≡ written_with (take n (get_or pieces i d).now) mid
-    → now ≡ written_with (take (length (joined (take i pieces)) + n) (joined pieces)) before
+    → mid ≡ written_with (joined_slices (take i pieces)) before → n ≤ length (get_or pieces i d).now → now ≡ written_with (take n (get_or pieces i d).now) mid
+    → now ≡ written_with (take (length (joined_slices (take i pieces)) + n) (joined_slices pieces)) before
 first-joined pieces i d before mid now n within done short more =
     let piece = (get_or pieces i d).now in
-    let front = joined (take i pieces) in
-    let back = joined (drop (i + 1) pieces) in
-    let split : joined pieces ≡ front ++ (piece ++ back) =
+    let front = joined_slices (take i pieces) in
+    let back = joined_slices (drop (i + 1) pieces) in
+    let split : joined_slices pieces ≡ front ++ (piece ++ back) =
     joined-split pieces (i + 1) ∙ ap (λ some. some ++ back) (joined-step pieces i d within) ∙ append_assoc front piece back in
-    let cut : take (length front + n) (joined pieces) ≡ front ++ take n piece =
+    let cut : take (length front + n) (joined_slices pieces) ≡ front ++ take n piece =
     ap (take (length front + n)) split ∙ take-append-add front (piece ++ back) n ∙ ap (λ some. front ++ some) (take-append-le n piece back short) in
     more ∙ ap (λ w. written_with (take n piece) w) done ∙ written_with-written_with front (take n piece) before ∙ ap (λ some. written_with some before) (sym cut)
 
 -- the pieces together are as long as the parts of them
 pub length-joined : (pieces : List (Bor (List ℕ))) (i : ℕ) (d : Bor (List ℕ)) → i < length pieces
-    → length (joined pieces) ≡ length (joined (take i pieces)) + (length (get_or pieces i d).now + length (joined (drop (i + 1) pieces)))
+    → length (joined_slices pieces) ≡ length (joined_slices (take i pieces)) + (length (get_or pieces i d).now + length (joined_slices (drop (i + 1) pieces)))
 length-joined pieces i d within =
     let piece = (get_or pieces i d).now in
-    let front = joined (take i pieces) in
-    let back = joined (drop (i + 1) pieces) in
+    let front = joined_slices (take i pieces) in
+    let back = joined_slices (drop (i + 1) pieces) in
     omega (
       arith,
       ap length (joined-split pieces (i + 1) ∙ ap (λ some. some ++ back) (joined-step pieces i d within) ∙ append_assoc front piece back),
@@ -87,18 +87,18 @@ length-joined pieces i d within =
 
 -- a prefix of a piece after the pieces before it is a prefix of all
 pub prefix-joined : (pieces : List (Bor (List ℕ))) (i : ℕ) (d : Bor (List ℕ)) (before mid now : Option (List ℕ)) → i < length pieces
-    → mid ≡ written_with (joined (take i pieces)) before → WritesPrefix (get_or pieces i d).now mid now → WritesPrefix (joined pieces) before now
+    → mid ≡ written_with (joined_slices (take i pieces)) before → WritesPrefix (get_or pieces i d).now mid now → WritesPrefix (joined_slices pieces) before now
 prefix-joined pieces i d before mid now within done prefix = (
-  length (joined (take i pieces)) + prefix.0,
+  length (joined_slices (take i pieces)) + prefix.0,
   omega (arith, length-joined pieces i d within, prefix.1),
   first-joined pieces i d before mid now prefix.0 within done prefix.1 prefix.2,
 )
 
 -- less than a piece after the pieces before it is less than all
 pub part-joined : (pieces : List (Bor (List ℕ))) (i : ℕ) (d : Bor (List ℕ)) (before mid now : Option (List ℕ)) → i < length pieces
-    → mid ≡ written_with (joined (take i pieces)) before → WritesPart (get_or pieces i d).now mid now → WritesPart (joined pieces) before now
+    → mid ≡ written_with (joined_slices (take i pieces)) before → WritesPart (get_or pieces i d).now mid now → WritesPart (joined_slices pieces) before now
 part-joined pieces i d before mid now within done part = (
-  length (joined (take i pieces)) + part.0,
+  length (joined_slices (take i pieces)) + part.0,
   omega (arith, length-joined pieces i d within, part.1),
   first-joined pieces i d before mid now part.0 within done (omega (arith, part.1)) part.2,
 )

@@ -57,5 +57,5 @@ abbrev pub WritesWhole : {T E : Type 0} → List ℕ → Option (List ℕ) → O
 WritesWhole bytes before now answer = MatchResult answer (λ _. now ≡ written_with bytes before) (λ _. WritesPrefix bytes before now)
 
 -- the concatenation of the slices
-abbrev pub joined : List (Bor (List ℕ)) → List ℕ
-joined pieces = flat_map (λ piece. piece.now) pieces
+abbrev pub joined_slices : List (Bor (List ℕ)) → List ℕ
+joined_slices pieces = flat_map (λ piece. piece.now) pieces

@@ -4,7 +4,7 @@ use Rattle.std.proofs.lemmas.List.{append-nil}
 use Rattle.std.proofs.lemmas.List.Elements.{All-append, All-cons, All-nil}
 use Rattle.std.proofs.lemmas.Grind.{flat_map-append}
 use Rattle.flow_edges.specs.Flow.{IsAtEnd}
-use Rattle.flow_lines.specs.Lines.{RawLine, NoLineFeed, lines_text, LinesState, width, NothingRemaining, AccountsFor, ContinuesAccounting, LosesNone, lines_remaining, IsOfLine, StopsInLine}
+use Rattle.flow_lines.specs.Lines.{RawLine, NoLineFeed, lines_text, LinesState, line_width, NothingRemaining, AccountsFor, ContinuesAccounting, LosesNone, lines_remaining, IsOfLine, StopsInLine}
 use Rattle.flow_lines.specs.declared.refusal.LineRefusal.{LineRefusal}
 use Rattle.flow_lines.specs.declared.line.Line.{Line}
 use Rattle.flow_lines.specs.declared.refusal.LineRefusal.TheVariants.{Fault, LineTooLong, InputTooLong, NoMemory}
@@ -75,7 +75,7 @@ continues before later last left left_later left_last first next start all from 
 -- a line went by
 pub accounts-read : (number offset wide count given : ℕ) (read_buffer line read_buffer_new : List ℕ) (left left_new : Option (List ℕ)) (terminated : Bool)
     → MatchBool terminated (ReadsToLineFeed number offset (bytes_remaining [] read_buffer left) left_new line read_buffer_new) (ReadsLast number offset (bytes_remaining [] read_buffer left) left_new line read_buffer_new)
-    → wide ≡ width (record { bytes = line; terminated = terminated })
+    → wide ≡ line_width (record { bytes = line; terminated = terminated })
     → AccountsFor (lines_state [] read_buffer count given) (lines_state [] read_buffer_new (count + 1) (given + wide)) left left_new
 accounts-read number offset wide count given read_buffer line read_buffer_new left left_new true reads is =
     let text : lines_text (record { bytes = line; terminated = true } ∷ []) ≡ line ++ 10 ∷ [] = append-nil (line ++ 10 ∷ []) in
@@ -102,7 +102,7 @@ accounts-read number offset wide count given read_buffer line read_buffer_new le
 -- no line was left
 pub accounts-none : (number offset wide count given : ℕ) (read_buffer line read_buffer_new : List ℕ) (left left_new : Option (List ℕ)) (terminated : Bool)
     → MatchBool terminated (ReadsToLineFeed number offset (bytes_remaining [] read_buffer left) left_new line read_buffer_new) (ReadsLast number offset (bytes_remaining [] read_buffer left) left_new line read_buffer_new)
-    → wide ≡ width (record { bytes = line; terminated = terminated }) → wide ≡ 0
+    → wide ≡ line_width (record { bytes = line; terminated = terminated }) → wide ≡ 0
     → AccountsFor (lines_state [] read_buffer count given) (lines_state [] read_buffer_new count given) left left_new
 accounts-none number offset wide count given read_buffer line read_buffer_new left left_new true reads is none = absurd (omega (arith, is, none))
 accounts-none number offset wide count given read_buffer (byte ∷ line) read_buffer_new left left_new false reads is none = absurd (omega (arith, is, none))

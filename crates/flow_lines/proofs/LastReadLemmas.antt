@@ -2,8 +2,8 @@
 use Rattle.std.proofs.Common.{◌≡◌, ◌⊎◌, inl, inr, ℕ, ◌+◌, ◌<◌, Bool, true, false, List, [], ◌∷◌, ◌++◌, Option, Some, None, IfSome, refl, sym, ap, subst, ◌∙◌, arith, ◌||◌, not}
 use Rattle.std.specs.List.{list_any}
 use Rattle.std.proofs.lemmas.List.Elements.{All-head, All-tail, All-cons, All-nil}
-use Rattle.flow_lines.specs.Lines.{is_line_feed, IsNoLineFeed, NoLineFeed, LinesState, raw_lines, content, is_blank, is_whole, HoldsLine, AccountsFor, LacksLine}
-use Rattle.flow_lines.specs.inner.Reading.{bytes_remaining, TakesToLineFeed, IsWithinLine, IsBuffered, lines_state}
+use Rattle.flow_lines.specs.Lines.{is_line_feed, IsNoLineFeed, NoLineFeed, LinesState, raw_lines, content, is_blank_text, is_whole, HoldsLine, AccountsFor, LacksLine}
+use Rattle.flow_lines.specs.inner.Reading.{bytes_remaining, TakesToLineFeed, IsWithinLine, IsBufferedLine, lines_state}
 use Rattle.flow_lines.proofs.RawLinesLemmas.{raw_lines-fed}
 use Rattle.flow_lines.proofs.AccountsForLemmas.{accounts-then, accounts-part-of}
 
@@ -68,7 +68,7 @@ lacks_from before middle number left left_middle began accounts told = each_told
 }) told
 
 -- of a read buffer that held a line, what is whole after that line was whole in the read buffer
-pub holds_behind : (line read_buffer read_buffer_new : List ℕ) (terminated : Bool) → NoLineFeed line → IsBuffered read_buffer read_buffer_new line terminated → HoldsLine read_buffer_new → HoldsLine read_buffer
+pub holds_behind : (line read_buffer read_buffer_new : List ℕ) (terminated : Bool) → NoLineFeed line → IsBufferedLine read_buffer read_buffer_new line terminated → HoldsLine read_buffer_new → HoldsLine read_buffer
 holds_behind line read_buffer read_buffer_new terminated plain held holds =
     ap (λ all. list_any is_whole (raw_lines all)) held.cut ∙ ap (list_any is_whole) (raw_lines-fed line read_buffer_new plain)
     ∙ or_true (is_whole (record { bytes = line; terminated = true })) (list_any is_whole (raw_lines read_buffer_new)) holds
@@ -78,11 +78,11 @@ holds_behind line read_buffer read_buffer_new terminated plain held holds =
     or_true false b is = is
 
 -- and the line itself, where it isn't blank
-pub holds_this : (line read_buffer read_buffer_new bytes : List ℕ) (terminated : Bool) → NoLineFeed line → IsBuffered read_buffer read_buffer_new line terminated
-    → bytes ≡ content (record { bytes = line; terminated = terminated }) → is_blank bytes ≡ false → HoldsLine read_buffer
+pub holds_this : (line read_buffer read_buffer_new bytes : List ℕ) (terminated : Bool) → NoLineFeed line → IsBufferedLine read_buffer read_buffer_new line terminated
+    → bytes ≡ content (record { bytes = line; terminated = terminated }) → is_blank_text bytes ≡ false → HoldsLine read_buffer
 holds_this line read_buffer read_buffer_new bytes terminated plain held same full =
-    let whole : not (is_blank (content (record { bytes = line; terminated = true }))) ≡ true =
-    ap not (ap (λ terminated. is_blank (content (record { bytes = line; terminated = terminated }))) (sym held.whole) ∙ ap is_blank (sym same) ∙ full) in
+    let whole : not (is_blank_text (content (record { bytes = line; terminated = true }))) ≡ true =
+    ap not (ap (λ terminated. is_blank_text (content (record { bytes = line; terminated = terminated }))) (sym held.whole) ∙ ap is_blank_text (sym same) ∙ full) in
     ap (λ all. list_any is_whole (raw_lines all)) held.cut ∙ ap (list_any is_whole) (raw_lines-fed line read_buffer_new plain)
     ∙ ap (λ here. here || list_any is_whole (raw_lines read_buffer_new)) whole
 
@@ -97,7 +97,7 @@ module _ {S : Type 0} (began : S → Option (List ℕ)) (first source next : S) 
     (count count_new given : ℕ) (left left_now : Option (List ℕ)) (so_far : IsInTime began first source held read_buffer start count left)
     (accounts : AccountsFor start (lines_state line read_buffer count given) left left_now)
     (read : NoLineFeed read_buffer → IfSome (began next) (LacksLine (lines_state line read_buffer count given) (count + 1) left_now))
-    (there : ¬ (NoLineFeed read_buffer) → (next ≡ source) × (HoldsLine read_buffer_new → HoldsLine read_buffer) × (is_blank bytes ≡ false → HoldsLine read_buffer))
+    (there : ¬ (NoLineFeed read_buffer) → (next ≡ source) × (HoldsLine read_buffer_new → HoldsLine read_buffer) × (is_blank_text bytes ≡ false → HoldsLine read_buffer))
     (counts : count_new ≡ count + 1) where
   by_read : NoLineFeed read_buffer → IfSome (began next) (LacksLine start count_new left)
   by_read plain = lacks_from start (lines_state line read_buffer count given) count_new left left_now (began next) accounts
@@ -117,7 +117,7 @@ module _ {S : Type 0} (began : S → Option (List ℕ)) (first source next : S) 
       go (inr feed) (inr lacks) = inr (by_earlier (there feed).0 lacks)
 
   -- where a line is given
-  pub given_in_time : is_blank bytes ≡ false → ¬ (HoldsLine held) → IfSome (began next) (LacksLine start count_new left)
+  pub given_in_time : is_blank_text bytes ≡ false → ¬ (HoldsLine held) → IfSome (began next) (LacksLine start count_new left)
   given_in_time full unheld = go (feed_or_none read_buffer) so_far
     where
       go : (NoLineFeed read_buffer ⊎ ¬ (NoLineFeed read_buffer)) → IsInTime began first source held read_buffer start count left → IfSome (began next) (LacksLine start count_new left)

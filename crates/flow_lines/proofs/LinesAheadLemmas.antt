@@ -7,7 +7,7 @@ use Rattle.flow_lines.specs.declared.refusal.TheConstants.{MAX_INPUT}
 use Rattle.flow_lines.specs.declared.refusal.LineRefusal.{LineRefusal}
 use Rattle.flow_lines.specs.declared.refusal.LineRefusal.TheVariants.{Fault, LineTooLong, InputTooLong, NoMemory}
 use Rattle.flow_edges.specs.Flow.{IsAtEnd}
-use Rattle.flow_lines.specs.Lines.{RawLine, raw_lines, length_refusal, refusal_of, width, content, LineStream, ended, refused, unless_refused, unless_blank, lines_from, lines_remaining, GivesEnd, RefusesLine, KeepsLines, NoLineFeed}
+use Rattle.flow_lines.specs.Lines.{RawLine, raw_lines, length_refusal, raw_line_refusal, line_width, content, LineStream, ended, refused, unless_refused, unless_blank, lines_from, lines_remaining, GivesEnd, RefusesLine, KeepsLines, NoLineFeed}
 use Rattle.flow_lines.specs.inner.Reading.{bytes_remaining, ReadsToLineFeed, ReadsLast, ReadsPart, IsFirstRefused, ReadsNext, IsBetweenLines, BreaksOffLine, lines_state}
 use Rattle.flow_lines.proofs.RawLinesLemmas.{raw_lines-fed, raw_lines-last}
 
@@ -28,11 +28,11 @@ lines_remaining-bytes line read_buffer count given None = refl
 lines_remaining-bytes line read_buffer count given (Some bytes) = ap (λ all. Some (lines_from (count + 1) given (raw_lines all))) (append_assoc line read_buffer bytes)
 
 -- a line that isn't refused is given, unless it is blank
-pub lines_from-fits : (number offset : ℕ) (l : RawLine) (ls : List RawLine) → refusal_of number offset l ≡ None → lines_from number offset (l ∷ ls) ≡ unless_blank number (content l) (lines_from (number + 1) (offset + width l) ls)
-lines_from-fits number offset l ls fits = ap (λ refusal. unless_refused refusal (unless_blank number (content l) (lines_from (number + 1) (offset + width l) ls))) fits
+pub lines_from-fits : (number offset : ℕ) (l : RawLine) (ls : List RawLine) → raw_line_refusal number offset l ≡ None → lines_from number offset (l ∷ ls) ≡ unless_blank number (content l) (lines_from (number + 1) (offset + line_width l) ls)
+lines_from-fits number offset l ls fits = ap (λ refusal. unless_refused refusal (unless_blank number (content l) (lines_from (number + 1) (offset + line_width l) ls))) fits
 
-pub lines_from-refused : (number offset : ℕ) (l : RawLine) (ls : List RawLine) (refusal : LineRefusal) → refusal_of number offset l ≡ Some refusal → lines_from number offset (l ∷ ls) ≡ refused refusal
-lines_from-refused number offset l ls refusal is = ap (λ refusal. unless_refused refusal (unless_blank number (content l) (lines_from (number + 1) (offset + width l) ls))) is
+pub lines_from-refused : (number offset : ℕ) (l : RawLine) (ls : List RawLine) (refusal : LineRefusal) → raw_line_refusal number offset l ≡ Some refusal → lines_from number offset (l ∷ ls) ≡ refused refusal
+lines_from-refused number offset l ls refusal is = ap (λ refusal. unless_refused refusal (unless_blank number (content l) (lines_from (number + 1) (offset + line_width l) ls))) is
 
 -- a whole line was read
 pub ahead-fed : (read_buffer line_new read_buffer_new : List ℕ) (count given : ℕ) (left left_new : Option (List ℕ))
@@ -93,7 +93,7 @@ pub ahead-read : (read_buffer line_new read_buffer_new : List ℕ) (count given 
     → MatchBool terminated (ReadsToLineFeed (count + 1) given (bytes_remaining [] read_buffer left) left_new line_new read_buffer_new) (ReadsLast (count + 1) given (bytes_remaining [] read_buffer left) left_new line_new read_buffer_new)
     → (terminated ≡ false → 0 < length line_new)
     → lines_remaining (lines_state [] read_buffer count given) left
-    ≡ option_map (λ later. unless_blank (count + 1) (content (record { bytes = line_new; terminated = terminated })) later) (lines_remaining (lines_state [] read_buffer_new (count + 1) (given + width (record { bytes = line_new; terminated = terminated }))) left_new)
+    ≡ option_map (λ later. unless_blank (count + 1) (content (record { bytes = line_new; terminated = terminated })) later) (lines_remaining (lines_state [] read_buffer_new (count + 1) (given + line_width (record { bytes = line_new; terminated = terminated }))) left_new)
 ahead-read read_buffer line_new read_buffer_new count given left left_new true reads some = ahead-fed read_buffer line_new read_buffer_new count given left left_new reads
 ahead-read read_buffer line_new read_buffer_new count given left left_new false reads some =
     let none = reads.drained in
@@ -103,13 +103,13 @@ ahead-read read_buffer line_new read_buffer_new count given left left_new false 
 -- the next line was read
 pub ahead-next : (read_buffer line_new read_buffer_new bytes : List ℕ) (count given given_new : ℕ) (left left_new : Option (List ℕ)) (terminated : Bool)
     → MatchBool terminated (ReadsToLineFeed (count + 1) given (bytes_remaining [] read_buffer left) left_new line_new read_buffer_new) (ReadsLast (count + 1) given (bytes_remaining [] read_buffer left) left_new line_new read_buffer_new)
-    → 0 < width (record { bytes = line_new; terminated = terminated })
+    → 0 < line_width (record { bytes = line_new; terminated = terminated })
     → bytes ≡ content (record { bytes = line_new; terminated = terminated })
-    → given_new ≡ given + width (record { bytes = line_new; terminated = terminated })
+    → given_new ≡ given + line_width (record { bytes = line_new; terminated = terminated })
     → lines_remaining (lines_state [] read_buffer count given) left ≡ option_map (λ later. unless_blank (count + 1) bytes later) (lines_remaining (lines_state [] read_buffer_new (count + 1) given_new) left_new)
 ahead-next read_buffer line_new read_buffer_new bytes count given given_new left left_new terminated reads some is taken =
     ahead-read read_buffer line_new read_buffer_new count given left left_new terminated reads (λ unclosed. omega (arith, subst (λ c. 0 < length line_new + (if c then 1 else 0)) unclosed some))
-    ∙ ap (λ bytes. option_map (λ later. unless_blank (count + 1) bytes later) (lines_remaining (lines_state [] read_buffer_new (count + 1) (given + width (record { bytes = line_new; terminated = terminated }))) left_new)) (sym is)
+    ∙ ap (λ bytes. option_map (λ later. unless_blank (count + 1) bytes later) (lines_remaining (lines_state [] read_buffer_new (count + 1) (given + line_width (record { bytes = line_new; terminated = terminated }))) left_new)) (sym is)
     ∙ ap (λ given_new. option_map (λ later. unless_blank (count + 1) bytes later) (lines_remaining (lines_state [] read_buffer_new (count + 1) given_new) left_new)) (sym taken)
 
 -- a line that isn't refused lies within the input's limit
@@ -118,13 +118,13 @@ refusal_of-fits number offset size terminated fits = grind (arith, nat_tests)
 
 pub fits-read : (number offset : ℕ) (all left : Option (List ℕ)) (line read_buffer : List ℕ) (terminated : Bool)
     → MatchBool terminated (ReadsToLineFeed number offset all left line read_buffer) (ReadsLast number offset all left line read_buffer)
-    → offset + width (record { bytes = line; terminated = terminated }) ≤ MAX_INPUT
+    → offset + line_width (record { bytes = line; terminated = terminated }) ≤ MAX_INPUT
 fits-read number offset all left line read_buffer true reads = omega (arith, refusal_of-fits number offset (length line) true reads.fits)
 fits-read number offset all left line read_buffer false reads = omega (arith, refusal_of-fits number offset (length line) false reads.fits)
 
 pub reads-next : (read_buffer line_new read_buffer_new bytes : List ℕ) (count given wide : ℕ) (left left_new : Option (List ℕ)) (terminated : Bool)
     → MatchBool terminated (ReadsToLineFeed (count + 1) given (bytes_remaining [] read_buffer left) left_new line_new read_buffer_new) (ReadsLast (count + 1) given (bytes_remaining [] read_buffer left) left_new line_new read_buffer_new)
-    → wide ≡ width (record { bytes = line_new; terminated = terminated }) → ¬ (wide ≡ 0)
+    → wide ≡ line_width (record { bytes = line_new; terminated = terminated }) → ¬ (wide ≡ 0)
     → bytes ≡ content (record { bytes = line_new; terminated = terminated })
     → length read_buffer_new ≤ MAX_READ → count ≤ given
     → ReadsNext read_buffer read_buffer_new count (count + 1) given (given + wide) bytes left left_new
@@ -139,7 +139,7 @@ reads-next read_buffer line_new read_buffer_new bytes count given wide left left
 -- no line was left, and the reader stands between lines still
 pub ends-read : (read_buffer line read_buffer_new : List ℕ) (count given wide : ℕ) (left left_new : Option (List ℕ)) (terminated : Bool)
     → MatchBool terminated (ReadsToLineFeed (count + 1) given (bytes_remaining [] read_buffer left) left_new line read_buffer_new) (ReadsLast (count + 1) given (bytes_remaining [] read_buffer left) left_new line read_buffer_new)
-    → wide ≡ width (record { bytes = line; terminated = terminated }) → wide ≡ 0 → count ≤ given → given ≤ MAX_INPUT
+    → wide ≡ line_width (record { bytes = line; terminated = terminated }) → wide ≡ 0 → count ≤ given → given ≤ MAX_INPUT
     → GivesEnd (lines_state [] read_buffer count given) (lines_state line read_buffer_new count given) left left_new × IsBetweenLines line read_buffer_new count given
 ends-read read_buffer line read_buffer_new count given wide left left_new true reads is none numbered within = absurd (omega (arith, is, none))
 ends-read read_buffer (byte ∷ line) read_buffer_new count given wide left left_new false reads is none numbered within = absurd (omega (arith, is, none))

@@ -3,7 +3,7 @@ use Rattle.std.proofs.Common.{◌≡◌, ◌⊎◌, inl, inr, ℕ, Bool, true, f
 use Rattle.flow_edges.specs.Flow.{left_after, IsAtEnd}
 use Rattle.flow_lines.specs.declared.refusal.LineRefusal.{LineRefusal}
 use Rattle.flow_lines.specs.Lines.{NoLineFeed, length_refusal}
-use Rattle.flow_lines.specs.inner.Reading.{bytes_remaining, TakesToLineFeed, TakesAll, ReadsToLineFeed, ReadsLast, IsBuffered}
+use Rattle.flow_lines.specs.inner.Reading.{bytes_remaining, TakesToLineFeed, TakesAll, ReadsToLineFeed, ReadsLast, IsBufferedLine}
 use Rattle.flow_lines.proofs.RawLinesLemmas.{bytes_remaining-fed, bytes_remaining-all, plain-to_feed, plain-all}
 use Rattle.flow_lines.proofs.LastReadLemmas.{feed_stands}
 
@@ -54,7 +54,7 @@ reads-last number offset all left left_new line_old line read_buffer_old read_bu
     empty (byte ∷ bytes) none = absurd (cc none)
 
 -- the read buffer held the line
-pub is-held : (first read_buffer read_buffer_new line line_new : List ℕ) → read_buffer ≡ first → line ≡ [] → TakesToLineFeed read_buffer read_buffer_new line line_new → IsBuffered first read_buffer_new line_new true
+pub is-held : (first read_buffer read_buffer_new line line_new : List ℕ) → read_buffer ≡ first → line ≡ [] → TakesToLineFeed read_buffer read_buffer_new line line_new → IsBufferedLine first read_buffer_new line_new true
 is-held first read_buffer read_buffer_new line line_new same empty takes = record {
   whole = refl;
   cut = sym same ∙ takes.read_buffer ∙ ap (λ taken. taken ++ 10 ∷ read_buffer_new) (sym (takes.line ∙ ap (λ line. line ++ takes.taken) empty));

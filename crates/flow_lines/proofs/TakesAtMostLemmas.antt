@@ -3,9 +3,9 @@ use Rattle.std.proofs.Common.{◌≡◌, ℕ, ◌+◌, ◌<◌, ◌≤◌, List,
 use Rattle.std.proofs.lemmas.List.{drop-drop}
 use Rattle.std.proofs.Math.Seq.{drop-append_seam}
 use Rattle.flow_edges.specs.Flow.{left_after, IsNextOf, IsAtEnd, TakesAtMost}
-use Rattle.flow_lines.specs.inner.TakenInput.{before, HasTaken}
+use Rattle.flow_lines.specs.inner.TakenInput.{before, HasTakenBytes}
 use Rattle.flow_lines.specs.inner.Reading.{Fills}
-use Rattle.flow_lines.specs.WholeInput.{IsWhole, IsTooLong}
+use Rattle.flow_lines.specs.WholeInput.{IsWholeInput, IsTooLong}
 use Rattle.flow_lines.specs.declared.whole_input.TheConstants.{MAX_WHOLE_INPUT}
 use Rattle.flow_lines.proofs.RawLinesLemmas.{bytes_remaining-filled, bytes_remaining-taken}
 
@@ -37,8 +37,8 @@ before-filled bytes more left after next rest = bytes_remaining-filled bytes mor
 
 -- a turn took some bytes more
 pub taken-more : (turns count : ℕ) (held bytes read_buffer : List ℕ) (start left left_new : Option (List ℕ)) (faults faults_now faults_new : ℕ)
-    → HasTaken turns held start left faults faults_now → bytes ≡ held → Fills count read_buffer left left_new → ¬ (count ≡ 0) → length bytes + count ≤ MAX_WHOLE_INPUT → faults_new ≡ faults_now
-    → HasTaken (turns + 1) (bytes ++ read_buffer) start left_new faults faults_new
+    → HasTakenBytes turns held start left faults faults_now → bytes ≡ held → Fills count read_buffer left left_new → ¬ (count ≡ 0) → length bytes + count ≤ MAX_WHOLE_INPUT → faults_new ≡ faults_now
+    → HasTakenBytes (turns + 1) (bytes ++ read_buffer) start left_new faults faults_new
 taken-more turns count held bytes read_buffer start left left_new faults faults_now faults_new taken same fills some fits quiet =
     let size = ap length same in record {
       took = omega (arith, taken.took, size, fills.count_is, length-append bytes read_buffer);
@@ -49,7 +49,7 @@ taken-more turns count held bytes read_buffer start left left_new faults faults_
 
 -- nothing more came
 pub is-whole : (turns : ℕ) (held bytes result : List ℕ) (start left left_new : Option (List ℕ)) (faults faults_now : ℕ)
-    → HasTaken turns held start left faults faults_now → bytes ≡ held → result ≡ bytes → IsAtEnd left → left_new ≡ left_after 0 left → IsWhole result start left_new
+    → HasTakenBytes turns held start left faults faults_now → bytes ≡ held → result ≡ bytes → IsAtEnd left → left_new ≡ left_after 0 left → IsWholeInput result start left_new
 is-whole turns held bytes result start left left_new faults faults_now taken same given end rest = record {
   fits = omega (arith, taken.fits, ap length (given ∙ same));
   all = subst (λ start. IfSome start (λ there. there ≡ result)) (sym taken.all) (all left end);
@@ -66,7 +66,7 @@ is-whole turns held bytes result start left left_new faults faults_now taken sam
 
 -- more came than may be
 pub is-too-long : (turns count : ℕ) (held bytes read_buffer : List ℕ) (start left left_new : Option (List ℕ)) (faults faults_now : ℕ)
-    → HasTaken turns held start left faults faults_now → bytes ≡ held → Fills count read_buffer left left_new → MAX_WHOLE_INPUT < length bytes + count → IsTooLong start
+    → HasTakenBytes turns held start left faults faults_now → bytes ≡ held → Fills count read_buffer left left_new → MAX_WHOLE_INPUT < length bytes + count → IsTooLong start
 is-too-long turns count held bytes read_buffer start left left_new faults faults_now taken same fills many =
     subst IsTooLong (sym (taken.all ∙ ap (λ held. before held left) (sym same) ∙ before-filled bytes read_buffer left left_new fills.given (rw fills.count_is at fills.rest))) (long left_new)
   where

@@ -43,8 +43,8 @@ abbrev pub AreWholeLines : List ℕ → Type 0
 AreWholeLines bytes = (bytes ≡ []) ⊎ ((front : List ℕ) × (bytes ≡ front ++ 10 ∷ []))
 
 -- how many bytes a line takes in the input
-abbrev pub width : RawLine → ℕ
-width line = length line.bytes + (if line.terminated then 1 else 0)
+abbrev pub line_width : RawLine → ℕ
+line_width line = length line.bytes + (if line.terminated then 1 else 0)
 
 -- the bytes of some lines, each with its line feed, if it has one
 abbrev pub lines_text : List RawLine → List ℕ
@@ -59,8 +59,8 @@ abbrev pub is_blank_byte : ℕ → Bool
 is_blank_byte byte = byte == 32 || byte == 9 || byte == 13
 
 -- only spaces, tabs and carriage returns
-abbrev pub is_blank : List ℕ → Bool
-is_blank bytes = list_all is_blank_byte bytes
+abbrev pub is_blank_text : List ℕ → Bool
+is_blank_text bytes = list_all is_blank_byte bytes
 
 -- The refusal of a line with `size` bytes before its line feed that begins at `offset` in the
 -- input: the line is too long, or the input is too long with it. The limit that is exceeded first
@@ -72,8 +72,8 @@ length_refusal number offset size terminated =
     else None
 
 -- the refusal of a line, if any
-abbrev pub refusal_of : ℕ → ℕ → RawLine → Option LineRefusal
-refusal_of number offset line = length_refusal number offset (length line.bytes) line.terminated
+abbrev pub raw_line_refusal : ℕ → ℕ → RawLine → Option LineRefusal
+raw_line_refusal number offset line = length_refusal number offset (length line.bytes) line.terminated
 
 -- the lines of an input in order, each with its number, up to the end or the first refusal
 pub data LineStream : Type 0 where
@@ -88,13 +88,13 @@ unless_refused (Some refusal) lines = refused refusal
 
 -- a blank line is skipped, and keeps its number
 abbrev pub unless_blank : ℕ → List ℕ → LineStream → LineStream
-unless_blank number bytes later = if is_blank bytes then later else line_then number bytes later
+unless_blank number bytes later = if is_blank_text bytes then later else line_then number bytes later
 
 -- the line stream of these lines: the number of the first, and its offset in the input
 abbrev pub lines_from : ℕ → ℕ → List RawLine → LineStream
 lines_from number offset [] = ended
 lines_from number offset (l ∷ ls) =
-    unless_refused (refusal_of number offset l) (unless_blank number (content l) (lines_from (number + 1) (offset + width l) ls))
+    unless_refused (raw_line_refusal number offset l) (unless_blank number (content l) (lines_from (number + 1) (offset + line_width l) ls))
 
 -- the lines of an input
 abbrev pub lines_of : List ℕ → LineStream
@@ -118,7 +118,7 @@ lines_remaining state left = option_map (λ bytes. lines_from (state.count + 1) 
 
 -- a line that is complete, and isn't blank
 abbrev pub is_whole : RawLine → Bool
-is_whole line = line.terminated && not (is_blank (content line))
+is_whole line = line.terminated && not (is_blank_text (content line))
 
 -- there is such a line among these bytes
 abbrev pub HoldsLine : List ℕ → Type 0

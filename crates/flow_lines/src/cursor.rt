@@ -2,7 +2,7 @@ ghost use Rattle.std.specs.Prelude.{◌≡◌, ◌≢◌, ℕ, ◌≤◌, ◌+�
 ghost use Rattle.std.specs.Prelude.{IfErr, IfSome, OnOk, MatchBool};
 ghost use Rattle.flow_edges.specs.Faults.{Counted};
 ghost use Rattle.flow_lines.specs.Lines.{AnswersLine, HoldsLine, LosesNone, StopsInLine, LacksLine};
-ghost use Rattle.flow_lines.specs.Lines.{NoLineFeed, is_blank};
+ghost use Rattle.flow_lines.specs.Lines.{NoLineFeed, is_blank_text};
 ghost use Rattle.flow_lines.specs.inner.Reading.{IsBetweenLines, ReadsOrEnds, StopsReading};
 ghost use Rattle.flow_lines.specs.inner.Reading.{lines_state};
 
@@ -53,12 +53,12 @@ impl Cursor {
         // After a blank line, a buffered line is still in the buffer: the loop of `next_line` needs
         // this.
         ensures held { IfOk result (λ found. found ≡ true
-            → HoldsLine self.old.read_buffer → is_blank self.new.line.items ≡ true
+            → HoldsLine self.old.read_buffer → is_blank_text self.new.line.items ≡ true
             → HoldsLine self.new.read_buffer) }
         ensures there { ¬ (NoLineFeed self.old.read_buffer) → result ≡ Ok true
             → (source.new ≡ source.old)
             × (HoldsLine self.new.read_buffer → HoldsLine self.old.read_buffer)
-            × (is_blank self.new.line.items ≡ false → HoldsLine self.old.read_buffer) }
+            × (is_blank_text self.new.line.items ≡ false → HoldsLine self.old.read_buffer) }
         ensures causes { Counted (result ≡ Err LineRefusal.Fault) (S.faults source.old)
             (S.faults source.new) }
     {

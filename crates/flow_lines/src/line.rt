@@ -1,5 +1,5 @@
 ghost use Rattle.std.specs.Prelude.{◌≡◌};
-ghost use Rattle.flow_lines.specs.Lines.{content, is_blank};
+ghost use Rattle.flow_lines.specs.Lines.{content, is_blank_text};
 
 use flow_values::Items;
 
@@ -24,7 +24,7 @@ pub fn strip_return(line: &mut Vec<u8>, terminated: bool)
 
 /// Whether a line holds only spaces, tabs and carriage returns.
 pub fn is_blank_line(line: &[u8]) -> bool
-    ensures { result ≡ is_blank line.now }
+    ensures { result ≡ is_blank_text line.now }
 {
     line.iter().all(|byte| matches!(byte, b' ' | b'\t' | b'\r'))
 }

@@ -4,7 +4,7 @@ ghost use Rattle.flow_edges.specs.declared.source.TheConstants.{MAX_READ};
 ghost use Rattle.flow_edges.specs.Faults.{Counted};
 ghost use Rattle.flow_lines.specs.Lines.{NoLineFeed, length_refusal};
 ghost use Rattle.flow_lines.specs.inner.Reading.{bytes_remaining, ReadsToLineFeed, ReadsLast};
-ghost use Rattle.flow_lines.specs.inner.Reading.{BreaksOffLine, IsBuffered, IsWithinLine};
+ghost use Rattle.flow_lines.specs.inner.Reading.{BreaksOffLine, IsBufferedLine, IsWithinLine};
 
 use crate::read_buffer::ReadBuffer;
 use crate::refusal::{LineRefusal, MAX_INPUT, MAX_LINE};
@@ -63,7 +63,7 @@ pub fn read_line<S: Source>(
         → IfOk result (λ _. IfSome (S.began source.new)
         (IsWithinLine (bytes_remaining [] read_buffer.old (S.left source.old)))) }
     ensures held { IfOk result (λ terminated. ¬ (NoLineFeed read_buffer.old)
-        → IsBuffered read_buffer.old read_buffer.new line.new.items terminated) }
+        → IsBufferedLine read_buffer.old read_buffer.new line.new.items terminated) }
 {
     'reads: loop {
         let permit = read_buffer.take_line(line)?;

@@ -2,7 +2,7 @@ ghost use Rattle.std.specs.Prelude.{◌≡◌, ◌≢◌, ◌≤◌, ◌+◌, Er
 ghost use Rattle.flow_edges.specs.declared.source.TheConstants.{MAX_READ};
 ghost use Rattle.flow_edges.specs.Faults.{Counted};
 ghost use Rattle.flow_edges.specs.Flow.{TakesAtMost, IsAtEnd};
-ghost use Rattle.flow_lines.specs.WholeInput.{IsWhole, IsTooLong};
+ghost use Rattle.flow_lines.specs.WholeInput.{IsWholeInput, IsTooLong};
 
 use crate::read_buffer::ReadBuffer;
 use flow_edges::Source;
@@ -40,7 +40,7 @@ impl From<NoMemory> for InputRefusal {
 /// Reads an input of at most `MAX_WHOLE_INPUT` bytes to its end. Whatever the outcome, it consumes
 /// at most these and one more read.
 pub fn read_whole<S: Source>(alloc: Global, source: &mut S) -> Result<Items<u8>, InputRefusal>
-    ensures whole { IfOk result (λ bytes. IsWhole bytes (S.left source.old) (S.left source.new)) }
+    ensures whole { IfOk result (λ bytes. IsWholeInput bytes (S.left source.old) (S.left source.new)) }
     ensures to_end { IfOk result (λ _. IsAtEnd (S.began source.new)) }
     ensures too_long { result ≡ Err InputRefusal.TooLong → IsTooLong (S.left source.old) }
     ensures taken { TakesAtMost (MAX_WHOLE_INPUT + MAX_READ) (S.left source.old)

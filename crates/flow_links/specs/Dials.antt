@@ -17,8 +17,8 @@ pub record DialState (L : Type 0) : Type 0 where
   pub given : ℕ
 
 -- nothing changed
-abbrev pub Stays : {L : Type 0} → Option (DialState L) → Option (DialState L) → Type 0
-Stays before after = after ≡ before
+abbrev pub DialStays : {L : Type 0} → Option (DialState L) → Option (DialState L) → Type 0
+DialStays before after = after ≡ before
 
 -- the link is the first of those to come, it leads to this host and port, and one more is open
 abbrev pub Connects : {L : Type 0} → L → List ℕ → ℕ → Option (DialState L) → Option (DialState L) → Type 0
@@ -27,6 +27,6 @@ Connects link host port before after = Changes (λ state now.
     × (now.dials ≡ state.dials ++ record { host = host; port = port } ∷ []) × (now.given ≡ state.given + 1)) before after
 
 -- the link was appended to the finished ones, and one fewer is open
-abbrev pub Finishes : {L : Type 0} → L → Option (DialState L) → Option (DialState L) → Type 0
-Finishes link before after = Changes (λ state now.
+abbrev pub FinishesDialedLink : {L : Type 0} → L → Option (DialState L) → Option (DialState L) → Type 0
+FinishesDialedLink link before after = Changes (λ state now.
     (now.finished ≡ state.finished ++ link ∷ []) × (now.coming ≡ state.coming) × (now.dials ≡ state.dials) × (state.given ≡ now.given + 1)) before after

@@ -17,8 +17,8 @@ abbrev pub Changes : {S : Type 0} → (S → S → Type 0) → Option S → Opti
 Changes {S} How before after = MatchOption before (after ≡ None) (λ state. (now : S) × (after ≡ Some now) × How state now)
 
 -- nothing changed
-abbrev pub Stays : {L : Type 0} → Option (DoorState L) → Option (DoorState L) → Type 0
-Stays before after = after ≡ before
+abbrev pub DoorStays : {L : Type 0} → Option (DoorState L) → Option (DoorState L) → Type 0
+DoorStays before after = after ≡ before
 
 -- the door was opened once more, it listens at this port, and nothing else changed
 abbrev pub Listens : {L : Type 0} → ℕ → Option (DoorState L) → Option (DoorState L) → Type 0

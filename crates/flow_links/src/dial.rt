@@ -1,7 +1,7 @@
 ghost use Rattle.std.specs.Prelude.{ℕ, Option, OnErr, IfOk, IfSome, length, ◌≡◌, ◌≤◌, IsErr};
 ghost use Rattle.flow_edges.specs.Faults.{Counted};
 ghost use Rattle.flow_links.specs.declared.dial.TheConstants.{MAX_HOST};
-ghost use Rattle.flow_links.specs.Dials.{DialState, Stays, Connects, Finishes};
+ghost use Rattle.flow_links.specs.Dials.{DialState, DialStays, Connects, FinishesDialedLink};
 
 use crate::Link;
 use flow_values::Fault;
@@ -27,13 +27,13 @@ pub trait Dial {
         requires short { length host.now ≤ MAX_HOST }
         ensures ok { IfOk result
             (λ link. Connects link host.now port (observable self.old) (observable self.new)) }
-        ensures err { OnErr result (Stays (observable self.old) (observable self.new)) }
+        ensures err { OnErr result (DialStays (observable self.old) (observable self.new)) }
         ensures causes { Counted (IsErr result) (faults self.old) (faults self.new) };
 
     /// Closes a connection that `dial` opened.
     fn finish(&mut self, link: Self::Link)
         // At least one connection is open, so the count of open ones can't underflow.
         requires given { IfSome (observable self.now) (λ state. 1 ≤ state.given) }
-        ensures back { Finishes link (observable self.old) (observable self.new) }
+        ensures back { FinishesDialedLink link (observable self.old) (observable self.new) }
         ensures quiet { faults self.new ≡ faults self.old };
 }

@@ -1,6 +1,6 @@
 ghost use Rattle.std.specs.Prelude.{ℕ, Option, OnErr, IfOk, IfSome, ◌≡◌, ◌≤◌, IsErr};
 ghost use Rattle.flow_edges.specs.Faults.{Counted};
-ghost use Rattle.flow_links.specs.Doors.{DoorState, Stays, Listens, GivesNext, Finishes};
+ghost use Rattle.flow_links.specs.Doors.{DoorState, DoorStays, Listens, GivesNext, Finishes};
 
 use crate::Link;
 use flow_values::Fault;
@@ -19,7 +19,7 @@ pub trait Door {
     /// Listens at this port from now on. A `Fault` is counted, and nothing has changed.
     fn listen(&mut self, port: u16) -> Result<(), Fault>
         ensures ok { IfOk result (λ _. Listens port (observable self.old) (observable self.new)) }
-        ensures err { OnErr result (Stays (observable self.old) (observable self.new)) }
+        ensures err { OnErr result (DoorStays (observable self.old) (observable self.new)) }
         ensures causes { Counted (IsErr result) (faults self.old) (faults self.new) };
 
     /// Accepts the next connection, and may block for it. `None` if no client is left. A `Fault` is
@@ -27,7 +27,7 @@ pub trait Door {
     fn next(&mut self) -> Result<Option<Self::Link>, Fault>
         ensures ok { IfOk result
             (λ link. GivesNext link (observable self.old) (observable self.new)) }
-        ensures err { OnErr result (Stays (observable self.old) (observable self.new)) }
+        ensures err { OnErr result (DoorStays (observable self.old) (observable self.new)) }
         ensures causes { Counted (IsErr result) (faults self.old) (faults self.new) };
 
     /// Closes a connection that `next` returned.

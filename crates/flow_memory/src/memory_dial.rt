@@ -2,7 +2,7 @@ ghost use Rattle.std.specs.Prelude.{◌≡◌, ◌≤◌, ◌+◌, ◌<◌, ◌�
 ghost use Rattle.std.specs.Prelude.{IsErr, IfOk, OnErr, IfSome};
 ghost use Rattle.flow_edges.specs.Faults.{counted, Counted};
 ghost use Rattle.flow_links.specs.declared.dial.TheConstants.{MAX_HOST};
-ghost use Rattle.flow_links.specs.Dials.{Stays, Connects, Finishes};
+ghost use Rattle.flow_links.specs.Dials.{DialStays, Connects, FinishesDialedLink};
 ghost use Rattle.flow_memory.specs.Streams.{is_failing};
 
 use crate::{Endpoint, MemoryLink};
@@ -105,7 +105,7 @@ impl Dial for MemoryDial {
         requires short { length host.now ≤ MAX_HOST }
         ensures ok { IfOk result
             (λ link. Connects link host.now port (Some self.old.links) (Some self.new.links)) }
-        ensures err { OnErr result (Stays (Some self.old.links) (Some self.new.links)) }
+        ensures err { OnErr result (DialStays (Some self.old.links) (Some self.new.links)) }
         ensures causes { Counted (IsErr result) self.old.faults self.new.faults }
 
         ensures fails { IsErr result
@@ -129,7 +129,7 @@ impl Dial for MemoryDial {
 
     fn finish(&mut self, link: MemoryLink)
         requires given { IfSome (Some self.now.links) (λ state. 1 ≤ state.given) }
-        ensures back { Finishes link (Some self.old.links) (Some self.new.links) }
+        ensures back { FinishesDialedLink link (Some self.old.links) (Some self.new.links) }
         ensures quiet { self.new.faults ≡ self.old.faults }
 
         ensures stays { (self.new.failing ≡ self.old.failing) × (self.new.calls ≡ self.old.calls) }

@@ -2,7 +2,7 @@ ghost use Rattle.std.specs.Prelude.{◌≡◌, ◌≤◌, ◌+◌, ◌<◌, ◌�
 ghost use Rattle.std.specs.Prelude.{IfOk, OnErr, IfSome};
 ghost use Rattle.flow_edges.specs.Faults.{counted, Counted};
 ghost use Rattle.flow_memory.specs.Streams.{is_failing};
-ghost use Rattle.flow_links.specs.Doors.{Stays, Listens, GivesNext, Finishes};
+ghost use Rattle.flow_links.specs.Doors.{DoorStays, Listens, GivesNext, Finishes};
 
 use crate::MemoryLink;
 use flow_links::Door;
@@ -111,7 +111,7 @@ impl Door for MemoryDoor {
 
     fn listen(&mut self, port: u16) -> Result<(), Fault>
         ensures ok { IfOk result (λ _. Listens port (Some self.old.links) (Some self.new.links)) }
-        ensures err { OnErr result (Stays (Some self.old.links) (Some self.new.links)) }
+        ensures err { OnErr result (DoorStays (Some self.old.links) (Some self.new.links)) }
         ensures causes { Counted (IsErr result) self.old.faults self.new.faults }
 
         ensures fails { IsErr result ↔ (is_failing self.old.failing self.old.calls ≡ true) }
@@ -127,7 +127,7 @@ impl Door for MemoryDoor {
     fn next(&mut self) -> Result<Option<MemoryLink>, Fault>
         ensures ok { IfOk result
             (λ link. GivesNext link (Some self.old.links) (Some self.new.links)) }
-        ensures err { OnErr result (Stays (Some self.old.links) (Some self.new.links)) }
+        ensures err { OnErr result (DoorStays (Some self.old.links) (Some self.new.links)) }
         ensures causes { Counted (IsErr result) self.old.faults self.new.faults }
 
         ensures fails { IsErr result ↔ (is_failing self.old.failing self.old.calls ≡ true) }

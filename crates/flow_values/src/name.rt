@@ -27,11 +27,11 @@ enum NameForm {
 
 impl Model for Name {
     ghost use Rattle.std.specs.Prelude.{List, ℕ};
-    ghost use Rattle.flow_values.specs.inner.StandardNames.{name_of};
+    ghost use Rattle.flow_values.specs.inner.StandardNames.{text_of_name};
 
     ghost Value = { List ℕ };
 
-    ghost view = { λ name. name_of name.form };
+    ghost view = { λ name. text_of_name name.form };
 }
 
 impl Name {

@@ -8,8 +8,8 @@ use Rattle.http_messages.specs.declared.frame.Frame.TheVariants.{More, Request a
 use Rattle.http_messages.specs.declared.request_refusal.Refusal.{Refusal}
 use Rattle.http_messages.specs.declared.request.Request.{Request}
 use Rattle.http_messages.specs.RequestHeads.{IsHeadAt, HasNoHeadIn}
-use Rattle.http_messages.specs.Fields.{HeadParts, parts_of, body_length}
-use Rattle.http_messages.specs.Frames.{refusal_of, request_of, HoldsHead, IsReadAs, IsUnreadable, Accepts, NeedsHead, GivesRequest, HasLongHead, IsRefused, IsFirstFrame}
+use Rattle.http_messages.specs.Fields.{HeadParts, head_parts, body_length}
+use Rattle.http_messages.specs.Frames.{head_refusal, framed_request, HoldsHead, IsRequestHeadReadAs, IsUnreadableRequestHead, AcceptsHead, NeedsHead, GivesRequest, HasLongHead, IsRefusedRequest, IsFirstFrame}
 use Rattle.http_messages.specs.inner.Searching.{IsMore, Needs, HasNoHead}
 use Rattle.http_messages.proofs.RequestHeadLemmas.{after_low, head_grows, head_shrinks, one_head}
 
@@ -30,15 +30,15 @@ holds_grows bytes more start end holds = record { at = head_grows bytes more sta
 pub same_bytes : (bytes more : List ℕ) (start end : ℕ) → HoldsHead bytes start end → slice_range (bytes ++ more) start end ≡ slice_range bytes start end
 same_bytes bytes more start end holds = range_grows bytes more start end (head_order bytes start end holds.at) holds.at.within
 
-pub accepts_grows : (greatest : ℕ) (bytes more : List ℕ) (start end : ℕ) (parts : HeadParts) → Accepts greatest bytes start end parts → Accepts greatest (bytes ++ more) start end parts
+pub accepts_grows : (greatest : ℕ) (bytes more : List ℕ) (start end : ℕ) (parts : HeadParts) → AcceptsHead greatest bytes start end parts → AcceptsHead greatest (bytes ++ more) start end parts
 accepts_grows greatest bytes more start end parts accepts = record {
   head = holds_grows bytes more start end accepts.head;
-  read = subst (λ (head : List ℕ). IsReadAs head parts) (sym (same_bytes bytes more start end accepts.head)) accepts.read;
+  read = subst (λ (head : List ℕ). IsRequestHeadReadAs head parts) (sym (same_bytes bytes more start end accepts.head)) accepts.read;
   fine = accepts.fine;
 }
 
 -- a body that isn't whole isn't whole until all of it has come
-pub needs_body : (greatest : ℕ) (bytes : List ℕ) (start end : ℕ) (parts : HeadParts) → Accepts greatest bytes start end parts → Needs greatest bytes (end + body_length parts)
+pub needs_body : (greatest : ℕ) (bytes : List ℕ) (start end : ℕ) (parts : HeadParts) → AcceptsHead greatest bytes start end parts → Needs greatest bytes (end + body_length parts)
 needs_body greatest bytes start end parts accepts more short = inr (record {
   start = start;
   end = end;
@@ -63,22 +63,22 @@ pub record SameRead (e f : ℕ) (parts other : HeadParts) : Type 0 where
   pub same_end : e ≡ f
   pub same_parts : parts ≡ other
 
-same_tree : (head : List ℕ) (parts other : HeadParts) → IsReadAs head parts → IsReadAs head other → parts ≡ other
+same_tree : (head : List ℕ) (parts other : HeadParts) → IsRequestHeadReadAs head parts → IsRequestHeadReadAs head other → parts ≡ other
 same_tree head parts other read again =
-    read.parts_are ∙ ap parts_of (request_unique _ _ _ _ _ read.reads again.reads).0 ∙ sym again.parts_are
+    read.parts_are ∙ ap head_parts (request_unique _ _ _ _ _ read.reads again.reads).0 ∙ sym again.parts_are
 
-same_read : (bytes : List ℕ) (s e t f : ℕ) (parts other : HeadParts) → HoldsHead bytes s e → IsReadAs (slice_range bytes s e) parts
-    → HoldsHead bytes t f → IsReadAs (slice_range bytes t f) other → SameRead e f parts other
+same_read : (bytes : List ℕ) (s e t f : ℕ) (parts other : HeadParts) → HoldsHead bytes s e → IsRequestHeadReadAs (slice_range bytes s e) parts
+    → HoldsHead bytes t f → IsRequestHeadReadAs (slice_range bytes t f) other → SameRead e f parts other
 same_read bytes s e t f parts other holds read again other_read =
     let same = one_head bytes s e t f holds.at again.at in
-    let there : IsReadAs (slice_range bytes s e) other = rw (same.same_start, same.same_end) other_read in
+    let there : IsRequestHeadReadAs (slice_range bytes s e) other = rw (same.same_start, same.same_end) other_read in
     record { same_end = same.same_end; same_parts = same_tree _ parts other read there }
 
-no_bad_read : (bytes : List ℕ) (s e t f : ℕ) (parts : HeadParts) → HoldsHead bytes s e → IsUnreadable (slice_range bytes s e)
-    → HoldsHead bytes t f → IsReadAs (slice_range bytes t f) parts → ⊥
+no_bad_read : (bytes : List ℕ) (s e t f : ℕ) (parts : HeadParts) → HoldsHead bytes s e → IsUnreadableRequestHead (slice_range bytes s e)
+    → HoldsHead bytes t f → IsRequestHeadReadAs (slice_range bytes t f) parts → ⊥
 no_bad_read bytes s e t f parts holds bad again read =
     let same = one_head bytes s e t f holds.at again.at in
-    let there : IsReadAs (slice_range bytes s e) parts = rw (same.same_start, same.same_end) read in
+    let there : IsRequestHeadReadAs (slice_range bytes s e) parts = rw (same.same_start, same.same_end) read in
     bad there.tree there.reads
 
 no_more_given : (greatest : ℕ) (bytes : List ℕ) (request : Request) (rest : List ℕ) → IsMore greatest bytes → GivesRequest greatest bytes request rest → ⊥
@@ -91,10 +91,10 @@ no_more_given greatest bytes request rest (inr body) gives =
     let whole = gives.whole in
     omega arith
 
-none_or_some : (greatest : ℕ) (parts other : HeadParts) (refusal : Refusal) → parts ≡ other → refusal_of greatest parts ≡ None → refusal_of greatest other ≡ Some refusal → ⊥
-none_or_some greatest parts other refusal same fine refused = let e : None ≡ Some refusal = sym fine ∙ ap (refusal_of greatest) same ∙ refused in cc
+none_or_some : (greatest : ℕ) (parts other : HeadParts) (refusal : Refusal) → parts ≡ other → head_refusal greatest parts ≡ None → head_refusal greatest other ≡ Some refusal → ⊥
+none_or_some greatest parts other refusal same fine refused = let e : None ≡ Some refusal = sym fine ∙ ap (head_refusal greatest) same ∙ refused in cc
 
-no_accepted_refused : (greatest : ℕ) (bytes : List ℕ) (s e : ℕ) (parts : HeadParts) (refusal : Refusal) → Accepts greatest bytes s e parts → IsRefused greatest bytes refusal → ⊥
+no_accepted_refused : (greatest : ℕ) (bytes : List ℕ) (s e : ℕ) (parts : HeadParts) (refusal : Refusal) → AcceptsHead greatest bytes s e parts → IsRefusedRequest greatest bytes refusal → ⊥
 no_accepted_refused greatest bytes s e parts refusal accepts (inl long) = no_long_holds bytes s e long.0 accepts.head
 no_accepted_refused greatest bytes s e parts refusal accepts (inr (inl bad)) =
     no_bad_read bytes _ _ s e parts bad.0.head bad.0.bad accepts.head accepts.read
@@ -102,13 +102,13 @@ no_accepted_refused greatest bytes s e parts refusal accepts (inr (inr refused))
     let same = same_read bytes s e _ _ parts _ accepts.head accepts.read refused.head refused.read in
     none_or_some greatest parts _ refusal same.same_parts accepts.fine refused.refused
 
-no_more_refused : (greatest : ℕ) (bytes : List ℕ) (refusal : Refusal) → IsMore greatest bytes → IsRefused greatest bytes refusal → ⊥
+no_more_refused : (greatest : ℕ) (bytes : List ℕ) (refusal : Refusal) → IsMore greatest bytes → IsRefusedRequest greatest bytes refusal → ⊥
 no_more_refused greatest bytes refusal (inl needs) (inl long) = let room = needs.room in let full = long.0.full in omega arith
 no_more_refused greatest bytes refusal (inl needs) (inr (inl bad)) = no_needs_holds bytes _ _ needs bad.0.head
 no_more_refused greatest bytes refusal (inl needs) (inr (inr refused)) = no_needs_holds bytes _ _ needs refused.head
 no_more_refused greatest bytes refusal (inr body) refused = no_accepted_refused greatest bytes _ _ _ refusal body.accepts refused
 
-one_refusal : (greatest : ℕ) (bytes : List ℕ) (p q : Refusal) → IsRefused greatest bytes p → IsRefused greatest bytes q → p ≡ q
+one_refusal : (greatest : ℕ) (bytes : List ℕ) (p q : Refusal) → IsRefusedRequest greatest bytes p → IsRefusedRequest greatest bytes q → p ≡ q
 one_refusal greatest bytes p q (inl long) (inl again) = long.1 ∙ sym again.1
 one_refusal greatest bytes p q (inl long) (inr (inl bad)) = absurd (no_long_holds bytes _ _ long.0 bad.0.head)
 one_refusal greatest bytes p q (inl long) (inr (inr refused)) = absurd (no_long_holds bytes _ _ long.0 refused.head)
@@ -121,7 +121,7 @@ one_refusal greatest bytes p q (inr (inr refused)) (inr (inl bad)) =
     absurd (no_bad_read bytes _ _ _ _ _ bad.0.head bad.0.bad refused.head refused.read)
 one_refusal greatest bytes p q (inr (inr refused)) (inr (inr again)) =
     let same = same_read bytes _ _ _ _ _ _ refused.head refused.read again.head again.read in
-    let e : Some p ≡ Some q = sym refused.refused ∙ ap (refusal_of greatest) same.same_parts ∙ again.refused in
+    let e : Some p ≡ Some q = sym refused.refused ∙ ap (head_refusal greatest) same.same_parts ∙ again.refused in
     cc
 
 -- two frames of the same bytes
@@ -137,8 +137,8 @@ one_given greatest bytes p q r s x y =
     let body : slice_range bytes x.end (x.end + body_length x.parts) ≡ slice_range bytes y.end (y.end + body_length y.parts) =
     ap (λ (n : ℕ). slice_range bytes x.end n) size ∙ ap (λ (n : ℕ). slice_range bytes n (y.end + body_length y.parts)) same.same_end in
     let request : p ≡ q =
-    x.request_is ∙ ap (λ (h : HeadParts). request_of h (slice_range bytes x.end (x.end + body_length x.parts))) same.same_parts
-    ∙ ap (request_of y.parts) body ∙ sym y.request_is in record {
+    x.request_is ∙ ap (λ (h : HeadParts). framed_request h (slice_range bytes x.end (x.end + body_length x.parts))) same.same_parts
+    ∙ ap (framed_request y.parts) body ∙ sym y.request_is in record {
       same_frame = ap Given request;
       same_rest = x.rest_is ∙ ap (λ (n : ℕ). drop n bytes) size ∙ sym y.rest_is;
     }
@@ -166,14 +166,14 @@ long_grows bytes more long =
           omega arith;
     }
 
-refused_grows : (greatest : ℕ) (bytes more : List ℕ) (p : Refusal) → IsRefused greatest bytes p → IsRefused greatest (bytes ++ more) p
+refused_grows : (greatest : ℕ) (bytes more : List ℕ) (p : Refusal) → IsRefusedRequest greatest bytes p → IsRefusedRequest greatest (bytes ++ more) p
 refused_grows greatest bytes more p (inl long) = inl (long_grows bytes more long.0, long.1)
 refused_grows greatest bytes more p (inr (inl bad)) = inr (inl (
   record {
     start = bad.0.start;
     end = bad.0.end;
     head = holds_grows bytes more _ _ bad.0.head;
-    bad = subst IsUnreadable (sym (same_bytes bytes more _ _ bad.0.head)) bad.0.bad;
+    bad = subst IsUnreadableRequestHead (sym (same_bytes bytes more _ _ bad.0.head)) bad.0.bad;
   },
   bad.1,
 ))
@@ -182,7 +182,7 @@ refused_grows greatest bytes more p (inr (inr refused)) = inr (inr (record {
   end = refused.end;
   parts = refused.parts;
   head = holds_grows bytes more _ _ refused.head;
-  read = subst (λ (head : List ℕ). IsReadAs head refused.parts) (sym (same_bytes bytes more _ _ refused.head)) refused.read;
+  read = subst (λ (head : List ℕ). IsRequestHeadReadAs head refused.parts) (sym (same_bytes bytes more _ _ refused.head)) refused.read;
   refused = refused.refused;
 }))
 
@@ -194,7 +194,7 @@ given_grows greatest bytes more request rest gives =
       parts = gives.parts;
       accepts = accepts_grows greatest bytes more _ _ _ gives.accepts;
       whole = omega (arith, length-append bytes more);
-      request_is = gives.request_is ∙ ap (request_of gives.parts) (sym (range_grows bytes more gives.end (gives.end + body_length gives.parts) (omega arith) whole));
+      request_is = gives.request_is ∙ ap (framed_request gives.parts) (sym (range_grows bytes more gives.end (gives.end + body_length gives.parts) (omega arith) whole));
       rest_is = ap (λ (l : List ℕ). l ++ more) gives.rest_is ∙ sym (drop-append-le (gives.end + body_length gives.parts) bytes more whole);
     }
 

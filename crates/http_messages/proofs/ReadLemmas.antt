@@ -11,25 +11,25 @@ use Rattle.http_messages.specs.declared.reply_refusal.HeadRefusal.{HeadRefusal}
 use Rattle.http_messages.specs.declared.reply_end.ReplyEnd.{ReplyEnd}
 use Rattle.http_messages.specs.declared.reply_end.ReplyEnd.TheVariants.{Fault, Cut, Refused, NoMemory}
 use Rattle.http_messages.specs.ReplyHeads.{IsHead, HoldNoHead}
-use Rattle.http_messages.specs.Replies.{Announces, IsRefusedHead, IsCut, Takes, IsTakenFor, ReadsReply}
+use Rattle.http_messages.specs.Replies.{Announces, IsRefusedHead, IsCutReply, TakesFromLink, IsReplyTakenFor, ReadsReply}
 use Rattle.http_messages.specs.inner.Reading.{ReadsHead, ReadsBody, IsBodyTaken}
 use Rattle.http_messages.proofs.ReplyHeadLemmas.{first_of_all, none_of_all, whole_head}
 use Rattle.http_messages.proofs.OutcomeLemmas.{needed_none, needed_head, needed_body}
 
 -- ---- bytes that are taken
 
-pub takes_none : (left : Option (List ℕ)) → Takes [] left left
+pub takes_none : (left : Option (List ℕ)) → TakesFromLink [] left left
 takes_none None = refl
 takes_none (Some bytes) = refl
 
 -- first these bytes, and then some more
-pub takes_both : (first more : List ℕ) (left middle now : Option (List ℕ)) → Takes first left middle → Takes more middle now → Takes (first ++ more) left now
+pub takes_both : (first more : List ℕ) (left middle now : Option (List ℕ)) → TakesFromLink first left middle → TakesFromLink more middle now → TakesFromLink (first ++ more) left now
 takes_both first more left middle None begins continues = begins ∙ ap (option_map (λ rest. first ++ rest)) continues
 takes_both first more left middle (Some rest) begins continues =
     begins ∙ ap (option_map (λ rest. first ++ rest)) continues ∙ ap Some (sym (append_assoc first more rest))
 
 -- what one read took
-pub takes_read : (n : ℕ) (chunk : List ℕ) (left now : Option (List ℕ)) → n ≤ length chunk → IsNextOf (take n chunk) left → now ≡ left_after n left → Takes (take n chunk) left now
+pub takes_read : (n : ℕ) (chunk : List ℕ) (left now : Option (List ℕ)) → n ≤ length chunk → IsNextOf (take n chunk) left → now ≡ left_after n left → TakesFromLink (take n chunk) left now
 takes_read n chunk None now few next rest = rw rest refl
 takes_read n chunk (Some bytes) now few next rest =
     let size : length (take n chunk) ≡ n = length-take-le n chunk few in
@@ -72,7 +72,7 @@ pub passed_on : {T E : Type 0} (P : Result T E → Type 0) (answer : Result T E)
 passed_on P (Ok value) its passed fact = absurd passed
 passed_on P (Err e) its passed fact = subst (λ e. P (Err e)) (sym passed) fact
 
-pub body_unkept : (count : ℕ) (body more : List ℕ) (left middle now : Option (List ℕ)) → length (body ++ more) ≤ count → Takes body left middle → Takes more middle now
+pub body_unkept : (count : ℕ) (body more : List ℕ) (left middle now : Option (List ℕ)) → length (body ++ more) ≤ count → TakesFromLink body left middle → TakesFromLink more middle now
     → ReadsBody count left now (Err NoMemory)
 body_unkept count body more left middle now few begins continues = record { taken = body ++ more; takes = takes_both body more left middle now begins continues; answers = few }
 
@@ -83,14 +83,14 @@ nothing_read left = record { taken = []; takes = takes_none left; answers = need
 pub record HasHead (head : List ℕ) (left now : Option (List ℕ)) : Type 0 where
   pub is_head : IsHead head
   pub fits : length head ≤ MAX_HEAD
-  pub takes : Takes head left now
+  pub takes : TakesFromLink head left now
 
 pub has_head : (buffer head : List ℕ) (end : ℕ) (left now : Option (List ℕ)) → ReadsHead buffer left now (Ok end) → head ≡ take end buffer → HasHead head left now
 has_head buffer head end left now reads is =
     let same : reads.taken ≡ head = reads.answers.2 ∙ sym is in record {
       is_head = subst IsHead same reads.answers.0;
       fits = subst (λ (b : List ℕ). length b ≤ MAX_HEAD) same reads.answers.1;
-      takes = subst (λ (b : List ℕ). Takes b left now) same reads.takes;
+      takes = subst (λ (b : List ℕ). TakesFromLink b left now) same reads.takes;
     }
 
 pub head_unjudged : (head : List ℕ) (left now : Option (List ℕ)) → HasHead head left now → ReadsReply left now (Err NoMemory)
@@ -107,10 +107,10 @@ with_body head count left middle now answer has announces reads = record {
   answers = by_answer answer reads.taken reads.answers;
 }
   where
-    lacking : (some : List ℕ) → length some < count → IsCut (head ++ some)
+    lacking : (some : List ℕ) → length some < count → IsCutReply (head ++ some)
     lacking some short = inr (record { head = head; count = count; announces = announces; some = some; bytes_are = refl; short = short })
 
-    by_answer : (answer : Result (List ℕ) ReplyEnd) (taken : List ℕ) → IsBodyTaken count taken now answer → IsTakenFor (head ++ taken) now answer
+    by_answer : (answer : Result (List ℕ) ReplyEnd) (taken : List ℕ) → IsBodyTaken count taken now answer → IsReplyTakenFor (head ++ taken) now answer
     by_answer (Ok body) taken is =
         record { head = head; announces = subst (Announces head) (sym is.1) announces; bytes = ap (λ (b : List ℕ). head ++ b) is.0 }
     by_answer (Err Fault) taken is = lacking taken is
@@ -123,14 +123,14 @@ with_body head count left middle now answer has announces reads = record {
 -- what stands before a read, and what it took
 pub record HasRead (old : List ℕ) (least count : ℕ) (chunk : List ℕ) (left middle now : Option (List ℕ)) : Type 0 where
   pub none : HoldNoHead old
-  pub takes : Takes old left middle
+  pub takes : TakesFromLink old left middle
   pub lacks : (some : List ℕ) → length some < least → HoldNoHead old → HoldNoHead (old ++ some)
   pub few : count ≤ least
   pub within : count ≤ length chunk
   pub next : IsNextOf (take count chunk) middle
   pub rest : now ≡ left_after count middle
 
-taken_with : (old chunk : List ℕ) (least count : ℕ) (left middle now : Option (List ℕ)) → HasRead old least count chunk left middle now → Takes (old ++ take count chunk) left now
+taken_with : (old chunk : List ℕ) (least count : ℕ) (left middle now : Option (List ℕ)) → HasRead old least count chunk left middle now → TakesFromLink (old ++ take count chunk) left now
 taken_with old chunk least count left middle now has =
     takes_both old (take count chunk) left middle now has.takes (takes_read count chunk middle now has.within has.next has.rest)
 
@@ -156,7 +156,7 @@ head_read buffer chunk end k count least from found left middle now has inside f
 -- what stands after it where no head has ended
 pub record IsUnended (bytes : List ℕ) (left now : Option (List ℕ)) : Type 0 where
   pub none : HoldNoHead bytes
-  pub takes : Takes bytes left now
+  pub takes : TakesFromLink bytes left now
 
 pub head_unended : (buffer chunk : List ℕ) (end k count least from : ℕ) (found : Option ℕ) (left middle now : Option (List ℕ)) → HasRead (take end buffer) least count chunk left middle now
     → end ≤ length buffer → from ≡ end - 2

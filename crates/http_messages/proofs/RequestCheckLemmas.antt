@@ -9,7 +9,7 @@ use Rattle.http_messages.specs.declared.request_refusal.Refusal.TheVariants.{Bad
 use Rattle.http_messages.specs.Fields.{HeadParts, values, first_length, states, body_length, has_bad_host, has_bad_text, has_bad_text_in, has_coding, has_bad_length, lacks_length}
 use Rattle.http_messages.specs.declared.frame.Frame.TheVariants.{More}
 use Rattle.http_messages.specs.declared.frame.TheConstants.{MAX_HEAD}
-use Rattle.http_messages.specs.Frames.{refusal_of, Accepts, IsFirstFrame}
+use Rattle.http_messages.specs.Frames.{head_refusal, AcceptsHead, IsFirstFrame}
 use Rattle.http_messages.specs.inner.Searching.{IsMore, Needs}
 use Rattle.http_messages.proofs.ValueLemmas.{all_of}
 use Rattle.http_messages.proofs.FrameLemmas.{needs_body}
@@ -67,7 +67,7 @@ close_new m q a r new asks is = by_test (m == 0) refl
     by_test false other = rw other (is ∙ asks)
 
 -- what is found where the body isn't whole
-pub needs_more : (g : ℕ) (bytes : List ℕ) (s e n : ℕ) (parts : HeadParts) → Accepts g bytes s e parts → n ≡ body_length parts → length bytes < e + n
+pub needs_more : (g : ℕ) (bytes : List ℕ) (s e n : ℕ) (parts : HeadParts) → AcceptsHead g bytes s e parts → n ≡ body_length parts → length bytes < e + n
     → IsMore g bytes × Needs g bytes (e + n)
 needs_more g bytes s e n parts accepts size short = (
   inr (record { start = s; end = e; parts = parts; accepts = accepts; short = subst (λ (k : ℕ). length bytes < e + k) size short }),
@@ -98,7 +98,7 @@ no_large false false false false false true is = absurd (cc is)
 not_lt : (n m : ℕ) → nat_lt n m ≡ false → m ≤ n
 not_lt n m is = Prim.search rules
 
-small_body : (g : ℕ) (h : HeadParts) → refusal_of g h ≡ None → body_length h ≤ g
+small_body : (g : ℕ) (h : HeadParts) → head_refusal g h ≡ None → body_length h ≤ g
 small_body g h fine = not_lt g (body_length h) (no_large (has_bad_host h) (has_bad_text h) (has_coding h) (has_bad_length h) (lacks_length h) (nat_lt g (body_length h)) fine)
 
 pub few_bytes : (greatest : ℕ) (bytes rest : List ℕ) → IsFirstFrame greatest bytes More rest → length bytes < MAX_HEAD + greatest

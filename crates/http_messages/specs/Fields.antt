@@ -19,8 +19,8 @@ pub record HeadParts : Type 0 where
   pub fields : List (List ℕ × List ℕ)
 
 -- the parts of a head of the grammar; a value is without the spaces and tabs around it
-abbrev pub parts_of : RequestHead → HeadParts
-parts_of h = record { method = h.method; target = h.target; minor = h.minor; fields = map name_and_value h.fields }
+abbrev pub head_parts : RequestHead → HeadParts
+head_parts h = record { method = h.method; target = h.target; minor = h.minor; fields = map name_and_value h.fields }
 
 -- the values of those of some fields that have a name, in order; names ignore ASCII case (RFC 9110,
 -- section 5.1)
@@ -95,18 +95,18 @@ abbrev pub lacks_length : HeadParts → Bool
 lacks_length h = is_post (method_of h.method) && length (values (codes "content-length") h) == 0
 
 -- the first of some values
-abbrev pub first_of : List (List ℕ) → Option (List ℕ)
-first_of [] = None
-first_of (value ∷ others) = Some value
+abbrev pub first_field_value : List (List ℕ) → Option (List ℕ)
+first_field_value [] = None
+first_field_value (value ∷ others) = Some value
 
--- the values of one field, joined by a comma and a space (RFC 9110, section 5.3)
-abbrev pub joined : List (List ℕ) → Option (List ℕ)
-joined [] = None
-joined (value ∷ others) = Some (join_by (λ text. text) (codes ", ") (value ∷ others))
+-- the values of one field, joined_values by a comma and a space (RFC 9110, section 5.3)
+abbrev pub joined_values : List (List ℕ) → Option (List ℕ)
+joined_values [] = None
+joined_values (value ∷ others) = Some (join_by (λ text. text) (codes ", ") (value ∷ others))
 
--- the members of a list, which stand between commas (RFC 9110, section 5.6.1)
-abbrev pub members : List ℕ → List (List ℕ)
-members value = slice_split (λ byte. byte == 44) value
+-- the comma_members of a list, which stand between commas (RFC 9110, section 5.6.1)
+abbrev pub comma_members : List ℕ → List (List ℕ)
+comma_members value = slice_split (λ byte. byte == 44) value
 
 -- a member is `close`, without the spaces and tabs around it and ASCII case ignored (RFC 9112,
 -- section 9.6)
@@ -115,7 +115,7 @@ is_close member = str_eq_ignore_ascii_case (trim_ows member) (codes "close")
 
 -- the value has the member `close`
 abbrev pub asks_to_close : List ℕ → Bool
-asks_to_close value = list_any is_close (members value)
+asks_to_close value = list_any is_close (comma_members value)
 
 -- the connection ends after the answer (RFC 9112, section 9.3)
 abbrev pub closes : HeadParts → Bool

@@ -7,16 +7,16 @@ use Rattle.http_messages.specs.declared.reply_refusal.HeadRefusal.{HeadRefusal}
 use Rattle.http_messages.specs.declared.reply_refusal.HeadRefusal.TheVariants.{BadHead}
 use Rattle.http_messages.specs.declared.reply_end.ReplyEnd.{ReplyEnd}
 use Rattle.http_messages.specs.declared.reply_end.ReplyEnd.TheVariants.{Fault, Cut, Refused, NoMemory}
-use Rattle.http_messages.specs.ReplyHeads.{IsHead, HoldNoHead, HeadParts, IsReadAs, IsUnreadable, body_length, refusal_of}
+use Rattle.http_messages.specs.ReplyHeads.{IsHead, HoldNoHead, ReplyHeadParts, IsResponseHeadReadAs, IsUnreadableResponseHead, reply_body_length, reply_head_refusal}
 
 -- a head that says how many bytes follow it, and is not refused
 pub record Announces (head : List ℕ) (count : ℕ) : Type 0 where
   pub is_head : IsHead head
   pub fits : length head ≤ MAX_HEAD
-  pub parts : HeadParts
-  pub read : IsReadAs head parts
-  pub fine : refusal_of parts ≡ None
-  pub count_is : count ≡ body_length parts
+  pub parts : ReplyHeadParts
+  pub read : IsResponseHeadReadAs head parts
+  pub fine : reply_head_refusal parts ≡ None
+  pub count_is : count ≡ reply_body_length parts
 
 -- a reply: a head, and the body that it announces
 pub record IsReply (reply body : List ℕ) : Type 0 where
@@ -30,18 +30,18 @@ pub record IsLong (bytes : List ℕ) : Type 0 where
   pub none : HoldNoHead bytes
 
 -- why the bytes of a head are refused: they are none by the grammar, or for what they say
-abbrev pub IsRefusedFor : List ℕ → HeadRefusal → Type 0
-IsRefusedFor head refusal = (IsUnreadable head × (refusal ≡ BadHead)) ⊎ ((parts : HeadParts) × IsReadAs head parts × (refusal_of parts ≡ Some refusal))
+abbrev pub IsHeadRefusalOf : List ℕ → HeadRefusal → Type 0
+IsHeadRefusalOf head refusal = (IsUnreadableResponseHead head × (refusal ≡ BadHead)) ⊎ ((parts : ReplyHeadParts) × IsResponseHeadReadAs head parts × (reply_head_refusal parts ≡ Some refusal))
 
 -- a head that is refused
 pub record IsRefusedHead (head : List ℕ) (refusal : HeadRefusal) : Type 0 where
   pub is_head : IsHead head
   pub fits : length head ≤ MAX_HEAD
-  pub refused : IsRefusedFor head refusal
+  pub refused : IsHeadRefusalOf head refusal
 
 -- bytes that are refused: a head, or more bytes than one may have
-abbrev pub IsRefused : List ℕ → HeadRefusal → Type 0
-IsRefused bytes refusal = (IsLong bytes × (refusal ≡ BadHead)) ⊎ IsRefusedHead bytes refusal
+abbrev pub IsRefusedReply : List ℕ → HeadRefusal → Type 0
+IsRefusedReply bytes refusal = (IsLong bytes × (refusal ≡ BadHead)) ⊎ IsRefusedHead bytes refusal
 
 -- no head has ended, and there is room for one yet
 pub record LacksHead (bytes : List ℕ) : Type 0 where
@@ -58,30 +58,30 @@ pub record LacksBody (bytes : List ℕ) : Type 0 where
   pub short : length some < count
 
 -- the bytes end before they are a reply or refused
-abbrev pub IsCut : List ℕ → Type 0
-IsCut bytes = LacksHead bytes ⊎ LacksBody bytes
+abbrev pub IsCutReply : List ℕ → Type 0
+IsCutReply bytes = LacksHead bytes ⊎ LacksBody bytes
 
 -- all of these bytes were needed to decide: each shorter beginning of them is cut
 abbrev pub IsNeeded : List ℕ → Type 0
-IsNeeded bytes = (front back : List ℕ) → bytes ≡ front ++ back → 0 < length back → IsCut front
+IsNeeded bytes = (front back : List ℕ) → bytes ≡ front ++ back → 0 < length back → IsCutReply front
 
 -- these bytes were taken from those left on the link, as far as they are observable
-abbrev pub Takes : List ℕ → Option (List ℕ) → Option (List ℕ) → Type 0
-Takes taken left now = left ≡ option_map (λ rest. taken ++ rest) now
+abbrev pub TakesFromLink : List ℕ → Option (List ℕ) → Option (List ℕ) → Type 0
+TakesFromLink taken left now = left ≡ option_map (λ rest. taken ++ rest) now
 
 -- what was taken, by the answer; where it is that the bytes are cut, none is left
-abbrev pub IsTakenFor : List ℕ → Option (List ℕ) → Result (List ℕ) ReplyEnd → Type 0
-IsTakenFor taken now (Ok body) = IsReply taken body
-IsTakenFor taken now (Err Fault) = IsCut taken
-IsTakenFor taken now (Err Cut) = IsCut taken × IsAtEnd now
-IsTakenFor taken now (Err (Refused refusal)) = IsRefused taken refusal
-IsTakenFor taken now (Err NoMemory) = IsNeeded taken
+abbrev pub IsReplyTakenFor : List ℕ → Option (List ℕ) → Result (List ℕ) ReplyEnd → Type 0
+IsReplyTakenFor taken now (Ok body) = IsReply taken body
+IsReplyTakenFor taken now (Err Fault) = IsCutReply taken
+IsReplyTakenFor taken now (Err Cut) = IsCutReply taken × IsAtEnd now
+IsReplyTakenFor taken now (Err (Refused refusal)) = IsRefusedReply taken refusal
+IsReplyTakenFor taken now (Err NoMemory) = IsNeeded taken
 
 -- the result of a read from what was left on the link; this is left now
 pub record ReadsReply (left now : Option (List ℕ)) (answer : Result (List ℕ) ReplyEnd) : Type 0 where
   pub taken : List ℕ
-  pub takes : Takes taken left now
-  pub answers : IsTakenFor taken now answer
+  pub takes : TakesFromLink taken left now
+  pub answers : IsReplyTakenFor taken now answer
 
 -- the outcomes of a byte string, of which at most one holds
 pub data Outcome : Type 0 where
@@ -93,5 +93,5 @@ pub data Outcome : Type 0 where
 -- cut
 abbrev pub IsOutcome : List ℕ → Outcome → Type 0
 IsOutcome bytes (Whole body) = (reply rest : List ℕ) × (bytes ≡ reply ++ rest) × IsReply reply body
-IsOutcome bytes (Fails refusal) = (front rest : List ℕ) × (bytes ≡ front ++ rest) × IsRefused front refusal
-IsOutcome bytes Ends = IsCut bytes
+IsOutcome bytes (Fails refusal) = (front rest : List ℕ) × (bytes ≡ front ++ rest) × IsRefusedReply front refusal
+IsOutcome bytes Ends = IsCutReply bytes

@@ -42,17 +42,17 @@ phrase_of status.NotImplemented = codes "Not Implemented"
 phrase_of status.ServiceUnavailable = codes "Service Unavailable"
 
 -- the status of a refusal
-abbrev pub status_of : Refusal → Status
-status_of refusal.BadRequest = status.BadRequest
-status_of refusal.LengthRequired = status.LengthRequired
-status_of refusal.BodyTooLarge = status.PayloadTooLarge
-status_of refusal.HeadTooLarge = status.HeadTooLarge
-status_of refusal.TransferCoding = status.NotImplemented
+abbrev pub refusal_status : Refusal → Status
+refusal_status refusal.BadRequest = status.BadRequest
+refusal_status refusal.LengthRequired = status.LengthRequired
+refusal_status refusal.BodyTooLarge = status.PayloadTooLarge
+refusal_status refusal.HeadTooLarge = status.HeadTooLarge
+refusal_status refusal.TransferCoding = status.NotImplemented
 
 -- the title of a refusal
-abbrev pub title_of : Refusal → List ℕ
-title_of refusal.BadRequest = codes "bad request"
-title_of refusal.LengthRequired = codes "length required"
-title_of refusal.BodyTooLarge = codes "body too large"
-title_of refusal.HeadTooLarge = codes "head too large"
-title_of refusal.TransferCoding = codes "transfer coding"
+abbrev pub refusal_title : Refusal → List ℕ
+refusal_title refusal.BadRequest = codes "bad request"
+refusal_title refusal.LengthRequired = codes "length required"
+refusal_title refusal.BodyTooLarge = codes "body too large"
+refusal_title refusal.HeadTooLarge = codes "head too large"
+refusal_title refusal.TransferCoding = codes "transfer coding"

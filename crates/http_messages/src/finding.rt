@@ -1,6 +1,6 @@
 ghost use Rattle.std.specs.Prelude.{◌≡◌, ℕ, ◌≤◌, length, IfOk};
 ghost use Rattle.http_messages.specs.declared.request_grammar.TheConstants.{MAX_FIELDS};
-ghost use Rattle.http_messages.specs.inner.Searching.{IsSearched, IsFound, HasNoHead};
+ghost use Rattle.http_messages.specs.inner.Searching.{IsSearched, IsFoundFrame, HasNoHead};
 
 use crate::Refusal;
 use crate::frame::MAX_HEAD;
@@ -20,7 +20,7 @@ pub(crate) fn find_frame(
 ) -> Result<Found, NoMemory>
     requires searched { IsSearched bytes.now search.old }
     requires room { MAX_FIELDS ≤ length spans.now }
-    ensures found { IfOk result (IsFound max_body bytes.now) }
+    ensures found { IfOk result (IsFoundFrame max_body bytes.now) }
     ensures searched { IsSearched bytes.now search.new }
 {
     let Some(end) = search.find(bytes) else {
@@ -35,7 +35,7 @@ pub(crate) fn find_frame(
 /// The result if the bytes contain no complete head.
 fn without_head(bytes: &[u8]) -> Found
     requires { HasNoHead bytes.now }
-    ensures { (greatest : ℕ) → IsFound greatest bytes.now result }
+    ensures { (greatest : ℕ) → IsFoundFrame greatest bytes.now result }
 {
     if bytes.len() < MAX_HEAD {
         Found::More(0)

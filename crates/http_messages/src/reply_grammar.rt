@@ -1,7 +1,7 @@
 ghost use Rattle.std.specs.Prelude.{◌≡◌, ◌≤◌, None, length, IfSome};
 ghost use Rattle.http_messages.specs.declared.frame.TheConstants.{MAX_HEAD};
-ghost use Rattle.http_messages.specs.ReplyHeads.{IsUnreadable};
-ghost use Rattle.http_messages.specs.inner.ReplyParsing.{IsParsed};
+ghost use Rattle.http_messages.specs.ReplyHeads.{IsUnreadableResponseHead};
+ghost use Rattle.http_messages.specs.inner.ReplyParsing.{IsParsedResponse};
 
 use httparse::Status;
 use httparse::spans::{HeaderSpan, ResponseSpans, parse_response};
@@ -13,8 +13,8 @@ pub(crate) const MAX_FIELDS: usize = 5461;
 pub(crate) fn parse(head: &[u8], spans: &mut [HeaderSpan]) -> Option<ResponseSpans>
     requires size { length head.now ≤ MAX_HEAD }
     requires room { MAX_FIELDS ≤ length spans.now }
-    ensures some { IfSome result (IsParsed head.now spans.new) }
-    ensures none { result ≡ None → IsUnreadable head.now }
+    ensures some { IfSome result (IsParsedResponse head.now spans.new) }
+    ensures none { result ≡ None → IsUnreadableResponseHead head.now }
 {
     match parse_response(head, spans) {
         Ok(Status::Complete(read)) => {

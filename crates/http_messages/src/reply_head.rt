@@ -1,7 +1,7 @@
 ghost use Rattle.std.specs.Prelude.{◌≡◌, ◌≤◌, length, map, IfOk};
 ghost use Rattle.http_messages.specs.Fields.{values_among};
-ghost use Rattle.http_messages.specs.ReplyHeads.{IsReadAs};
-ghost use Rattle.http_messages.specs.inner.ReplyParsing.{IsParsed};
+ghost use Rattle.http_messages.specs.ReplyHeads.{IsResponseHeadReadAs};
+ghost use Rattle.http_messages.specs.inner.ReplyParsing.{IsParsedResponse};
 
 use crate::same_name;
 use flow_values::NoMemory;
@@ -20,9 +20,9 @@ pub(crate) struct Head<'a> {
 impl<'a> Model for Head<'a> {
     ghost use Rattle.std.specs.Prelude.{map, length, All};
     ghost use Rattle.httparse.specs.Spans.{header_bytes, IsHeaderWithin};
-    ghost use Rattle.http_messages.specs.ReplyHeads.{HeadParts};
+    ghost use Rattle.http_messages.specs.ReplyHeads.{ReplyHeadParts};
 
-    ghost Value = { HeadParts };
+    ghost Value = { ReplyHeadParts };
 
     ghost view = { λ head. record {
       status = head.status;
@@ -35,8 +35,8 @@ impl<'a> Model for Head<'a> {
 impl<'a> Head<'a> {
     /// The head with these spans.
     pub(crate) fn new(bytes: &'a [u8], spans: &'a [HeaderSpan], read: ResponseSpans) -> Head<'a>
-        requires { IsParsed bytes.now spans.now read }
-        ensures { IsReadAs bytes.now result }
+        requires { IsParsedResponse bytes.now spans.now read }
+        ensures { IsResponseHeadReadAs bytes.now result }
     {
         Head {
             bytes,

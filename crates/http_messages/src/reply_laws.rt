@@ -2,7 +2,8 @@
 
 ghost use Rattle.std.specs.Prelude.{◌≡◌, ◌≢◌, ◌++◌, ℕ, List, []};
 ghost use Rattle.http_messages.specs.declared.reply_refusal.HeadRefusal.{HeadRefusal};
-ghost use Rattle.http_messages.specs.Replies.{Outcome, IsOutcome, IsReply, IsRefused, IsCut};
+ghost use Rattle.http_messages.specs.Replies.{Outcome, IsOutcome, IsReply, IsRefusedReply};
+ghost use Rattle.http_messages.specs.Replies.{IsCutReply};
 ghost use Rattle.http_messages.specs.Replies.{IsNeeded};
 
 /// The outcome of a byte string is unique.
@@ -20,8 +21,8 @@ pub fn later_bytes_change_nothing()
 /// The empty string is an incomplete response, and no proper prefix of a response or of a refused
 /// head decides it. So a reader consumes no byte too many.
 pub fn all_are_needed()
-    ensures none { IsCut [] }
+    ensures none { IsCutReply [] }
     ensures reply { (reply body : List ℕ) → IsReply reply body → IsNeeded reply }
-    ensures refused { (bytes : List ℕ) (refusal : HeadRefusal) → IsRefused bytes refusal
+    ensures refused { (bytes : List ℕ) (refusal : HeadRefusal) → IsRefusedReply bytes refusal
         → IsNeeded bytes }
 {}

@@ -3,9 +3,9 @@ ghost use Rattle.std.specs.Str.{IsUtf8};
 ghost use Rattle.http_messages.specs.Fields.{has_bad_host, has_bad_text, has_bad_text_in};
 ghost use Rattle.http_messages.specs.Fields.{has_coding, has_bad_length, lacks_length, body_length};
 ghost use Rattle.http_messages.specs.Fields.{closes};
-ghost use Rattle.http_messages.specs.Frames.{HoldsHead, refusal_of, request_of};
+ghost use Rattle.http_messages.specs.Frames.{HoldsHead, head_refusal, framed_request};
 ghost use Rattle.http_messages.specs.declared.request_grammar.TheConstants.{MAX_FIELDS};
-ghost use Rattle.http_messages.specs.inner.Searching.{IsFound};
+ghost use Rattle.http_messages.specs.inner.Searching.{IsFoundFrame};
 
 use crate::buffer::Buffer;
 use crate::close::any_asks_to_close;
@@ -44,7 +44,7 @@ pub(crate) fn check(
 ) -> Result<Found, NoMemory>
     requires head { HoldsHead bytes.now start end }
     requires room { MAX_FIELDS ≤ length spans.now }
-    ensures { IfOk result (IsFound max_body bytes.now) }
+    ensures { IfOk result (IsFoundFrame max_body bytes.now) }
 {
     let head = &bytes[start..end];
     let Some(read) = parse(head, spans) else {
@@ -69,7 +69,7 @@ pub(crate) fn check(
 impl<'a> Head<'a> {
     /// The first reason to refuse the head, if any.
     fn refusal(&self, alloc: Global, max_body: u64) -> Result<Option<Refusal>, NoMemory>
-        ensures { IfOk result (λ refusal. refusal ≡ refusal_of max_body self.now) }
+        ensures { IfOk result (λ refusal. refusal ≡ head_refusal max_body self.now) }
     {
         if self.has_bad_host(alloc)? {
             return Ok(Some(Refusal::BadRequest));
@@ -96,7 +96,7 @@ impl<'a> Head<'a> {
     fn request(&self, alloc: Global) -> Result<Request, NoMemory>
         requires target { IsUtf8 self.now.target }
         requires texts { has_bad_text self.now ≡ false }
-        ensures { IfOk result (λ request. request ≡ request_of self.now []) }
+        ensures { IfOk result (λ request. request ≡ framed_request self.now []) }
     {
         let close = self.closes(alloc)?;
         let accept = joined(alloc, &self.values(alloc, b"accept")?)?;

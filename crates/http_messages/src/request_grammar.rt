@@ -2,8 +2,8 @@ ghost use Rattle.std.specs.Prelude.{◌≡◌, ◌≤◌, [], None, length, IfSo
 ghost use Rattle.httparse.specs.Grammar.{RequestHead, ReadsRequest};
 ghost use Rattle.httparse.specs.Spans.{IsRequestWithin};
 ghost use Rattle.http_messages.specs.declared.frame.TheConstants.{MAX_HEAD};
-ghost use Rattle.http_messages.specs.Frames.{IsUnreadable};
-ghost use Rattle.http_messages.specs.inner.RequestParsing.{IsParsed};
+ghost use Rattle.http_messages.specs.Frames.{IsUnreadableRequestHead};
+ghost use Rattle.http_messages.specs.inner.RequestParsing.{IsParsedRequest};
 
 use httparse::Status;
 use httparse::spans::{HeaderSpan, RequestSpans, parse_request};
@@ -15,8 +15,8 @@ pub(crate) const MAX_FIELDS: usize = 5461;
 pub(crate) fn parse(head: &[u8], spans: &mut [HeaderSpan]) -> Option<RequestSpans>
     requires size { length head.now ≤ MAX_HEAD }
     requires room { MAX_FIELDS ≤ length spans.now }
-    ensures some { IfSome result (IsParsed head.now spans.new) }
-    ensures none { result ≡ None → IsUnreadable head.now }
+    ensures some { IfSome result (IsParsedRequest head.now spans.new) }
+    ensures none { result ≡ None → IsUnreadableRequestHead head.now }
 {
     match parse_request(head, spans) {
         Ok(Status::Complete(read)) => {

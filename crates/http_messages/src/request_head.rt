@@ -1,7 +1,7 @@
 ghost use Rattle.std.specs.Prelude.{◌≡◌, ◌≤◌, length, map, IfOk};
 ghost use Rattle.http_messages.specs.Fields.{values};
-ghost use Rattle.http_messages.specs.Frames.{IsReadAs};
-ghost use Rattle.http_messages.specs.inner.RequestParsing.{IsParsed};
+ghost use Rattle.http_messages.specs.Frames.{IsRequestHeadReadAs};
+ghost use Rattle.http_messages.specs.inner.RequestParsing.{IsParsedRequest};
 
 use crate::ascii::same_name;
 use flow_values::NoMemory;
@@ -39,8 +39,8 @@ impl<'a> Model for Head<'a> {
 impl<'a> Head<'a> {
     /// The head with these spans.
     pub(crate) fn new(bytes: &'a [u8], spans: &'a [HeaderSpan], read: RequestSpans) -> Head<'a>
-        requires { IsParsed bytes.now spans.now read }
-        ensures { IsReadAs bytes.now result }
+        requires { IsParsedRequest bytes.now spans.now read }
+        ensures { IsRequestHeadReadAs bytes.now result }
     {
         Head {
             bytes,

@@ -1,5 +1,5 @@
 ghost use Rattle.std.specs.Prelude.{◌≡◌};
-ghost use Rattle.http_messages.specs.Statuses.{status_of, title_of};
+ghost use Rattle.http_messages.specs.Statuses.{refusal_status, refusal_title};
 
 use crate::Status;
 use std::fmt;
@@ -22,7 +22,7 @@ pub enum Refusal {
 impl Refusal {
     /// The status of the error response.
     pub fn status(self) -> Status
-        ensures { result ≡ status_of self }
+        ensures { result ≡ refusal_status self }
     {
         match self {
             Refusal::BadRequest => Status::BadRequest,
@@ -35,7 +35,7 @@ impl Refusal {
 
     /// The title in the error response.
     pub fn title(self) -> &'static str
-        ensures { result.now ≡ title_of self }
+        ensures { result.now ≡ refusal_title self }
     {
         match self {
             Refusal::BadRequest => "bad request",

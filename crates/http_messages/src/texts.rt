@@ -1,7 +1,7 @@
 ghost use Rattle.std.specs.Prelude.{◌≡◌, true, map, IfOk};
 ghost use Rattle.std.specs.List.{list_all};
 ghost use Rattle.std.specs.Str.{is_utf8};
-ghost use Rattle.http_messages.specs.Fields.{joined, first_of};
+ghost use Rattle.http_messages.specs.Fields.{joined_values, first_field_value};
 
 use flow_values::{NoMemory, Text};
 use std::alloc::Global;
@@ -35,7 +35,7 @@ pub(crate) fn text_of(value: &[u8]) -> &str
 /// The values joined by `, ` (RFC 9110, section 5.3), or `None` if there are none.
 pub(crate) fn joined(alloc: Global, values: &[&[u8]]) -> Result<Option<Text>, NoMemory>
     requires { list_all (λ value. is_utf8 value.now) values.now ≡ true }
-    ensures { IfOk result (λ text. text ≡ joined (map (λ value. value.now) values.now)) }
+    ensures { IfOk result (λ text. text ≡ joined_values (map (λ value. value.now) values.now)) }
 {
     let Some((first, others)) = values.split_first() else {
         return Ok(None);
@@ -51,7 +51,7 @@ pub(crate) fn joined(alloc: Global, values: &[&[u8]]) -> Result<Option<Text>, No
 /// The first value as text, if any.
 pub(crate) fn first_text(alloc: Global, values: &[&[u8]]) -> Result<Option<Text>, NoMemory>
     requires { list_all (λ value. is_utf8 value.now) values.now ≡ true }
-    ensures { IfOk result (λ text. text ≡ first_of (map (λ value. value.now) values.now)) }
+    ensures { IfOk result (λ text. text ≡ first_field_value (map (λ value. value.now) values.now)) }
 {
     match values.first() {
         Some(value) => {

@@ -8,10 +8,10 @@ use Rattle.match_bindings.specs.BindTree.{BindTree, has, greatest}
 use Rattle.match_bindings.specs.Log.{Observed, IsInOrder, observed_in, truth}
 use Rattle.match_bindings.specs.Span.{earliest, latest}
 use Rattle.match_bindings.specs.Test.{is_binding}
-use Rattle.match_bindings.specs.Once.{same, count}
+use Rattle.match_bindings.specs.Once.{is_same_tree, count}
 use Rattle.match_bindings.proofs.OnceLemmas.{same_self}
-use Rattle.match_pruning.specs.Stores.{Part, a_side, a_level, Store, stores_of}
-use Rattle.match_pruning.specs.PartialMatchTree.{PartialMatchTree, hold}
+use Rattle.match_pruning.specs.Stores.{StorePart, a_side, a_level, Store, stores_of}
+use Rattle.match_pruning.specs.PartialMatchTree.{PartialMatchTree, partial_match_of}
 use Rattle.match_stream.specs.RetainedPart.{MayHold, HoldsRetained, AreRetained, time_of, held_count}
 use Rattle.match_stream.specs.Answer.{IsAnswer, IsWithinLimit}
 use Rattle.match_stream.specs.Passing.{IsNonmatching}
@@ -32,7 +32,7 @@ holds_none rule o now store none = record {
   each_once = λ x retained. absurd (no store.part x retained.0);
   no_other = λ x _. refl;
 } where
-  no : (part : Part) (x : BindTree) → MayHold o part x → ⊥
+  no : (part : StorePart) (x : BindTree) → MayHold o part x → ⊥
   no (a_side p) x m = let yes_it_is : is_binding o p x ≡ true = (rule o p x).1 m in let it_isnt = none p x in cc
   no (a_level p j) x m = let yes_it_is : is_binding o (Repeats p j) x ≡ true = (rule o (Repeats p j) x).1 m in let it_isnt = none (Repeats p j) x in cc
 
@@ -128,12 +128,12 @@ nonmatching_answer rule p log r nonmatching = record {
 map_same : (f g : BindTree → PartialMatchTree) (xs : List BindTree) → ((x : BindTree) → 0 < count x xs → f x ≡ g x) → map f xs ≡ map g xs
 map_same f g [] h = refl
 map_same f g (x ∷ xs) h =
-    let me : same x x ≡ true = same_self x in
+    let me : is_same_tree x x ≡ true = same_self x in
     let one : f x ≡ g x = h x (rw me (omega arith)) in
     let rest : map f xs ≡ map g xs = map_same f g xs (λ y k. h y (omega (arith, k))) in
     cc
 
-same_hold : (o o' : Observed) (x : BindTree) → SameTimes o o' x → hold o x ≡ hold o' x
+same_hold : (o o' : Observed) (x : BindTree) → SameTimes o o' x → partial_match_of o x ≡ partial_match_of o' x
 same_hold o o' x e = ap (λ z. record { tree = x; earliest = z; latest = latest o.last x }) e.0 ∙ ap (λ z. record { tree = x; earliest = earliest o'.first x; latest = z }) e.1
 
 one_bits : (p c c' : Bool) → (p ≡ true → c ≡ c') → (p && c) ≡ (p && c')
@@ -144,12 +144,12 @@ drop_bits : (b h l : Bool) → (b ≡ true → h ≡ false) → ((b && l) && not
 drop_bits false h l k = refl
 drop_bits true h l k = rw (k refl) (sym (and_is l))
 
--- what a store may hold are the bindings of a pattern
-abbrev part_pattern : Part → NumberedPattern
+-- what a store may partial_match_of are the bindings of a pattern
+abbrev part_pattern : StorePart → NumberedPattern
 part_pattern (a_side p) = p
 part_pattern (a_level p j) = Repeats p j
 
-may_is : (o : Observed) (part : Part) (x : BindTree) → may_hold o part x ≡ is_binding o (part_pattern part) x
+may_is : (o : Observed) (part : StorePart) (x : BindTree) → may_hold o part x ≡ is_binding o (part_pattern part) x
 may_is o (a_side p) x = refl
 may_is o (a_level p j) x = refl
 
@@ -187,7 +187,7 @@ module _ (rule : Rule) (log : List LogEntry) (r : LogEntry) (nonmatching : IsNon
   longer : (matching : List PartialMatchTree) → AreHeld o (λ x. may_hold o store.part x && early x) matching → AreHeld o' (λ x. (is_binding o' q x && not (has n x)) && early' x) matching
   longer matching (xs, is, each) = (
     xs,
-    is ∙ map_same (hold o) (hold o') xs (λ x k. same_hold o o' x (may_times x (and_parts _ _ (bit_positive (may_hold o store.part x && early x) (count x xs) (each x) k)).0)),
+    is ∙ map_same (partial_match_of o) (partial_match_of o') xs (λ x k. same_hold o o' x (may_times x (and_parts _ _ (bit_positive (may_hold o store.part x && early x) (count x xs) (each x) k)).0)),
     exactly_same (λ x. may_hold o store.part x && early x) (λ x. (is_binding o' q x && not (has n x)) && early' x) xs same_bits each,
   )
 

@@ -12,7 +12,7 @@ use Rattle.hunt_index.specs.Candidates.{AreCandidates}
 use Rattle.hunt_index.specs.Definite.{IsDefinite}
 use Rattle.hunt_engine.specs.Memo.{AreHeld, IsSoundMemo}
 use Rattle.hunt_engine.specs.inner.Memos.{InsertsEmpty, AddsPositions}
-use Rattle.hunt_engine.specs.inner.RootBatches.{IsMet, IsCertain, AreCertain, IsRootBatch, AddsMatching}
+use Rattle.hunt_engine.specs.inner.RootBatches.{IsMetBracket, IsCertain, AreCertain, IsRootBatch, AddsMatching}
 use Rattle.hunt_engine.proofs.MemoLemmas.{adds_none, adds_both, adds_same}
 use Rattle.hunt_engine.proofs.EvaluateLemmas.{at_one}
 
@@ -84,7 +84,7 @@ root_batch_more objects brackets roots pairs root positions far are = record {
   all = λ other position has met. all other position met ((in_more roots root other).0 has);
   certain = λ position other bracket has is exact. certain position other bracket is exact ((in_both pairs (with_root root positions) (position, other)).0 has);
 } where
-  all : (other position : ℕ) → IsMet objects brackets other position → Contains roots other ⊎ (other ≡ root) → Contains (pairs ++ with_root root positions) (position, other)
+  all : (other position : ℕ) → IsMetBracket objects brackets other position → Contains roots other ⊎ (other ≡ root) → Contains (pairs ++ with_root root positions) (position, other)
   all other position met (inl has) = (in_both pairs (with_root root positions) (position, other)).1 (inl (far.all other position has met))
   all other position met (inr same) =
       let there = are.all position met.0 met.1 (root, item_in root, subst (λ (r : ℕ). HoldsAt objects r met.0) same met.2) in
@@ -108,21 +108,21 @@ root_batch_moved objects brackets roots pairs moved same root_batch = record {
 -- ---- one bracket
 
 module _ (objects : List Data) (brackets : List PlainLeaf) (position : ℕ) (roots : List ℕ) (bracket : PlainLeaf) (is : slice_get brackets position ≡ Some bracket) (old new : List (Option (List ℕ))) where
-  holds_here : (root : ℕ) → IsMet objects brackets root position → HoldsAt objects root bracket
+  holds_here : (root : ℕ) → IsMetBracket objects brackets root position → HoldsAt objects root bracket
   holds_here root (own, own_is, met) = let same : own ≡ bracket = cc in subst (λ (b : PlainLeaf). HoldsAt objects root b) same met
 
   -- one that is exact holds at all of its roots
   pub met_certain : IsCertain objects brackets position roots → IsDefinite bracket → AddsPositions (λ (root added : ℕ). (added ≡ position) × Contains roots root) old new
-      → AddsPositions (λ (root added : ℕ). (added ≡ position) × Contains roots root × IsMet objects brackets root position) old new
+      → AddsPositions (λ (root added : ℕ). (added ≡ position) × Contains roots root × IsMetBracket objects brackets root position) old new
   met_certain certain exact adds =
-      adds_same (λ (root added : ℕ). (added ≡ position) × Contains roots root) (λ (root added : ℕ). (added ≡ position) × Contains roots root × IsMet objects brackets root position) old new
+      adds_same (λ (root added : ℕ). (added ≡ position) × Contains roots root) (λ (root added : ℕ). (added ≡ position) × Contains roots root × IsMetBracket objects brackets root position) old new
       (λ root added. (λ it. (it.0, it.1, (bracket, is, certain root bracket it.1 is exact)), λ it. (it.0, it.1))) adds
 
   -- another one at those at which it was found to hold
   pub met_asked : (matching : List ℕ) → ((root : ℕ) → Contains matching root ↔ (Contains roots root × HoldsAt objects root bracket)) → AddsPositions (λ (root added : ℕ). (added ≡ position) × Contains matching root) old new
-      → AddsPositions (λ (root added : ℕ). (added ≡ position) × Contains roots root × IsMet objects brackets root position) old new
+      → AddsPositions (λ (root added : ℕ). (added ≡ position) × Contains roots root × IsMetBracket objects brackets root position) old new
   met_asked matching are adds =
-      adds_same (λ (root added : ℕ). (added ≡ position) × Contains matching root) (λ (root added : ℕ). (added ≡ position) × Contains roots root × IsMet objects brackets root position) old new
+      adds_same (λ (root added : ℕ). (added ≡ position) × Contains matching root) (λ (root added : ℕ). (added ≡ position) × Contains roots root × IsMetBracket objects brackets root position) old new
       (λ root added. (
         λ it. let own = (are root).0 it.1 in (it.0, own.0, (bracket, is, own.1)),
         λ it. (it.0, (are root).1 (it.1, holds_here root it.2)),
@@ -141,33 +141,33 @@ module _ (objects : List Data) (brackets : List PlainLeaf) where
   asked_none own roots memo none = record {
     asked = [];
     pairs_are = ap (with_position own) (sym none);
-    adds = adds_none (λ (root position : ℕ). Contains [] (position, root) × IsMet objects brackets root position) memo (λ root position it. absurd (none_in (position, root) it.0));
+    adds = adds_none (λ (root position : ℕ). Contains [] (position, root) × IsMetBracket objects brackets root position) memo (λ root position it. absurd (none_in (position, root) it.0));
   }
 
   -- the bracket at a position is asked
   pub adds_more : (asked : List (ℕ × ℕ)) (own : ℕ) (roots : List ℕ) (old mid new : List (Option (List ℕ))) → AddsMatching objects brackets asked old mid
-      → AddsPositions (λ (root position : ℕ). (position ≡ own) × Contains roots root × IsMet objects brackets root own) mid new
+      → AddsPositions (λ (root position : ℕ). (position ≡ own) × Contains roots root × IsMetBracket objects brackets root own) mid new
       → AddsMatching objects brackets (asked ++ with_position own roots) old new
   adds_more asked own roots old mid new far adds =
-      adds_both (λ (root position : ℕ). Contains asked (position, root) × IsMet objects brackets root position) (λ (root position : ℕ). (position ≡ own) × Contains roots root × IsMet objects brackets root own)
-      (λ (root position : ℕ). Contains (asked ++ with_position own roots) (position, root) × IsMet objects brackets root position) old mid new far adds
+      adds_both (λ (root position : ℕ). Contains asked (position, root) × IsMetBracket objects brackets root position) (λ (root position : ℕ). (position ≡ own) × Contains roots root × IsMetBracket objects brackets root own)
+      (λ (root position : ℕ). Contains (asked ++ with_position own roots) (position, root) × IsMetBracket objects brackets root position) old mid new far adds
       (λ root position. (
         λ both. elim ((in_both asked (with_position own roots) (position, root)).0 both.0) [
           | inl has ↦ inl (has, both.1)
-          | inr has ↦ let it = (in_with_position own roots position root).0 has in inr (it.0, it.1, subst (IsMet objects brackets root) it.0 both.1)
+          | inr has ↦ let it = (in_with_position own roots position root).0 has in inr (it.0, it.1, subst (IsMetBracket objects brackets root) it.0 both.1)
         ],
         λ some. elim some [
           | inl before ↦ ((in_both asked (with_position own roots) (position, root)).1 (inl before.0), before.1)
           | inr now ↦ (
             (in_both asked (with_position own roots) (position, root)).1 (inr ((in_with_position own roots position root).1 (now.0, now.1))),
-            subst (IsMet objects brackets root) (sym now.0) now.2,
+            subst (IsMetBracket objects brackets root) (sym now.0) now.2,
           )
         ],
       ))
 
   -- the next pair is of another bracket
   asks_other : (pairs : List (ℕ × ℕ)) (own : ℕ) (roots : List ℕ) (old mid new : List (Option (List ℕ))) (position root : ℕ) → AskedSoFar objects brackets pairs own roots old mid
-      → AddsPositions (λ (root position : ℕ). (position ≡ own) × Contains roots root × IsMet objects brackets root own) mid new
+      → AddsPositions (λ (root position : ℕ). (position ≡ own) × Contains roots root × IsMetBracket objects brackets root own) mid new
       → AskedSoFar objects brackets (pairs ++ (position, root) ∷ []) position (root ∷ []) old new
   asks_other pairs own roots old mid new position root far adds = record {
     asked = pairs;
@@ -187,7 +187,7 @@ module _ (objects : List Data) (brackets : List PlainLeaf) where
   -- so of the pair at a position of all
   module _ (pairs : List (ℕ × ℕ)) (i own : ℕ) (roots : List ℕ) (old : List (Option (List ℕ))) (below : i < length pairs) (next : ℕ) (next_roots : List ℕ) where
     pub next_other : (mid new : List (Option (List ℕ))) → AskedSoFar objects brackets (take i pairs) own roots old mid
-        → AddsPositions (λ (root position : ℕ). (position ≡ own) × Contains roots root × IsMet objects brackets root own) mid new
+        → AddsPositions (λ (root position : ℕ). (position ≡ own) × Contains roots root × IsMetBracket objects brackets root own) mid new
         → next ≡ (get_or pairs i (0, 0)).0 → next_roots ≡ (get_or pairs i (0, 0)).1 ∷ [] → AskedSoFar objects brackets (take (i + 1) pairs) next next_roots old new
     next_other mid new far adds next_is roots_are =
         let pair = get_or pairs i (0, 0) in
@@ -215,12 +215,12 @@ module _ (objects : List Data) (brackets : List PlainLeaf) where
 
   -- ---- what is known then
 
-  met_is : (root position : ℕ) (bracket : PlainLeaf) → slice_get brackets position ≡ Some bracket → IsMet objects brackets root position → HoldsAt objects root bracket
+  met_is : (root position : ℕ) (bracket : PlainLeaf) → slice_get brackets position ≡ Some bracket → IsMetBracket objects brackets root position → HoldsAt objects root bracket
   met_is root position bracket is (own, own_is, holds) = let same : own ≡ bracket = cc in subst (λ (b : PlainLeaf). HoldsAt objects root b) same holds
 
   -- of a root that was known already
   matching_still : (root : ℕ) (before after : List ℕ) (IsAsked : ℕ → Type 0) → AreHeld objects brackets root before
-      → ((position : ℕ) → Contains after position ↔ (Contains before position ⊎ (IsAsked position × IsMet objects brackets root position))) → AreHeld objects brackets root after
+      → ((position : ℕ) → Contains after position ↔ (Contains before position ⊎ (IsAsked position × IsMetBracket objects brackets root position))) → AreHeld objects brackets root after
   matching_still root before after IsAsked matching are = record {
     there = λ k d h. let has = Contains-get_or after k d h in elim ((are (get_or after k d)).0 has) [
       | inl it ↦ subst (λ (position : ℕ). position < length brackets) it.2 (matching.there it.0 (get_or after k d) it.1)
@@ -236,8 +236,8 @@ module _ (objects : List Data) (brackets : List PlainLeaf) where
   }
 
   -- and of one that is new
-  matching_new : (root : ℕ) (after : List ℕ) (pairs : List (ℕ × ℕ)) → ((position : ℕ) → IsMet objects brackets root position → Contains pairs (position, root))
-      → ((position : ℕ) → Contains after position ↔ (Contains [] position ⊎ (Contains pairs (position, root) × IsMet objects brackets root position))) → AreHeld objects brackets root after
+  matching_new : (root : ℕ) (after : List ℕ) (pairs : List (ℕ × ℕ)) → ((position : ℕ) → IsMetBracket objects brackets root position → Contains pairs (position, root))
+      → ((position : ℕ) → Contains after position ↔ (Contains [] position ⊎ (Contains pairs (position, root) × IsMetBracket objects brackets root position))) → AreHeld objects brackets root after
   matching_new root after pairs all are = record {
     there = λ k d h. let has = Contains-get_or after k d h in elim ((are (get_or after k d)).0 has) [
       | inl it ↦ absurd (none_in (get_or after k d) it)
@@ -248,7 +248,7 @@ module _ (objects : List Data) (brackets : List PlainLeaf) where
         | inl it ↦ absurd (none_in position it)
         | inr it ↦ met_is root position bracket is it.1
       ],
-      λ holds. let met : IsMet objects brackets root position = (bracket, is, holds) in (are position).1 (inr (all position met, met)),
+      λ holds. let met : IsMetBracket objects brackets root position = (bracket, is, holds) in (are position).1 (inr (all position met, met)),
     );
   }
 
@@ -259,5 +259,5 @@ module _ (objects : List Data) (brackets : List PlainLeaf) where
       elim (opens.no_other root it.0 it.1) [
         | inl before ↦ matching_still root it.0 after (λ (position : ℕ). Contains pairs (position, root)) (right root it.0 before) it.2
         | inr (has, none) ↦ matching_new root after pairs (λ position met. root_batch.all root position has met)
-            (subst (λ (l : List ℕ). (position : ℕ) → Contains after position ↔ (Contains l position ⊎ (Contains pairs (position, root) × IsMet objects brackets root position))) none it.2)
+            (subst (λ (l : List ℕ). (position : ℕ) → Contains after position ↔ (Contains l position ⊎ (Contains pairs (position, root) × IsMetBracket objects brackets root position))) none it.2)
       ]

@@ -18,11 +18,11 @@ use Rattle.serde_json.specs.Data.{Data}
 use Rattle.hunt_engine.specs.declared.found.Hit.{Hit}
 use Rattle.hunt_engine.specs.declared.next_row.NextRow.{NextRow}
 use Rattle.hunt_engine.specs.declared.brackets.BracketRange.{BracketRange}
-use Rattle.hunt_engine.specs.EngineLog.{Row, IsEntry, IsLogOf, last_of_rows}
+use Rattle.hunt_engine.specs.EngineLog.{ObservationRow, IsEntry, IsLogOf, last_of_rows}
 use Rattle.hunt_engine.specs.LazyMatcherState.{LazyMatcherState, Follows}
 use Rattle.hunt_engine.specs.EngineState.{EngineState, FollowsRows, EngineRepresents}
 use Rattle.hunt_engine.specs.EngineAnswer.{binds_at, ReportsRow, IsFirstOverLimit}
-use Rattle.hunt_engine.specs.inner.Following.{EndsAt, TakesRow, log_with, Continues}
+use Rattle.hunt_engine.specs.inner.Following.{EndsLogAt, FollowsLastRow, log_with, ContinuesRows}
 use Rattle.hunt_engine.specs.inner.Table.{part_of, IsTable}
 use Rattle.hunt_engine.specs.inner.Evaluation.{IsEvaluated}
 use Rattle.hunt_feed.specs.Indicators.{IsAscending}
@@ -64,20 +64,20 @@ stands_before xs i k m n ascend at_i at_k less = elim (cases_order i k) [ inl sa
 -- ---- one lazy matcher
 
 -- what is given at a row: the lazy matchers followed the rows before it, were swept, and the brackets were judged
-pub record AtRow (patterns : List Pattern) (retained_limit : ℕ) (rows : List Row) (r : Row) (row : NextRow) (leaves : List PlainLeaf) (owners : List ℕ) (bracket_ranges : List BracketRange) (marks : List Bool) (affected : List ℕ) (old swept : List LazyMatcherState) : Type 0 where
+pub record AtRow (patterns : List Pattern) (retained_limit : ℕ) (rows : List ObservationRow) (r : ObservationRow) (row : NextRow) (leaves : List PlainLeaf) (owners : List ℕ) (bracket_ranges : List BracketRange) (marks : List Bool) (affected : List ℕ) (old swept : List LazyMatcherState) : Type 0 where
   pub each : (position : ℕ) (p : Pattern) (lazy_matcher : LazyMatcherState) → slice_get patterns position ≡ Some p → slice_get old position ≡ Some lazy_matcher → FollowsRows p retained_limit rows lazy_matcher
   pub count : length old ≡ length patterns
   pub rows_are : row.rows ≡ length rows
   pub before_is : row.before ≡ last_of_rows rows
   pub first_is : row.first ≡ r.observation.first
   pub last_is : row.last ≡ r.observation.last
-  pub goes : Continues row
+  pub goes : ContinuesRows row
   pub still : StillFollow retained_limit row.rows row.before old swept
   pub table : IsTable (map plain_pattern patterns) leaves owners bracket_ranges
   pub evaluated : IsEvaluated r.objects r.observation.roots leaves owners marks affected
 
 -- a log that was followed to the row before
-pub record Before (p : Pattern) (retained_limit : ℕ) (rows : List Row) (row : NextRow) (bracket_ranges : List BracketRange) (swept : List LazyMatcherState) (position : ℕ) : Type 0 where
+pub record Before (p : Pattern) (retained_limit : ℕ) (rows : List ObservationRow) (row : NextRow) (bracket_ranges : List BracketRange) (swept : List LazyMatcherState) (position : ℕ) : Type 0 where
   pub bracket_range : BracketRange
   pub stretch_is : slice_get bracket_ranges position ≡ Some bracket_range
   pub before : LazyMatcherState
@@ -85,9 +85,9 @@ pub record Before (p : Pattern) (retained_limit : ℕ) (rows : List Row) (row : 
   pub log : List LogEntry
   pub is_log : IsLogOf (plain_pattern p) rows log
   pub follows : Follows p retained_limit log before
-  pub ends : EndsAt log row.rows row.before
+  pub ends : EndsLogAt log row.rows row.before
 
-module _ (rule : Rule) (patterns : List Pattern) (retained_limit : ℕ) (rows : List Row) (r : Row) (row : NextRow) (leaves : List PlainLeaf) (owners : List ℕ) (bracket_ranges : List BracketRange) (marks : List Bool) (affected : List ℕ) (old swept : List LazyMatcherState)
+module _ (rule : Rule) (patterns : List Pattern) (retained_limit : ℕ) (rows : List ObservationRow) (r : ObservationRow) (row : NextRow) (leaves : List PlainLeaf) (owners : List ℕ) (bracket_ranges : List BracketRange) (marks : List Bool) (affected : List ℕ) (old swept : List LazyMatcherState)
     (at : AtRow patterns retained_limit rows r row leaves owners bracket_ranges marks affected old swept) where
   abbrev entry_of : BracketRange → LogEntry
   entry_of bracket_range = record { first = row.first; last = row.last; truths = part_of bracket_range marks }
@@ -109,7 +109,7 @@ module _ (rule : Rule) (patterns : List Pattern) (retained_limit : ℕ) (rows : 
       let told = at.table.told in
       let bracket_range = there bracket_ranges position (let l = length-map patterns plain_pattern in omega (arith, inside, told, l)) in
       let follows = at.each position p first.0 of_p first.1 in
-      let ends : EndsAt follows.0 row.rows row.before = record {
+      let ends : EndsLogAt follows.0 row.rows row.before = record {
         rows_are = log_length (plain_pattern p) rows follows.0 follows.1 ∙ sym at.rows_are;
         last_is = log_last (plain_pattern p) rows follows.0 follows.1 ∙ sym at.before_is;
       } in
@@ -132,7 +132,7 @@ module _ (rule : Rule) (patterns : List Pattern) (retained_limit : ℕ) (rows : 
   -- each pattern's log with the row
   settle_from : (i : ℕ) (new : List LazyMatcherState) (found : List Hit) → TookSome row retained_limit bracket_ranges marks affected i swept new found →
       (position : ℕ) (p : Pattern) (b : Before p retained_limit rows row bracket_ranges swept position) → ((k : ℕ) → slice_get affected k ≡ Some position → k < i) →
-      (after : LazyMatcherState) → slice_get new position ≡ Some after → Stands affected position → TakesRow p retained_limit (log_with row (part_of b.bracket_range marks) b.log) after (binds_at position found)
+      (after : LazyMatcherState) → slice_get new position ≡ Some after → Stands affected position → FollowsLastRow p retained_limit (log_with row (part_of b.bracket_range marks) b.log) after (binds_at position found)
   settle_from i new found took position p b reach after of_after (inl (k, is)) = took.took k position b.bracket_range b.before after (reach k is) is b.stretch_is b.before_is of_after p b.log b.follows b.ends
   settle_from i new found took position p b reach after of_after (inr none) =
       let others = took.others position (λ k h is. none k is) in
@@ -148,7 +148,7 @@ module _ (rule : Rule) (patterns : List Pattern) (retained_limit : ℕ) (rows : 
   settle : (i : ℕ) (new : List LazyMatcherState) (found : List Hit) → TookSome row retained_limit bracket_ranges marks affected i swept new found →
       (position : ℕ) (p : Pattern) → slice_get patterns position ≡ Some p → ((k : ℕ) → slice_get affected k ≡ Some position → k < i) →
       (after : LazyMatcherState) → slice_get new position ≡ Some after →
-      (log : List LogEntry) × IsLogOf (plain_pattern p) (rows ++ r ∷ []) log × TakesRow p retained_limit log after (binds_at position found)
+      (log : List LogEntry) × IsLogOf (plain_pattern p) (rows ++ r ∷ []) log × FollowsLastRow p retained_limit log after (binds_at position found)
   settle i new found took position p of_p reach after of_after =
       let b = before_at position p of_p in (
         log_with row (part_of b.bracket_range marks) b.log,
@@ -186,7 +186,7 @@ module _ (rule : Rule) (patterns : List Pattern) (retained_limit : ℕ) (rows : 
   -- all of them
   pub all_settle : (new : List LazyMatcherState) (found : List Hit) → TookSome row retained_limit bracket_ranges marks affected (length affected) swept new found →
       (position : ℕ) (p : Pattern) → slice_get patterns position ≡ Some p → (after : LazyMatcherState) → slice_get new position ≡ Some after →
-      (log : List LogEntry) × IsLogOf (plain_pattern p) (rows ++ r ∷ []) log × TakesRow p retained_limit log after (binds_at position found)
+      (log : List LogEntry) × IsLogOf (plain_pattern p) (rows ++ r ∷ []) log × FollowsLastRow p retained_limit log after (binds_at position found)
   all_settle new found took position p of_p after of_after =
       settle (length affected) new found took position p of_p (λ k is. slice_get_within affected k position is) after of_after
 
@@ -210,7 +210,7 @@ module _ (rule : Rule) (patterns : List Pattern) (retained_limit : ℕ) (rows : 
 -- ---- the engine's own words
 
 -- each lazy matcher of an engine follows some log of its rows
-pub all_follow : (state : EngineState) (rows : List Row) (row : NextRow) → EngineRepresents state rows → row.rows ≡ state.rows → row.before ≡ state.last → AllFollow state.retained_limit row state.lazy_matchers
+pub all_follow : (state : EngineState) (rows : List ObservationRow) (row : NextRow) → EngineRepresents state rows → row.rows ≡ state.rows → row.before ≡ state.last → AllFollow state.retained_limit row state.lazy_matchers
 all_follow state rows row st e f position lazy_matcher of_f =
     let inside = slice_get_within state.lazy_matchers position lazy_matcher of_f in let count = st.count in
     let p = there state.patterns position (omega (arith, inside, count)) in
@@ -240,8 +240,8 @@ affected_inside patterns leaves owners bracket_ranges objects roots marks affect
     let same = get_or_from_slice_get affected k t.0 d t.1 in omega (arith, v, same, e)
 
 -- what is given at a row
-pub at_row : (state : EngineState) (rows : List Row) (r : Row) (row : NextRow) (leaves : List PlainLeaf) (owners : List ℕ) (bracket_ranges : List BracketRange) (marks : List Bool) (affected : List ℕ) (swept : List LazyMatcherState) →
-    EngineRepresents state rows → row.rows ≡ state.rows → row.before ≡ state.last → row.first ≡ r.observation.first → row.last ≡ r.observation.last → Continues row →
+pub at_row : (state : EngineState) (rows : List ObservationRow) (r : ObservationRow) (row : NextRow) (leaves : List PlainLeaf) (owners : List ℕ) (bracket_ranges : List BracketRange) (marks : List Bool) (affected : List ℕ) (swept : List LazyMatcherState) →
+    EngineRepresents state rows → row.rows ≡ state.rows → row.before ≡ state.last → row.first ≡ r.observation.first → row.last ≡ r.observation.last → ContinuesRows row →
     StillFollow state.retained_limit row.rows row.before state.lazy_matchers swept → IsTable (map plain_pattern state.patterns) leaves owners bracket_ranges → IsEvaluated r.objects r.observation.roots leaves owners marks affected →
     AtRow state.patterns state.retained_limit rows r row leaves owners bracket_ranges marks affected state.lazy_matchers swept
 at_row state rows r row leaves owners bracket_ranges marks affected swept st e f g h goes still table evaluated = record {
@@ -258,7 +258,7 @@ at_row state rows r row leaves owners bracket_ranges marks affected swept st e f
 }
 
 -- the engine with the row
-pub stands_with : (state after : EngineState) (rows : List Row) (r : Row) → EngineRepresents state rows → after.ended ≡ false → after.rows ≡ state.rows + 1 → after.last ≡ Some r.observation.last →
+pub stands_with : (state after : EngineState) (rows : List ObservationRow) (r : ObservationRow) → EngineRepresents state rows → after.ended ≡ false → after.rows ≡ state.rows + 1 → after.last ≡ Some r.observation.last →
     length after.lazy_matchers ≡ length after.patterns →
     ((position : ℕ) (p : Pattern) (lazy_matcher : LazyMatcherState) → slice_get after.patterns position ≡ Some p → slice_get after.lazy_matchers position ≡ Some lazy_matcher → FollowsRows p after.retained_limit (rows ++ r ∷ []) lazy_matcher) →
     EngineRepresents after (rows ++ r ∷ [])

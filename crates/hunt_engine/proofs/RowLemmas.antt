@@ -6,16 +6,16 @@ use Rattle.pattern_types.specs.PlainPattern.{PlainPattern, a_leaf, a_both, an_ei
 use Rattle.match_comparisons.specs.Truths.{AreOfBoth, AreTruths}
 use Rattle.match_bindings.proofs.BoundsLemmas.{both_ways}
 use Rattle.match_bindings.specs.declared.log_entry.LogEntry.{LogEntry}
-use Rattle.match_stream.specs.MatcherState.{last_of}
-use Rattle.hunt_engine.specs.EngineLog.{Row, IsEntry, IsLogOf, last_of_rows}
+use Rattle.match_stream.specs.MatcherState.{log_end}
+use Rattle.hunt_engine.specs.EngineLog.{ObservationRow, IsEntry, IsLogOf, last_of_rows}
 
-pub log_length : (p : PlainPattern) (rows : List Row) (log : List LogEntry) → IsLogOf p rows log → length log ≡ length rows
+pub log_length : (p : PlainPattern) (rows : List ObservationRow) (log : List LogEntry) → IsLogOf p rows log → length log ≡ length rows
 log_length p [] [] is = refl
 log_length p (row ∷ rows) (entry ∷ log) is = ap suc (log_length p rows log is.1)
 log_length p [] (entry ∷ log) is = absurd is
 log_length p (row ∷ rows) [] is = absurd is
 
-pub log_last : (p : PlainPattern) (rows : List Row) (log : List LogEntry) → IsLogOf p rows log → last_of log ≡ last_of_rows rows
+pub log_last : (p : PlainPattern) (rows : List ObservationRow) (log : List LogEntry) → IsLogOf p rows log → log_end log ≡ last_of_rows rows
 log_last p [] [] is = refl
 log_last p (row ∷ []) (entry ∷ []) is = ap Some is.0.last
 log_last p (row ∷ next ∷ rows) (entry ∷ more ∷ log) is = log_last p (next ∷ rows) (more ∷ log) is.1
@@ -24,13 +24,13 @@ log_last p (row ∷ next ∷ rows) (entry ∷ []) is = absurd is.1
 log_last p [] (entry ∷ log) is = absurd is
 log_last p (row ∷ rows) [] is = absurd is
 
-pub log_more : (p : PlainPattern) (rows : List Row) (row : Row) (log : List LogEntry) (entry : LogEntry) → IsLogOf p rows log → IsEntry p row entry → IsLogOf p (rows ++ row ∷ []) (log ++ entry ∷ [])
+pub log_more : (p : PlainPattern) (rows : List ObservationRow) (row : ObservationRow) (log : List LogEntry) (entry : LogEntry) → IsLogOf p rows log → IsEntry p row entry → IsLogOf p (rows ++ row ∷ []) (log ++ entry ∷ [])
 log_more p [] row [] entry is one = (one, tt)
 log_more p (r ∷ rows) row (e ∷ log) entry is one = (is.0, log_more p rows row log entry is.1 one)
 log_more p [] row (e ∷ log) entry is one = absurd is
 log_more p (r ∷ rows) row [] entry is one = absurd is
 
-pub last_more : (rows : List Row) (row : Row) → last_of_rows (rows ++ row ∷ []) ≡ Some row.observation.last
+pub last_more : (rows : List ObservationRow) (row : ObservationRow) → last_of_rows (rows ++ row ∷ []) ≡ Some row.observation.last
 last_more [] row = refl
 last_more (r ∷ []) row = refl
 last_more (r ∷ q ∷ rows) row = last_more (q ∷ rows) row
@@ -52,14 +52,14 @@ same_truths objects roots (an_either p q) a b ia ib = same_of_both (same_truths 
 same_truths objects roots (a_then p q) a b ia ib = same_of_both (same_truths objects roots p) (same_truths objects roots q) a b ia ib
 same_truths objects roots (a_limited p limit) a b ia ib = same_truths objects roots p a b ia ib
 
-same_entry : (p : PlainPattern) (row : Row) (a b : LogEntry) → IsEntry p row a → IsEntry p row b → a ≡ b
+same_entry : (p : PlainPattern) (row : ObservationRow) (a b : LogEntry) → IsEntry p row a → IsEntry p row b → a ≡ b
 same_entry p row a b ia ib =
     let first : a.first ≡ b.first = ia.first ∙ sym ib.first in
     let last : a.last ≡ b.last = ia.last ∙ sym ib.last in
     let truths = same_truths row.objects row.observation.roots p a.truths b.truths ia.truths ib.truths in
     λ i. record { first = first i; last = last i; truths = truths i }
 
-pub same_log : (p : PlainPattern) (rows : List Row) (log other : List LogEntry) → IsLogOf p rows log → IsLogOf p rows other → log ≡ other
+pub same_log : (p : PlainPattern) (rows : List ObservationRow) (log other : List LogEntry) → IsLogOf p rows log → IsLogOf p rows other → log ≡ other
 same_log p [] [] [] is is' = refl
 same_log p (row ∷ rows) (a ∷ log) (b ∷ other) is is' =
     let one = same_entry p row a b is.0 is'.0 in let rest = same_log p rows log other is.1 is'.1 in cc

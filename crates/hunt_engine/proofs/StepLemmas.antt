@@ -15,8 +15,8 @@ use Rattle.hunt_engine.specs.LazyMatcherState.{LazyMatcherState, Follows}
 use Rattle.hunt_engine.specs.EngineAnswer.{binds_at}
 use Rattle.hunt_engine.specs.inner.Table.{part_of}
 use Rattle.hunt_feed.specs.Indicators.{IsAscending}
-use Rattle.hunt_engine.specs.inner.Following.{EndsAt}
-use Rattle.hunt_engine.specs.inner.Round.{Takes, TookSome, StillFollow, found_of}
+use Rattle.hunt_engine.specs.inner.Following.{EndsLogAt}
+use Rattle.hunt_engine.specs.inner.Round.{FollowsRow, TookSome, StillFollow, found_of}
 use Rattle.hunt_engine.proofs.PositionLemmas.{same_or_other, seam, got, get_one, get_set, get_set_other}
 use Rattle.hunt_engine.proofs.EvaluateLemmas.{below_or_at}
 
@@ -46,7 +46,7 @@ own_position position (b ∷ binds) (suc k) n h = own_position position binds k 
 module _ (row : NextRow) (retained_limit : ℕ) (bracket_ranges : List BracketRange) (marks : List Bool) (affected : List ℕ) (i : ℕ) (old now : List LazyMatcherState) (found : List Hit)
     (took : TookSome row retained_limit bracket_ranges marks affected i old now found) (ascend : IsAscending affected) (position : ℕ) (position_is : slice_get affected i ≡ Some position)
     (before after : LazyMatcherState) (before_is : slice_get now position ≡ Some before) (inside : position < length now) (bracket_range : BracketRange) (stretch_is : slice_get bracket_ranges position ≡ Some bracket_range)
-    (binds : List Bind) (takes : Takes row retained_limit (part_of bracket_range marks) before after (map tree_of binds)) where
+    (binds : List Bind) (takes : FollowsRow row retained_limit (part_of bracket_range marks) before after (map tree_of binds)) where
   abbrev new_found : List Hit
   new_found = found ++ map (found_of position) binds
 
@@ -65,21 +65,21 @@ module _ (row : NextRow) (retained_limit : ℕ) (bracket_ranges : List BracketRa
   here = binds_append position found (map (found_of position) binds) ∙ ap (λ l. l ++ binds_at position (map (found_of position) binds)) (took.others position not_before).1 ∙ own_binds position binds
 
   took_one : (k other : ℕ) (s : BracketRange) (b a : LazyMatcherState) → slice_get affected k ≡ Some other → slice_get bracket_ranges other ≡ Some s → slice_get old other ≡ Some b →
-      slice_get (set now position after) other ≡ Some a → (k < i) ⊎ (k ≡ i) → Takes row retained_limit (part_of s marks) b a (binds_at other new_found)
+      slice_get (set now position after) other ≡ Some a → (k < i) ⊎ (k ≡ i) → FollowsRow row retained_limit (part_of s marks) b a (binds_at other new_found)
   took_one k other s b a of_k of_s of_b of_a (inl h) =
       let apart = (λ (e : position ≡ other). let less = ascend k i other position h of_k position_is in absurd (omega (arith, less, e))) in
       let there = elsewhere other apart in
-      subst (λ (xs : List BindTree). Takes row retained_limit (part_of s marks) b a xs) (sym there.1) (took.took k other s b a h of_k of_s of_b (sym there.0 ∙ of_a))
+      subst (λ (xs : List BindTree). FollowsRow row retained_limit (part_of s marks) b a xs) (sym there.1) (took.took k other s b a h of_k of_s of_b (sym there.0 ∙ of_a))
   took_one k other s b a of_k of_s of_b of_a (inr e) =
       let same : position ≡ other = cc in
       let s_is : bracket_range ≡ s = (let f : slice_get bracket_ranges other ≡ Some bracket_range = ap (slice_get bracket_ranges) (sym same) ∙ stretch_is in cc) in
       let b_is : before ≡ b = (let f : Some before ≡ Some b = sym before_is ∙ (took.others position not_before).0 ∙ ap (slice_get old) same ∙ of_b in cc) in
       let a_is : after ≡ a = (let f : Some after ≡ Some a = sym (get_set now position after inside) ∙ ap (slice_get (set now position after)) same ∙ of_a in cc) in
       let xs_is : map tree_of binds ≡ binds_at other new_found = sym here ∙ ap (λ n. binds_at n new_found) same in
-      subst (λ (xs : List BindTree). Takes row retained_limit (part_of s marks) b a xs) xs_is
-      (subst (λ (z : LazyMatcherState). Takes row retained_limit (part_of s marks) b z (map tree_of binds)) a_is
-      (subst (λ (z : LazyMatcherState). Takes row retained_limit (part_of s marks) z after (map tree_of binds)) b_is
-      (subst (λ (z : BracketRange). Takes row retained_limit (part_of z marks) before after (map tree_of binds)) s_is takes)))
+      subst (λ (xs : List BindTree). FollowsRow row retained_limit (part_of s marks) b a xs) xs_is
+      (subst (λ (z : LazyMatcherState). FollowsRow row retained_limit (part_of s marks) b z (map tree_of binds)) a_is
+      (subst (λ (z : LazyMatcherState). FollowsRow row retained_limit (part_of s marks) z after (map tree_of binds)) b_is
+      (subst (λ (z : BracketRange). FollowsRow row retained_limit (part_of z marks) before after (map tree_of binds)) s_is takes)))
 
   others_then : (other : ℕ) → ((k : ℕ) → k < i + 1 → slice_get affected k ≡ Some other → ⊥) → (slice_get (set now position after) other ≡ slice_get old other) × (binds_at other new_found ≡ [])
   others_then other none =
@@ -124,12 +124,12 @@ untouched row retained_limit bracket_ranges marks affected i old now found took 
 -- ---- a lazy matcher caught up
 
 pub still_set : (retained_limit rows : ℕ) (last : Option ℤ) (xs : List LazyMatcherState) (i : ℕ) (old new : LazyMatcherState) → slice_get xs i ≡ Some old →
-    ((p : Pattern) (log : List LogEntry) → Follows p retained_limit log old → EndsAt log rows last → Follows p retained_limit log new) → StillFollow retained_limit rows last xs (set xs i new)
+    ((p : Pattern) (log : List LogEntry) → Follows p retained_limit log old → EndsLogAt log rows last → Follows p retained_limit log new) → StillFollow retained_limit rows last xs (set xs i new)
 still_set retained_limit rows last xs i old new at law = record {
   count = length-set xs i new;
   follow = λ position before after p log a b follows ends. by position before after p log a b follows ends (same_or_other i position);
 } where
-  by : (position : ℕ) (before after : LazyMatcherState) (p : Pattern) (log : List LogEntry) → slice_get xs position ≡ Some before → slice_get (set xs i new) position ≡ Some after → Follows p retained_limit log before → EndsAt log rows last →
+  by : (position : ℕ) (before after : LazyMatcherState) (p : Pattern) (log : List LogEntry) → slice_get xs position ≡ Some before → slice_get (set xs i new) position ≡ Some after → Follows p retained_limit log before → EndsLogAt log rows last →
       (i ≡ position) ⊎ (i ≡ position → ⊥) → Follows p retained_limit log after
   by position before after p log a b follows ends (inl e) =
       let was : before ≡ old = (let f : Some before ≡ Some old = sym a ∙ ap (slice_get xs) (sym e) ∙ at in cc) in

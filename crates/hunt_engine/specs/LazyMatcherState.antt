@@ -6,7 +6,7 @@ use Rattle.pattern_types.specs.declared.leaf.Leaf.{Leaf}
 use Rattle.match_bindings.specs.declared.log_entry.LogEntry.{LogEntry}
 use Rattle.match_bindings.specs.NumberedPattern.{numbered_pattern}
 use Rattle.match_bindings.specs.Log.{IsInOrder}
-use Rattle.match_stream.specs.MatcherState.{MatcherState, Represents}
+use Rattle.match_stream.specs.MatcherState.{MatcherState, MatcherRepresents}
 use Rattle.match_stream.specs.Answer.{IsWithinLimit}
 use Rattle.match_stream.specs.Passing.{AreNonmatching}
 
@@ -24,7 +24,7 @@ pub record LagsBehind (log : List LogEntry) (seen : ℕ) (matcher : MatcherState
   pub log_is : log ≡ before ++ nonmatching
   pub none_holds : AreNonmatching nonmatching
   pub count : seen ≡ length before
-  pub represents : Represents matcher before
+  pub represents : MatcherRepresents matcher before
 
 -- it does so for this pattern and limit; a pattern without a matcher is one bracket
 abbrev pub MatchesFor : Pattern → ℕ → List LogEntry → ℕ → Option MatcherState → Type 0

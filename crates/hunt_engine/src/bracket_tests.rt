@@ -5,7 +5,8 @@ ghost use Rattle.stix_bundles.specs.Objects.{data_in};
 ghost use Rattle.pattern_types.specs.PlainLeaf.{plain_leaf};
 ghost use Rattle.pattern_types.specs.Soundness.{IsSoundLeaf};
 ghost use Rattle.hunt_engine.specs.inner.Memos.{AddsPositions};
-ghost use Rattle.hunt_engine.specs.inner.RootBatches.{IsMet, IsCertain, AreCertain, AddsMatching};
+ghost use Rattle.hunt_engine.specs.inner.RootBatches.{IsMetBracket, IsCertain, AreCertain};
+ghost use Rattle.hunt_engine.specs.inner.RootBatches.{AddsMatching};
 
 use crate::Memo;
 use crate::brackets::Brackets;
@@ -61,7 +62,7 @@ fn test_bracket(
     requires certain { IsCertain (data_in bundle.now)
         (map plain_leaf (map (λ leaf. leaf.now) brackets.now.leaves.items)) position roots.now }
     ensures { OnOk result (AddsPositions (λ root added. (added ≡ position) × Contains roots.now root
-        × IsMet (data_in bundle.now) (map plain_leaf
+        × IsMetBracket (data_in bundle.now) (map plain_leaf
         (map (λ leaf. leaf.now) brackets.now.leaves.items)) root position) memo.old memo.new) }
 {
     let Some(leaf) = brackets.leaves.get(position as usize) else {

@@ -8,11 +8,11 @@ ghost use Rattle.match_stream.specs.MatcherState.{Falls};
 ghost use Rattle.hunt_engine.specs.declared.refusal.EngineRefusal.TheVariants as refusal;
 ghost use Rattle.pattern_types.specs.declared.pattern.Pattern.{Pattern};
 ghost use Rattle.pattern_types.specs.PlainLeaf.{plain_leaf};
-ghost use Rattle.hunt_engine.specs.EngineLog.{Row, row_of};
+ghost use Rattle.hunt_engine.specs.EngineLog.{ObservationRow, engine_row};
 ghost use Rattle.hunt_engine.specs.Memo.{brackets_of, IsSoundMemo};
 ghost use Rattle.hunt_engine.specs.LazyMatcherState.{LazyMatcherState, Follows};
 ghost use Rattle.hunt_engine.specs.inner.Table.{IsTable};
-ghost use Rattle.hunt_engine.specs.EngineState.{EngineRepresents, IsReady};
+ghost use Rattle.hunt_engine.specs.EngineState.{EngineRepresents, IsReadyEngine};
 ghost use Rattle.hunt_engine.specs.EngineAnswer.{ReportsRow, IsFirstOverLimit};
 
 use crate::brackets::Brackets;
@@ -62,7 +62,7 @@ impl<'p> Model for Engine<'p> {
     ghost use Rattle.pattern_types.specs.contracts.pattern.Pattern as matching;
     ghost use Rattle.match_stream.specs.inner.TreeCode.{tree_code};
     ghost use Rattle.hunt_engine.specs.EngineState.{EngineState};
-    ghost use Rattle.hunt_engine.specs.inner.Built.{IsBuilt};
+    ghost use Rattle.hunt_engine.specs.inner.Built.{IsBuiltEngine};
 
     ghost Value = { EngineState };
 
@@ -77,7 +77,7 @@ impl<'p> Model for Engine<'p> {
       lazy_matchers = engine.lazy_matchers.items;
     } };
 
-    ghost invariant = { IsBuilt };
+    ghost invariant = { IsBuiltEngine };
 }
 
 impl<'p> Engine<'p> {
@@ -130,7 +130,7 @@ impl<'p> Engine<'p> {
         bundle: &Bundle,
         memo: &mut Memo,
     ) -> Result<Items<Hit>, EngineRefusal>
-        requires ready { IsReady self.old }
+        requires ready { IsReadyEngine self.old }
         // The memo belongs to this bundle: each of its entries is correct.
         requires right { IsSoundMemo (data_in bundle.now) (brackets_of self.old.patterns) memo.old }
         requires span { observation.now.first ≤ℤ observation.now.last }
@@ -138,18 +138,18 @@ impl<'p> Engine<'p> {
         requires room { observation.now.number < 2 ^ 63 }
         // Rows come in the order of their ends.
         requires order { ¬ (Falls self.old.last observation.now.last) }
-        ensures represents { (rows : List Row) → EngineRepresents self.old rows
+        ensures represents { (rows : List ObservationRow) → EngineRepresents self.old rows
             → OnOk result (EngineRepresents self.new
-            (rows ++ row_of observation.now (data_in bundle.now) ∷ [])) }
-        ensures reports { (rows : List Row) → EngineRepresents self.old rows
+            (rows ++ engine_row observation.now (data_in bundle.now) ∷ [])) }
+        ensures reports { (rows : List ObservationRow) → EngineRepresents self.old rows
             → IfOk result (ReportsRow self.old.patterns
-            (rows ++ row_of observation.now (data_in bundle.now) ∷ [])) }
+            (rows ++ engine_row observation.now (data_in bundle.now) ∷ [])) }
         // The first pattern over the limit is reported: no earlier one in the list exceeds it.
-        ensures over_limit { (rows : List Row) → EngineRepresents self.old rows
+        ensures over_limit { (rows : List ObservationRow) → EngineRepresents self.old rows
             → (position number retained_limit : ℕ)
             → result ≡ Err (refusal.OverLimit position number retained_limit)
             → IsFirstOverLimit self.old.patterns self.old.retained_limit
-            (rows ++ row_of observation.now (data_in bundle.now) ∷ []) position number
+            (rows ++ engine_row observation.now (data_in bundle.now) ∷ []) position number
             retained_limit }
         ensures ended { (result ≡ Err refusal.Ended) ↔ (self.old.ended ≡ true) }
         ensures ends { OnErr result (self.new.ended ≡ true) }

@@ -2,7 +2,7 @@
 
 ghost use Rattle.std.specs.Prelude.{◌↔◌, IsTrue, IfOk};
 ghost use Rattle.stix_bundles.specs.Objects.{data_in};
-ghost use Rattle.pattern_types.specs.PlainLeaf.{plain_leaf, listed};
+ghost use Rattle.pattern_types.specs.PlainLeaf.{plain_leaf, leaves_of_list};
 ghost use Rattle.pattern_types.specs.Soundness.{IsSoundLeaf, AreSoundLeaves};
 ghost use Rattle.match_comparisons.specs.Tests.{HoldsAt, AllHold, SomeHold};
 
@@ -34,9 +34,9 @@ pub(crate) fn holds_at(
 /// Whether it meets all of these parts.
 #[cycle(leaves)]
 fn all_hold_at(alloc: Global, parts: &[Leaf], bundle: &Bundle, root: u32) -> Result<bool, NoMemory>
-    requires { AreSoundLeaves (listed parts.now) }
+    requires { AreSoundLeaves (leaves_of_list parts.now) }
     ensures { IfOk result (λ met. IsTrue met
-        ↔ AllHold (data_in bundle.now) root (listed parts.now)) }
+        ↔ AllHold (data_in bundle.now) root (leaves_of_list parts.now)) }
 {
     for part in parts {
         if !holds_at(alloc, part, bundle, root)? {
@@ -49,9 +49,9 @@ fn all_hold_at(alloc: Global, parts: &[Leaf], bundle: &Bundle, root: u32) -> Res
 /// Whether it meets one of these parts.
 #[cycle(leaves)]
 fn some_hold_at(alloc: Global, parts: &[Leaf], bundle: &Bundle, root: u32) -> Result<bool, NoMemory>
-    requires { AreSoundLeaves (listed parts.now) }
+    requires { AreSoundLeaves (leaves_of_list parts.now) }
     ensures { IfOk result (λ met. IsTrue met
-        ↔ SomeHold (data_in bundle.now) root (listed parts.now)) }
+        ↔ SomeHold (data_in bundle.now) root (leaves_of_list parts.now)) }
 {
     for part in parts {
         if holds_at(alloc, part, bundle, root)? {

@@ -5,13 +5,13 @@ ghost use Rattle.std.specs.Prelude.{◌≡◌, ℕ, List};
 ghost use Rattle.pattern_types.specs.declared.pattern.Pattern.{Pattern};
 ghost use Rattle.pattern_types.specs.PlainPattern.{PlainPattern};
 ghost use Rattle.match_bindings.specs.declared.log_entry.LogEntry.{LogEntry};
-ghost use Rattle.match_stream.specs.MatcherState.{MatcherState, Represents};
-ghost use Rattle.hunt_engine.specs.EngineLog.{Row, IsLogOf};
+ghost use Rattle.match_stream.specs.MatcherState.{MatcherState, MatcherRepresents};
+ghost use Rattle.hunt_engine.specs.EngineLog.{ObservationRow, IsLogOf};
 ghost use Rattle.hunt_engine.specs.LazyMatcherState.{LazyMatcherState, Follows};
 
 /// The log of a pattern over some rows is unique.
 pub fn one_log()
-    ensures { (p : PlainPattern) (rows : List Row) (log other : List LogEntry) → IsLogOf p rows log
+    ensures { (p : PlainPattern) (rows : List ObservationRow) (log other : List LogEntry) → IsLogOf p rows log
         → IsLogOf p rows other → log ≡ other }
 {}
 
@@ -21,5 +21,5 @@ pub fn lazy_matchers_represent_logs()
     ensures { (p : Pattern) (retained_limit : ℕ) (log : List LogEntry)
         (lazy_matcher : LazyMatcherState) → Follows p retained_limit log lazy_matcher
         → (matcher : MatcherState) × (matcher.pattern ≡ p)
-        × (matcher.retained_limit ≡ retained_limit) × Represents matcher log }
+        × (matcher.retained_limit ≡ retained_limit) × MatcherRepresents matcher log }
 {}

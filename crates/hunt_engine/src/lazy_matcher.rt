@@ -13,13 +13,14 @@ ghost use Rattle.match_bindings.specs.declared.log_entry.LogEntry.{LogEntry};
 ghost use Rattle.match_bindings.specs.BindTree.{tree_of};
 ghost use Rattle.match_bindings.specs.NumberedPattern.{numbered_pattern};
 ghost use Rattle.match_bindings.specs.Log.{IsInOrder};
-ghost use Rattle.match_stream.specs.MatcherState.{Represents};
+ghost use Rattle.match_stream.specs.MatcherState.{MatcherRepresents};
 ghost use Rattle.match_stream.specs.Answer.{AnswersRow, IsOverLimit};
 ghost use Rattle.match_stream.specs.Passing.{ContinuesWithoutMatch};
 ghost use Rattle.hunt_engine.specs.declared.refusal.LazyMatcherRefusal.TheVariants as refused;
 ghost use Rattle.hunt_engine.specs.LazyMatcherState.{MatchesFor, Follows};
-ghost use Rattle.hunt_engine.specs.inner.Following.{EndsAt, FollowsSome, CatchesUp, TakesRow};
-ghost use Rattle.hunt_engine.specs.inner.Following.{log_with, Continues, IsSingleBracket};
+ghost use Rattle.hunt_engine.specs.inner.Following.{EndsLogAt, FollowsSome, CatchesUp};
+ghost use Rattle.hunt_engine.specs.inner.Following.{FollowsLastRow};
+ghost use Rattle.hunt_engine.specs.inner.Following.{log_with, ContinuesRows, IsSingleBracket};
 ghost use Rattle.hunt_engine.specs.inner.Following.{single_bracket_at};
 
 use crate::next_row::NextRow;
@@ -87,7 +88,7 @@ impl<'p> LazyMatcher<'p> {
         requires room { rows < 2 ^ 63 }
         // For every log that it followed: its matcher now represents the whole of it.
         ensures { (p : Pattern) (log : List LogEntry) → Follows p retained_limit log self.old
-            → EndsAt log rows last
+            → EndsLogAt log rows last
             → OnOk result (CatchesUp p retained_limit log self.new) }
     {
         let Some(matcher) = &mut self.matcher else {
@@ -113,13 +114,13 @@ impl<'p> LazyMatcher<'p> {
     ) -> Result<Items<Bind>, LazyMatcherRefusal>
         requires follows { FollowsSome retained_limit row.now.rows row.now.before self.old }
         requires room { row.now.rows + 1 < 2 ^ 63 }
-        requires continues { Continues row.now }
+        requires continues { ContinuesRows row.now }
         ensures took { (p : Pattern) (log : List LogEntry) → Follows p retained_limit log self.old
-            → EndsAt log row.now.rows row.now.before
-            → IfOk result (λ binds. TakesRow p retained_limit (log_with row.now truths.now log)
+            → EndsLogAt log row.now.rows row.now.before
+            → IfOk result (λ binds. FollowsLastRow p retained_limit (log_with row.now truths.now log)
             self.new (map tree_of binds)) }
         ensures over_limit { (p : Pattern) (log : List LogEntry)
-            → Follows p retained_limit log self.old → EndsAt log row.now.rows row.now.before
+            → Follows p retained_limit log self.old → EndsLogAt log row.now.rows row.now.before
             → result ≡ Err refused.OverLimit
             → IsOverLimit (numbered_pattern p) (log_with row.now truths.now log) retained_limit }
     {
@@ -181,9 +182,9 @@ fn pass_rows(matcher: &mut Matcher<'_>, rows: u64, last: Instant) -> Result<(), 
     // At least one row.
     requires some { 1 ≤ rows }
     requires room { matcher.old.ended ≡ None → matcher.old.rows + rows < 2 ^ 64 }
-    ensures represents { (log nonmatching : List LogEntry) → Represents matcher.old log
+    ensures represents { (log nonmatching : List LogEntry) → MatcherRepresents matcher.old log
         → ContinuesWithoutMatch log nonmatching rows last
-        → OnOk result (Represents matcher.new (log ++ nonmatching)) }
+        → OnOk result (MatcherRepresents matcher.new (log ++ nonmatching)) }
     ensures kept { (matcher.new.pattern ≡ matcher.old.pattern)
         × (matcher.new.retained_limit ≡ matcher.old.retained_limit) }
 {
@@ -201,10 +202,10 @@ fn take_row(
 ) -> Result<Items<Bind>, LazyMatcherRefusal>
     requires span { row.now.first ≤ℤ row.now.last }
     requires room { matcher.old.ended ≡ None → matcher.old.rows + 1 < 2 ^ 64 }
-    ensures answers { (log : List LogEntry) → Represents matcher.old log → IsInOrder log
+    ensures answers { (log : List LogEntry) → MatcherRepresents matcher.old log → IsInOrder log
         → IfOk result (λ binds. AnswersRow matcher.old matcher.new
         (log_with row.now truths.now log) (map tree_of binds)) }
-    ensures over_limit { (log : List LogEntry) → Represents matcher.old log → IsInOrder log
+    ensures over_limit { (log : List LogEntry) → MatcherRepresents matcher.old log → IsInOrder log
         → result ≡ Err refused.OverLimit
         → IsOverLimit (numbered_pattern matcher.old.pattern) (log_with row.now truths.now log)
         matcher.old.retained_limit }

@@ -5,7 +5,7 @@ ghost use Rattle.std.specs.Prelude.{map, slice_get, IfOk, OnOk};
 ghost use Rattle.match_bindings.specs.BindTree.{tree_of};
 ghost use Rattle.hunt_engine.specs.declared.brackets.BracketRange.{BracketRange};
 ghost use Rattle.hunt_engine.specs.declared.refusal.EngineRefusal.TheVariants as refusal;
-ghost use Rattle.hunt_engine.specs.inner.Following.{Continues};
+ghost use Rattle.hunt_engine.specs.inner.Following.{ContinuesRows};
 ghost use Rattle.hunt_feed.specs.Indicators.{IsAscending};
 ghost use Rattle.hunt_engine.specs.inner.Round.{AllFollow, TookSome, CrowdsAt, StillFollow};
 ghost use Rattle.hunt_engine.specs.inner.Round.{found_of};
@@ -38,7 +38,7 @@ pub(crate) fn take_all(
         → slice_get brackets.now.bracket_ranges.items position ≡ Some bracket_range
         → bracket_range.first + bracket_range.count ≤ length marks.now }
     requires room { row.now.rows + 1 < 2 ^ 63 }
-    requires continues { Continues row.now }
+    requires continues { ContinuesRows row.now }
     ensures took { IfOk result (TookSome row.now retained_limit brackets.now.bracket_ranges.items
         marks.now affected.now (length affected.now) lazy_matchers.old lazy_matchers.new) }
     ensures over_limit { (position number named : ℕ)

@@ -13,8 +13,8 @@ use Rattle.stix_objects.specs.Sound.{IsNamed}
 use Rattle.stix_bundles.specs.Lookup.{IsLatest}
 use Rattle.hunt_feed.specs.declared.kept.Kept.{Kept}
 use Rattle.hunt_feed.specs.declared.version.Version.{Version}
-use Rattle.hunt_feed.specs.Indicators.{IsRevoked, IsCurrent, IsAscending}
-use Rattle.hunt_feed.specs.Gathering.{Gathered, indicator_id, known_in, IsKnown, IsKeptOf, IsVersionAs, kept_places, GathersFor}
+use Rattle.hunt_feed.specs.Indicators.{IsRevokedId, IsCurrent, IsAscending}
+use Rattle.hunt_feed.specs.Gathering.{Gathered, indicator_id, known_in, IsKnown, IsKeptOf, IsLatestVersionAs, kept_places, GathersFor}
 use Rattle.hunt_feed.specs.inner.Adding.{IsIndicator, IsToKeep, AddsIndicator}
 use Rattle.hunt_feed.proofs.GrowingLemmas.{grown, get_old, get_new, get_cases, current_was}
 use Rattle.hunt_feed.proofs.VersionLemmas.{OneId, OneModified, OneMeaning, one_latest, known_beside, known_with}
@@ -100,7 +100,7 @@ added_versions laws before after objects d adds is other =
     (elim (cases_eq adds.number other) [
       | inl same ↦
           subst (λ (b : Bool). IsKnown (grown objects d) (indicator_id other) (cond b (Some adds.next) (known_in before.versions other))) (sym (eq-eqb adds.number other same))
-          (subst (λ (n : ℕ). IsVersionAs (grown objects d) (indicator_id n) adds.next) same next)
+          (subst (λ (n : ℕ). IsLatestVersionAs (grown objects d) (indicator_id n) adds.next) same next)
       | inr different ↦
           subst (λ (b : Bool). IsKnown (grown objects d) (indicator_id other) (cond b (Some adds.next) (known_in before.versions other))) (sym (not_eqb adds.number other different))
           (known_beside objects d (indicator_id other) (known_in before.versions other)
@@ -138,13 +138,13 @@ added_ascend objects d kept at number next (Some new) at_is keeps all ascend =
 
 -- a current indicator that is the new object is kept
 added_here : Laws → (objects : List Data) (d : Data) (kept : List Kept) (at number : ℕ) (next : Version) (new : Option Kept) → at ≡ length objects
-    → IsToKeep d at number next new → HasId d (indicator_id number) → IsVersionAs (grown objects d) (indicator_id number) next
+    → IsToKeep d at number next new → HasId d (indicator_id number) → IsLatestVersionAs (grown objects d) (indicator_id number) next
     → (id : Id) → IsCurrent (grown objects d) at id d → Contains (kept_places (kept ++ option_to_list new)) at
 added_here laws objects d kept at number next None at_is keeps has version id current =
     let same : id ≡ indicator_id number = laws.one_id d id (indicator_id number) current.has has in
     let here : next.at ≡ at = one_latest laws.one_meaning (grown objects d) id next.at at
     (subst (λ (i : Id). IsLatest (grown objects d) i next.at) (sym same) version.latest) current.latest in
-    absurd (keeps (here, (λ revoked. current.not_revoked (subst (IsRevoked (grown objects d)) (sym same) (version.revoked.0 revoked))), current.indicator))
+    absurd (keeps (here, (λ revoked. current.not_revoked (subst (IsRevokedId (grown objects d)) (sym same) (version.revoked.0 revoked))), current.indicator))
 added_here laws objects d kept at number next (Some new) at_is keeps has version id current =
     subst (Contains (kept_places (kept ++ new ∷ []))) keeps.1
     (subst (λ (ns : List ℕ). Contains ns new.at) (places_push kept new) (Contains-push (kept_places kept) new.at))

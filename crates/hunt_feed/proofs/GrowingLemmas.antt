@@ -5,7 +5,7 @@ use Rattle.serde_json.specs.Data.{Data}
 use Rattle.stix_ids.specs.declared.id.Id.{Id}
 use Rattle.stix_objects.specs.Properties.{HasId}
 use Rattle.stix_bundles.specs.Lookup.{IsModified, IsOf, IsVersionAt, IsLatest}
-use Rattle.hunt_feed.specs.Indicators.{Revokes, IsRevoked, IsCurrent}
+use Rattle.hunt_feed.specs.Indicators.{Revokes, IsRevokedId, IsCurrent}
 
 pub same_some : {A : Type 0} (x y : A) → Some x ≡ Some y → x ≡ y
 same_some {A} x y e = ap (λ (o : Option A). unwrap_or o x) e
@@ -56,14 +56,14 @@ version_cases objects d id at when is =
 pub of_version : (objects : List Data) (id : Id) (at : ℕ) (when : Option ℤ) → IsVersionAt objects id at when → IsOf objects id at
 of_version objects id at when is = record { object = is.object; there = is.there; has = is.has }
 
-pub revoked_old : (objects : List Data) (d : Data) (id : Id) → IsRevoked objects id → IsRevoked (grown objects d) id
+pub revoked_old : (objects : List Data) (d : Data) (id : Id) → IsRevokedId objects id → IsRevokedId (grown objects d) id
 revoked_old objects d id is =
     record { at = is.at; object = is.object; there = get_old objects d is.at is.object is.there; has = is.has; revokes = is.revokes }
 
-pub revoked_new : (objects : List Data) (d : Data) (id : Id) → HasId d id → Revokes d → IsRevoked (grown objects d) id
+pub revoked_new : (objects : List Data) (d : Data) (id : Id) → HasId d id → Revokes d → IsRevokedId (grown objects d) id
 revoked_new objects d id has revokes = record { at = length objects; object = d; there = get_new objects d; has = has; revokes = revokes }
 
-pub revoked_cases : (objects : List Data) (d : Data) (id : Id) → IsRevoked (grown objects d) id → IsRevoked objects id ⊎ (HasId d id × Revokes d)
+pub revoked_cases : (objects : List Data) (d : Data) (id : Id) → IsRevokedId (grown objects d) id → IsRevokedId objects id ⊎ (HasId d id × Revokes d)
 revoked_cases objects d id is =
     elim (get_cases objects d is.at is.object is.there) [
       | inl before ↦ inl (record { at = is.at; object = is.object; there = before; has = is.has; revokes = is.revokes })

@@ -16,9 +16,9 @@ use Rattle.hunt_feed.specs.declared.hunted.Skipped.{Skipped}
 use Rattle.hunt_feed.specs.declared.hunted.Hunt.{Hunt}
 use Rattle.hunt_feed.specs.declared.kept.Kept.{Kept}
 use Rattle.hunt_feed.specs.declared.version.Version.{Version}
-use Rattle.hunt_feed.specs.Indicators.{IsRevoked, IsValidAt, IsCandidate, IsHunted, IsSkipped, IsAscending, hunted_places, skipped_places, IsHuntOf}
-use Rattle.hunt_feed.specs.Gathering.{Gathered, indicator_id, known_in, IsKnown, IsVersionAs, IsKeptOf, kept_places, GathersFor}
-use Rattle.hunt_feed.specs.inner.Hunting.{IsLast, IsValid, IsReadOf, IsRefusedOf, IsClassified, IsHuntAmong}
+use Rattle.hunt_feed.specs.Indicators.{IsRevokedId, IsValidAt, IsCandidate, IsHunted, IsSkippedIndicator, IsAscending, hunted_places, skipped_places, IsHuntOf}
+use Rattle.hunt_feed.specs.Gathering.{Gathered, indicator_id, known_in, IsKnown, IsLatestVersionAs, IsKeptOf, kept_places, GathersFor}
+use Rattle.hunt_feed.specs.inner.Hunting.{IsLast, IsValidIndicator, IsReadOf, IsRefusedOf, IsClassified, IsHuntAmong}
 use Rattle.hunt_feed.proofs.GrowingLemmas.{same_some, get_old, get_new, get_front}
 use Rattle.hunt_feed.proofs.VersionLemmas.{OneId, OneMeaning, one_latest}
 use Rattle.hunt_feed.proofs.AddingLemmas.{all_get, ascending_push}
@@ -48,11 +48,11 @@ valid_until laws d moment (Some told) found later until is =
     subst (λ z. moment <ℤ z) (laws.one_timestamp Any (codes "valid_until") d told until found is) later
 
 last_as : (gathered : Gathered) (objects : List Data) (kept : Kept) → GathersFor gathered objects → (last : IsLast gathered.versions kept)
-    → IsVersionAs objects (indicator_id kept.number) last.0
+    → IsLatestVersionAs objects (indicator_id kept.number) last.0
 last_as gathered objects kept gathers last = subst (IsKnown objects (indicator_id kept.number)) last.1 (gathers.versions kept.number)
 
 pub candidate_of : Laws → (gathered : Gathered) (objects : List Data) (moment : ℤ) (kept : Kept) → GathersFor gathered objects → (of : IsKeptOf objects kept)
-    → IsLast gathered.versions kept → IsValid moment kept → IsCandidate objects moment kept.at (indicator_id kept.number) of.0
+    → IsLast gathered.versions kept → IsValidIndicator moment kept → IsCandidate objects moment kept.at (indicator_id kept.number) of.0
 candidate_of laws gathered objects moment kept gathers of last valid =
     let version = last_as gathered objects kept gathers last in
     record {
@@ -86,7 +86,7 @@ last_of laws objects moment kept versions (Some version) is known id value same 
       version,
       is,
       one_latest laws.one_meaning objects (indicator_id kept.number) version.at kept.at known.latest latest,
-      λ revoked. candidate.current.not_revoked (subst (IsRevoked objects) (sym same) (known.revoked.0 revoked)),
+      λ revoked. candidate.current.not_revoked (subst (IsRevokedId objects) (sym same) (known.revoked.0 revoked)),
     )
 
 valid_in : (d : Data) (moment : ℤ) (told : Option ℤ) → FindsExactly (IsTimestampAt Any (codes "valid_until") d) told
@@ -95,7 +95,7 @@ valid_in d moment None none lasts = tt
 valid_in d moment (Some told) found lasts = lasts told found
 
 pub tests_of : Laws → (gathered : Gathered) (objects : List Data) (moment : ℤ) (kept : Kept) → GathersFor gathered objects → IsKeptOf objects kept
-    → (id : Id) (value : Data) → IsCandidate objects moment kept.at id value → IsLast gathered.versions kept × IsValid moment kept
+    → (id : Id) (value : Data) → IsCandidate objects moment kept.at id value → IsLast gathered.versions kept × IsValidIndicator moment kept
 tests_of laws gathered objects moment kept gathers of id value candidate =
     let same : value ≡ of.0 = same_some value of.0 (sym candidate.current.there ∙ of.1) in
     let has : HasId of.0 id = subst (λ (d : Data). HasId d id) same candidate.current.has in
@@ -124,7 +124,7 @@ all_seen_more seen kept places all = λ k x inside. seen_more seen kept (slice_i
 
 -- one that isn't a candidate
 pub hunt_passed : Laws → (gathered : Gathered) (objects : List Data) (moment : ℤ) (seen : List Kept) (kept : Kept) (hunt : Hunt) → GathersFor gathered objects
-    → IsKeptOf objects kept → ¬ (IsLast gathered.versions kept × IsValid moment kept) → IsHuntAmong objects moment seen hunt
+    → IsKeptOf objects kept → ¬ (IsLast gathered.versions kept × IsValidIndicator moment kept) → IsHuntAmong objects moment seen hunt
     → IsHuntAmong objects moment (seen ++ kept ∷ []) hunt
 hunt_passed laws gathered objects moment seen kept hunt gathers of not among = record {
   hunted = among.hunted;
@@ -172,7 +172,7 @@ hunted_as objects moment kept of candidate hunted is = record {
 }
 
 skipped_as : (objects : List Data) (moment : ℤ) (kept : Kept) (of : IsKeptOf objects kept) → IsCandidate objects moment kept.at (indicator_id kept.number) of.0
-    → (skipped : Skipped) → IsRefusedOf kept skipped → IsSkipped objects moment skipped
+    → (skipped : Skipped) → IsRefusedOf kept skipped → IsSkippedIndicator objects moment skipped
 skipped_as objects moment kept of candidate skipped is = record {
   object = of.0;
   candidate = subst (λ n. IsCandidate objects moment n skipped.id of.0) (sym is.at) (subst (λ (i : Id). IsCandidate objects moment kept.at i of.0) (sym is.id) candidate);
@@ -217,13 +217,13 @@ hunt_hunted gathered objects moment seen rest kept hs ss new gathers are is at_i
 
 -- one that is skipped
 hunt_skipped : (gathered : Gathered) (objects : List Data) (moment : ℤ) (seen rest : List Kept) (kept : Kept) (hs : List Hunted) (ss : List Skipped) (new : Skipped)
-    → GathersFor gathered objects → gathered.kept ≡ (seen ++ kept ∷ []) ++ rest → IsSkipped objects moment new → new.at ≡ kept.at
+    → GathersFor gathered objects → gathered.kept ≡ (seen ++ kept ∷ []) ++ rest → IsSkippedIndicator objects moment new → new.at ≡ kept.at
     → IsHuntAmong objects moment seen (record { hunted = hs; skipped = ss }) → IsHuntAmong objects moment (seen ++ kept ∷ []) (record { hunted = hs; skipped = ss ++ new ∷ [] })
 hunt_skipped gathered objects moment seen rest kept hs ss new gathers are is at_is among =
     let places : map skipped_at (ss ++ new ∷ []) ≡ map skipped_at ss ++ new.at ∷ [] = map-append skipped_at ss (new ∷ []) in
     record {
       hunted = among.hunted;
-      skipped = All-push (IsSkipped objects moment) ss new among.skipped is;
+      skipped = All-push (IsSkippedIndicator objects moment) ss new among.skipped is;
       all = λ at id value candidate has.
           subst (λ (ns : List ℕ). Contains (map hunted_at hs) at ⊎ Contains ns at) (sym places)
           (elim (seen_cases seen kept at has) [
@@ -251,7 +251,7 @@ same_hunt objects moment seen hs ss hunt hunted_are skipped_are among =
 
 -- a candidate
 pub hunt_judged : Laws → (gathered : Gathered) (objects : List Data) (moment : ℤ) (seen rest : List Kept) (kept : Kept) (before after : Hunt)
-    → GathersFor gathered objects → gathered.kept ≡ (seen ++ kept ∷ []) ++ rest → IsKeptOf objects kept → IsLast gathered.versions kept → IsValid moment kept
+    → GathersFor gathered objects → gathered.kept ≡ (seen ++ kept ∷ []) ++ rest → IsKeptOf objects kept → IsLast gathered.versions kept → IsValidIndicator moment kept
     → IsClassified kept before after → IsHuntAmong objects moment seen before → IsHuntAmong objects moment (seen ++ kept ∷ []) after
 hunt_judged laws gathered objects moment seen rest kept before after gathers are of last valid (inl hunted) among =
     let candidate = candidate_of laws gathered objects moment kept gathers of last valid in

@@ -13,8 +13,8 @@ use Rattle.stix_objects.specs.declared.rule_break.Break.{Break}
 use Rattle.stix_objects.specs.Breaks.{AreBreaksOf}
 use Rattle.hunt_feed.specs.declared.rule.FeedRule.{FeedRule}
 use Rattle.hunt_feed.specs.declared.rule.FeedRule.TheVariants as rule
-use Rattle.hunt_feed.specs.Line.{IsObjectOf, IsRefusedFor}
-use Rattle.hunt_feed.specs.Feeds.{FeedClose, Refused, IsTooLong, IsRefusedAt, Reads, at_end, at_refusal, one_object}
+use Rattle.hunt_feed.specs.Line.{IsObjectOf, IsRefusedFeedLine}
+use Rattle.hunt_feed.specs.Feeds.{FeedClose, Refused, IsTooLongFeedLine, IsFeedRefusedAt, ReadsFeedLines, at_end, at_refusal, one_object}
 
 -- the laws of JSON and of breaks
 pub record Laws : Type 0 where
@@ -27,7 +27,7 @@ pub record Laws : Type 0 where
 same_object : Laws → (bytes : List ℕ) (d e : Data) → IsObjectOf bytes d → IsObjectOf bytes e → d ≡ e
 same_object laws bytes d e p q = p.object_is ∙ laws.same_json bytes p.value q.value p.json q.json ∙ sym q.object_is
 
-one_rule : Laws → (bytes : List ℕ) (why other : FeedRule) → IsRefusedFor bytes why → IsRefusedFor bytes other → why ≡ other
+one_rule : Laws → (bytes : List ℕ) (why other : FeedRule) → IsRefusedFeedLine bytes why → IsRefusedFeedLine bytes other → why ≡ other
 one_rule laws bytes (rule.Json r) (rule.Json s) p q = ap rule.Json (laws.json_refusal bytes r s p.0 q.0 p.1 q.1)
 one_rule laws bytes (rule.Json r) (rule.Breaks s) p q = absurd (laws.no_json bytes r q.value p.0 p.1 q.json)
 one_rule laws bytes (rule.Breaks r) (rule.Json s) p q = absurd (laws.no_json bytes s p.value q.0 q.1 p.json)
@@ -39,7 +39,7 @@ one_rule laws bytes why rule.InputTooLong p q = absurd q
 one_rule laws bytes rule.LineTooLong other p q = absurd p
 one_rule laws bytes rule.InputTooLong other p q = absurd p
 
-no_object : Laws → (bytes : List ℕ) (object : Data) (why : FeedRule) → IsRefusedFor bytes why → IsObjectOf bytes object → ⊥
+no_object : Laws → (bytes : List ℕ) (object : Data) (why : FeedRule) → IsRefusedFeedLine bytes why → IsObjectOf bytes object → ⊥
 no_object laws bytes object rule.LineTooLong p q = p
 no_object laws bytes object rule.InputTooLong p q = p
 no_object laws bytes object (rule.Json r) p q = laws.no_json bytes r q.value p.0 p.1 q.json
@@ -47,19 +47,19 @@ no_object laws bytes object (rule.Breaks r) p q =
     let same = laws.same_json bytes p.value q.value p.json q.json in
     p.some (laws.breaks (data_of q.value) r [] (subst (λ (d : Data). AreBreaksOf d r) same p.are) (subst (λ (d : Data). AreBreaksOf d []) q.object_is q.unbroken))
 
-one_too_long : (refusal : LineRefusal) (line number : ℕ) (why other : FeedRule) → IsTooLong refusal line why → IsTooLong refusal number other → (line ≡ number) × (why ≡ other)
+one_too_long : (refusal : LineRefusal) (line number : ℕ) (why other : FeedRule) → IsTooLongFeedLine refusal line why → IsTooLongFeedLine refusal number other → (line ≡ number) × (why ≡ other)
 one_too_long length_refusal.Fault line number why other p q = absurd p
 one_too_long (length_refusal.LineTooLong n) line number why other p q = (p.0 ∙ sym q.0, p.1 ∙ sym q.1)
 one_too_long (length_refusal.InputTooLong n) line number why other p q = (p.0 ∙ sym q.0, p.1 ∙ sym q.1)
 one_too_long length_refusal.NoMemory line number why other p q = absurd p
 
-one_refused_at : Laws → (lines : LineStream) (line number : ℕ) (why other : FeedRule) → IsRefusedAt lines line why → IsRefusedAt lines number other
+one_refused_at : Laws → (lines : LineStream) (line number : ℕ) (why other : FeedRule) → IsFeedRefusedAt lines line why → IsFeedRefusedAt lines number other
     → (line ≡ number) × (why ≡ other)
 one_refused_at laws ended line number why other p q = absurd p
 one_refused_at laws (refused refusal) line number why other p q = one_too_long refusal line number why other p q
 one_refused_at laws (line_then n bytes later) line number why other p q = (p.0 ∙ sym q.0, one_rule laws bytes why other p.1 q.1)
 
-pub one_reads : Laws → (lines : LineStream) (objects others : List Data) (close other : FeedClose) → Reads lines objects close → Reads lines others other
+pub one_reads : Laws → (lines : LineStream) (objects others : List Data) (close other : FeedClose) → ReadsFeedLines lines objects close → ReadsFeedLines lines others other
     → (objects ≡ others) × (close ≡ other)
 one_reads laws ended objects others close other at_end at_end = (refl, refl)
 one_reads laws ended objects others close other at_end (at_refusal q) = absurd q

@@ -4,12 +4,12 @@ use Rattle.std.specs.Option.{MatchOption}
 use Rattle.serde_json.specs.Data.{Data}
 use Rattle.serde_json.specs.Find.{get, as_str}
 use Rattle.stix_ids.specs.declared.id.Id.{Id}
-use Rattle.stix_ids.specs.Identifier.{IsTextOf}
-use Rattle.stix_json.specs.Properties.{text_at}
+use Rattle.stix_ids.specs.Identifier.{IsTextOfId}
+use Rattle.stix_json.specs.Properties.{property_text}
 use Rattle.stix_objects.specs.declared.groups.Group.TheVariants.{Domain}
 use Rattle.stix_objects.specs.declared.rule.Rule.{Rule}
 use Rattle.stix_objects.specs.declared.form.Precision.TheVariants.{Any, Millis}
-use Rattle.stix_objects.specs.BreakAt.{BreakAt, here, under}
+use Rattle.stix_objects.specs.BreakAt.{BreakAt, here, break_under}
 use Rattle.stix_objects.specs.Form.{timestamp, time, millis, text, any_text}
 use Rattle.stix_objects.specs.Row.{Row, required}
 use Rattle.stix_objects.specs.CommonRows.{common_rows}
@@ -37,7 +37,7 @@ met_inside (Some a) tell is = absurd (cc)
 met_value : (name : List ℕ) (J : Data → Option BreakAt → Type 0) (o : Option Data) → ChecksValue (Unit {0}) name J o None → (v : Data) × (o ≡ Some v) × J v None
 met_value name J None checked = absurd (checked tt)
 met_value name J (Some v) checked =
-    (v, refl, subst (λ (o : Option BreakAt). J v o) (met_inside checked.0 (under name) checked.2) checked.1)
+    (v, refl, subst (λ (o : Option BreakAt). J v o) (met_inside checked.0 (break_under name) checked.2) checked.1)
 
 met_here : (J : Option Rule → Type 0) → ((rule : Option Rule) × J rule × (None ≡ option_map here rule)) → J None
 met_here J checked = subst (λ (o : Option Rule). J o) (met_inside checked.0 here checked.2) checked.1
@@ -50,10 +50,10 @@ met_second : (first : Option Rule) (P : Type 0) → MatchOption first P (λ foun
 met_second None P met = met
 met_second (Some found) P met = absurd (cc)
 
-text_there : (name : List ℕ) (d v : Data) (s : List ℕ) → get name d ≡ Some v → as_str v ≡ Some s → text_at name d ≡ Some s
+text_there : (name : List ℕ) (d v : Data) (s : List ℕ) → get name d ≡ Some v → as_str v ≡ Some s → property_text name d ≡ Some s
 text_there name d v s there is = ap (option_and_then as_str) there ∙ is
 
-met_text : (name : List ℕ) (d : Data) → Checks (required name text) d None → (s : List ℕ) × (text_at name d ≡ Some s)
+met_text : (name : List ℕ) (d : Data) → Checks (required name text) d None → (s : List ℕ) × (property_text name d ≡ Some s)
 met_text name d checked =
     let v = met_value name (ChecksForm text) (get name d) checked in
     let s = met_kind (as_str v.0) (λ s (o : Option Rule). o ≡ None) (met_here (ChecksSingle any_text v.0) v.2) in
@@ -84,7 +84,7 @@ named_id d is named =
       record {
         text = named.text;
         there = named.named;
-        reads = subst (λ (k : List ℕ). let id : Id = record { kind = k; number = named.number } in IsTextOf named.text id) kind named.id;
+        reads = subst (λ (k : List ℕ). let id : Id = record { kind = k; number = named.number } in IsTextOfId named.text id) kind named.id;
       },
     )
 

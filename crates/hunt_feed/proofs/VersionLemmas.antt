@@ -6,11 +6,11 @@ use Rattle.std.proofs.lemmas.Bool.{false≢true}
 use Rattle.serde_json.specs.Data.{Data}
 use Rattle.stix_ids.specs.declared.id.Id.{Id}
 use Rattle.stix_objects.specs.Properties.{HasId}
-use Rattle.stix_bundles.specs.Lookup.{IsModified, IsEarlier, IsOf, IsLatest, Means}
+use Rattle.stix_bundles.specs.Lookup.{IsModified, IsEarlier, IsOf, IsLatest, ResolvesTo}
 use Rattle.hunt_feed.specs.declared.version.Version.{Version}
-use Rattle.hunt_feed.specs.Indicators.{Revokes, IsRevoked}
-use Rattle.hunt_feed.specs.Gathering.{IsVersionAs, IsKnown}
-use Rattle.hunt_feed.specs.inner.Adding.{IsVersionOf, IsNextVersion}
+use Rattle.hunt_feed.specs.Indicators.{Revokes, IsRevokedId}
+use Rattle.hunt_feed.specs.Gathering.{IsLatestVersionAs, IsKnown}
+use Rattle.hunt_feed.specs.inner.Adding.{IsIndicatorVersion, IsNextVersion}
 use Rattle.hunt_feed.proofs.GrowingLemmas.{grown, get_new, of_cases, of_version, version_old, version_cases, revoked_old, revoked_new, revoked_cases, same_some}
 
 -- an object was modified at one time or at none, has one identifier, and a text means one place
@@ -21,7 +21,7 @@ abbrev pub OneId : Type 0
 OneId = (d : Data) (first second : Id) → HasId d first → HasId d second → first ≡ second
 
 abbrev pub OneMeaning : Type 0
-OneMeaning = (objects : List Data) (text : List ℕ) (first second : Option ℕ) → Means objects text first → Means objects text second → first ≡ second
+OneMeaning = (objects : List Data) (text : List ℕ) (first second : Option ℕ) → ResolvesTo objects text first → ResolvesTo objects text second → first ≡ second
 
 pub one_latest : OneMeaning → (objects : List Data) (id : Id) (first second : ℕ) → IsLatest objects id first → IsLatest objects id second → first ≡ second
 one_latest one objects id first second is also =
@@ -39,7 +39,7 @@ latest_beside objects d id at other is = record {
   ];
 }
 
-revoked_beside : (objects : List Data) (d : Data) (id : Id) → ¬ HasId d id → IsRevoked (grown objects d) id → IsRevoked objects id
+revoked_beside : (objects : List Data) (d : Data) (id : Id) → ¬ HasId d id → IsRevokedId (grown objects d) id → IsRevokedId objects id
 revoked_beside objects d id other is =
     elim (revoked_cases objects d id is) [ inl before ↦ before | inr here ↦ absurd (other here.0) ]
 
@@ -125,7 +125,7 @@ true_or false b (inr is) = is
 
 -- whether one of the versions is revoked
 revoked_alone : (objects : List Data) (d : Data) (id : Id) (new : Bool) → HasId d id → IsTrue new ↔ Revokes d → ((at : ℕ) → ¬ IsOf objects id at)
-    → IsTrue new ↔ IsRevoked (grown objects d) id
+    → IsTrue new ↔ IsRevokedId (grown objects d) id
 revoked_alone objects d id new has is none = (
   λ so. revoked_new objects d id has (is.0 so),
   λ revoked. elim (revoked_cases objects d id revoked) [
@@ -134,8 +134,8 @@ revoked_alone objects d id new has is none = (
   ],
 )
 
-revoked_more : (objects : List Data) (d : Data) (id : Id) (known new : Bool) → HasId d id → IsTrue new ↔ Revokes d → IsTrue known ↔ IsRevoked objects id
-    → IsTrue (known || new) ↔ IsRevoked (grown objects d) id
+revoked_more : (objects : List Data) (d : Data) (id : Id) (known new : Bool) → HasId d id → IsTrue new ↔ Revokes d → IsTrue known ↔ IsRevokedId objects id
+    → IsTrue (known || new) ↔ IsRevokedId (grown objects d) id
 revoked_more objects d id known new has is was = (
   λ so. elim (or_true known new so) [
     | inl before ↦ revoked_old objects d id (was.0 before)
@@ -148,7 +148,7 @@ revoked_more objects d id known new has is was = (
 )
 
 version_as : (objects : List Data) (id : Id) (next : Version) (at : ℕ) (modified : ℤ) (revoked : Bool) → next.at ≡ at → next.modified ≡ modified → next.revoked ≡ revoked
-    → (latest : IsLatest objects id at) → latest.modified ≡ Some modified → IsTrue revoked ↔ IsRevoked objects id → IsVersionAs objects id next
+    → (latest : IsLatest objects id at) → latest.modified ≡ Some modified → IsTrue revoked ↔ IsRevokedId objects id → IsLatestVersionAs objects id next
 version_as objects id next at modified revoked at_is modified_is revoked_is latest when_is revoked_so =
     let again : (n : ℕ) → at ≡ n → (is : IsLatest objects id n) × (is.modified ≡ Some modified) =
     λ n e. subst (λ (n : ℕ). (is : IsLatest objects id n) × (is.modified ≡ Some modified)) e (latest, when_is) in
@@ -156,12 +156,12 @@ version_as objects id next at modified revoked at_is modified_is revoked_is late
     record {
       latest = found.0;
       modified = found.1 ∙ ap Some (sym modified_is);
-      revoked = subst (λ (b : Bool). IsTrue b ↔ IsRevoked objects id) (sym revoked_is) revoked_so;
+      revoked = subst (λ (b : Bool). IsTrue b ↔ IsRevokedId objects id) (sym revoked_is) revoked_so;
     }
 
 -- a version more of the same identifier
-pub known_with : OneModified → (objects : List Data) (d : Data) (id : Id) (known : Option Version) (new next : Version) → HasId d id → IsVersionOf d new
-    → new.at ≡ length objects → IsNextVersion known new next → IsKnown objects id known → IsVersionAs (grown objects d) id next
+pub known_with : OneModified → (objects : List Data) (d : Data) (id : Id) (known : Option Version) (new next : Version) → HasId d id → IsIndicatorVersion d new
+    → new.at ≡ length objects → IsNextVersion known new next → IsKnown objects id known → IsLatestVersionAs (grown objects d) id next
 unfolding latest_alone latest_stays latest_newly
 known_with one objects d id None new next has version at_is next_is none =
     version_as (grown objects d) id next (length objects) new.modified new.revoked

@@ -9,7 +9,7 @@ use Rattle.stix_objects.specs.Breaks.{AreBreaksOf}
 use Rattle.hunt_feed.specs.Gathering.{Gathered, GathersFor}
 use Rattle.hunt_feed.specs.declared.rule.FeedRule.{FeedRule}
 use Rattle.hunt_feed.specs.declared.rule.FeedRule.TheVariants as rule
-use Rattle.hunt_feed.specs.Line.{IsObjectOf, IsRefusedFor}
+use Rattle.hunt_feed.specs.Line.{IsObjectOf, IsRefusedFeedLine}
 
 -- how a feed ends: complete, or at the first refused line
 pub data FeedClose : Type 0 where
@@ -17,31 +17,31 @@ pub data FeedClose : Type 0 where
   Refused : (line : ℕ) → FeedRule → FeedClose
 
 -- why a line is refused that is too long, or that makes the feed too long
-abbrev pub IsTooLong : LineRefusal → ℕ → FeedRule → Type 0
-IsTooLong line_refusal.Fault line why = ⊥
-IsTooLong (line_refusal.LineTooLong number) line why = (line ≡ number) × (why ≡ rule.LineTooLong)
-IsTooLong (line_refusal.InputTooLong number) line why = (line ≡ number) × (why ≡ rule.InputTooLong)
-IsTooLong line_refusal.NoMemory line why = ⊥
+abbrev pub IsTooLongFeedLine : LineRefusal → ℕ → FeedRule → Type 0
+IsTooLongFeedLine line_refusal.Fault line why = ⊥
+IsTooLongFeedLine (line_refusal.LineTooLong number) line why = (line ≡ number) × (why ≡ rule.LineTooLong)
+IsTooLongFeedLine (line_refusal.InputTooLong number) line why = (line ≡ number) × (why ≡ rule.InputTooLong)
+IsTooLongFeedLine line_refusal.NoMemory line why = ⊥
 
 -- the first of these lines is refused
-abbrev pub IsRefusedAt : LineStream → ℕ → FeedRule → Type 0
-IsRefusedAt ended line why = ⊥
-IsRefusedAt (refused refusal) line why = IsTooLong refusal line why
-IsRefusedAt (line_then number bytes later) line why = (line ≡ number) × IsRefusedFor bytes why
+abbrev pub IsFeedRefusedAt : LineStream → ℕ → FeedRule → Type 0
+IsFeedRefusedAt ended line why = ⊥
+IsFeedRefusedAt (refused refusal) line why = IsTooLongFeedLine refusal line why
+IsFeedRefusedAt (line_then number bytes later) line why = (line ≡ number) × IsRefusedFeedLine bytes why
 
 -- The reading of the remaining lines: these objects, and this end.
-pub data Reads : LineStream → List Data → FeedClose → Type 0 where
+pub data ReadsFeedLines : LineStream → List Data → FeedClose → Type 0 where
   -- the feed ends
-  at_end : Reads ended [] Whole
+  at_end : ReadsFeedLines ended [] Whole
   -- the first line is refused
-  at_refusal : {lines : LineStream} {line : ℕ} {why : FeedRule} → IsRefusedAt lines line why → Reads lines [] (Refused line why)
+  at_refusal : {lines : LineStream} {line : ℕ} {why : FeedRule} → IsFeedRefusedAt lines line why → ReadsFeedLines lines [] (Refused line why)
   -- the first line is an object
   one_object : {number : ℕ} {bytes : List ℕ} {later : LineStream} {object : Data} {objects : List Data} {close : FeedClose}
-      → IsObjectOf bytes object → Reads later objects close → Reads (line_then number bytes later) (object ∷ objects) close
+      → IsObjectOf bytes object → ReadsFeedLines later objects close → ReadsFeedLines (line_then number bytes later) (object ∷ objects) close
 
 -- the reading of the bytes of a feed, where they are observable
 abbrev pub ReadsFeed : Option (List ℕ) → List Data → FeedClose → Type 0
-ReadsFeed left objects close = IfSome left (λ bytes. Reads (lines_of bytes) objects close)
+ReadsFeed left objects close = IfSome left (λ bytes. ReadsFeedLines (lines_of bytes) objects close)
 
 -- none of the objects breaks a rule of its type
 abbrev pub AreUnbroken : List Data → Type 0

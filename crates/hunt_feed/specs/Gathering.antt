@@ -6,13 +6,13 @@ use Rattle.std.specs.Map.{lookup}
 use Rattle.flow_values.specs.Answers.{FindsExactly}
 use Rattle.serde_json.specs.Data.{Data}
 use Rattle.stix_ids.specs.declared.id.Id.{Id}
-use Rattle.stix_json.specs.Properties.{text_at}
+use Rattle.stix_json.specs.Properties.{property_text}
 use Rattle.stix_objects.specs.declared.form.Precision.TheVariants.{Any, Millis}
 use Rattle.stix_objects.specs.Properties.{IsTimestampAt, HasId}
 use Rattle.stix_bundles.specs.Lookup.{IsOf, IsLatest}
 use Rattle.hunt_feed.specs.declared.kept.Kept.{Kept}
 use Rattle.hunt_feed.specs.declared.version.Version.{Version}
-use Rattle.hunt_feed.specs.Indicators.{IsStixIndicator, IsRevoked, IsCurrent, IsAscending}
+use Rattle.hunt_feed.specs.Indicators.{IsStixIndicator, IsRevokedId, IsCurrent, IsAscending}
 
 pub record Gathered : Type 0 where
   -- how many objects came
@@ -31,15 +31,15 @@ abbrev pub known_in : List (ℕ × Version) → ℕ → Option Version
 known_in versions number = lookup (is_at (nat_cmp number)) versions
 
 -- the position of the latest version, when it was modified, and whether some version is revoked
-pub record IsVersionAs (objects : List Data) (id : Id) (version : Version) : Type 0 where
+pub record IsLatestVersionAs (objects : List Data) (id : Id) (version : Version) : Type 0 where
   pub latest : IsLatest objects id version.at
   pub modified : latest.modified ≡ Some version.modified
-  pub revoked : IsTrue version.revoked ↔ IsRevoked objects id
+  pub revoked : IsTrue version.revoked ↔ IsRevokedId objects id
 
 -- the same; None where the objects have no version of it
 abbrev pub IsKnown : List Data → Id → Option Version → Type 0
 IsKnown objects id None = (at : ℕ) → ¬ IsOf objects id at
-IsKnown objects id (Some version) = IsVersionAs objects id version
+IsKnown objects id (Some version) = IsLatestVersionAs objects id version
 
 -- what is kept of the indicator: its identifier, its times and the text of its pattern
 pub record IsKeptAs (object : Data) (kept : Kept) : Type 0 where
@@ -48,7 +48,7 @@ pub record IsKeptAs (object : Data) (kept : Kept) : Type 0 where
   pub created : IsTimestampAt Millis (codes "created") object kept.created
   pub from : IsTimestampAt Any (codes "valid_from") object kept.from
   pub until : FindsExactly (IsTimestampAt Any (codes "valid_until") object) kept.until
-  pub told : text_at (codes "pattern") object ≡ Some kept.pattern
+  pub told : property_text (codes "pattern") object ≡ Some kept.pattern
 
 -- it is kept of the object at its position
 abbrev pub IsKeptOf : List Data → Kept → Type 0

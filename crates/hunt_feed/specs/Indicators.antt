@@ -4,7 +4,7 @@ use Rattle.std.specs.Prelude.{◌≡◌, ◌⊎◌, ℕ, ◌<◌, ℤ, ◌<ℤ�
 use Rattle.serde_json.specs.Data.{Data, boolean}
 use Rattle.serde_json.specs.Find.{get}
 use Rattle.stix_ids.specs.declared.id.Id.{Id}
-use Rattle.stix_json.specs.Properties.{text_at}
+use Rattle.stix_json.specs.Properties.{property_text}
 use Rattle.stix_objects.specs.declared.form.Precision.TheVariants.{Any, Millis}
 use Rattle.stix_objects.specs.Properties.{IsTimestampAt, HasId}
 use Rattle.stix_bundles.specs.Lookup.{IsLatest}
@@ -15,15 +15,15 @@ use Rattle.hunt_feed.specs.declared.hunted.Hunt.{Hunt}
 
 -- it is an indicator, and its pattern is one of STIX
 pub record IsStixIndicator (d : Data) : Type 0 where
-  pub typed : text_at (codes "type") d ≡ Some (codes "indicator")
-  pub language : text_at (codes "pattern_type") d ≡ Some (codes "stix")
+  pub typed : property_text (codes "type") d ≡ Some (codes "indicator")
+  pub language : property_text (codes "pattern_type") d ≡ Some (codes "stix")
 
 -- it has `revoked` set
 abbrev pub Revokes : Data → Type 0
 Revokes d = get (codes "revoked") d ≡ Some (boolean true)
 
 -- a version of the identifier is revoked
-pub record IsRevoked (objects : List Data) (id : Id) : Type 0 where
+pub record IsRevokedId (objects : List Data) (id : Id) : Type 0 where
   pub at : ℕ
   pub object : Data
   pub there : slice_get objects at ≡ Some object
@@ -36,7 +36,7 @@ pub record IsCurrent (objects : List Data) (at : ℕ) (id : Id) (object : Data) 
   pub has : HasId object id
   pub indicator : IsStixIndicator object
   pub latest : IsLatest objects id at
-  pub not_revoked : ¬ IsRevoked objects id
+  pub not_revoked : ¬ IsRevokedId objects id
 
 -- it is valid from a time not after the moment, and until a time after it, if it has one
 pub record IsValidAt (moment : ℤ) (d : Data) : Type 0 where
@@ -56,15 +56,15 @@ pub record IsHunted (objects : List Data) (moment : ℤ) (hunted : Hunted) : Typ
   pub candidate : IsCandidate objects moment hunted.at hunted.id object
   pub created : IsTimestampAt Millis (codes "created") object hunted.created
   pub text : List ℕ
-  pub told : text_at (codes "pattern") object ≡ Some text
+  pub told : property_text (codes "pattern") object ≡ Some text
   pub read : IsReadAs text hunted.pattern
 
 -- the skipped indicator is a candidate whose text is refused for this reason
-pub record IsSkipped (objects : List Data) (moment : ℤ) (skipped : Skipped) : Type 0 where
+pub record IsSkippedIndicator (objects : List Data) (moment : ℤ) (skipped : Skipped) : Type 0 where
   pub object : Data
   pub candidate : IsCandidate objects moment skipped.at skipped.id object
   pub text : List ℕ
-  pub told : text_at (codes "pattern") object ≡ Some text
+  pub told : property_text (codes "pattern") object ≡ Some text
   pub refused : IsRefusedAs text skipped.refusal
 
 -- strictly ascending
@@ -82,7 +82,7 @@ skipped_places hunt = map (λ s. s.at) hunt.skipped
 -- position, and nothing else is
 pub record IsHuntOf (objects : List Data) (moment : ℤ) (hunt : Hunt) : Type 0 where
   pub hunted : All (IsHunted objects moment) hunt.hunted
-  pub skipped : All (IsSkipped objects moment) hunt.skipped
+  pub skipped : All (IsSkippedIndicator objects moment) hunt.skipped
   pub all : (at : ℕ) (id : Id) (object : Data) → IsCandidate objects moment at id object
       → Contains (hunted_places hunt) at ⊎ Contains (skipped_places hunt) at
   pub hunted_ascend : IsAscending (hunted_places hunt)

@@ -25,8 +25,8 @@ pub record IsBroken (bytes : List ℕ) (breaks : List Break) : Type 0 where
   pub are : AreBreaksOf (data_of value) breaks
 
 -- why the bytes, if not too many, are refused: the first cause in this order
-abbrev pub IsRefusedFor : List ℕ → FeedRule → Type 0
-IsRefusedFor bytes LineTooLong = ⊥
-IsRefusedFor bytes InputTooLong = ⊥
-IsRefusedFor bytes (NoJson refusal) = (refusal ≢ json_refusal.NoMemory) × IsJsonRefusedAs bytes refusal
-IsRefusedFor bytes (Breaks breaks) = IsBroken bytes breaks
+abbrev pub IsRefusedFeedLine : List ℕ → FeedRule → Type 0
+IsRefusedFeedLine bytes LineTooLong = ⊥
+IsRefusedFeedLine bytes InputTooLong = ⊥
+IsRefusedFeedLine bytes (NoJson refusal) = (refusal ≢ json_refusal.NoMemory) × IsJsonRefusedAs bytes refusal
+IsRefusedFeedLine bytes (Breaks breaks) = IsBroken bytes breaks

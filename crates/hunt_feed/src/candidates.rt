@@ -4,7 +4,7 @@ ghost use Rattle.std.specs.Prelude.{◌≡◌, ◌↔◌, ℕ, List, IsTrue, IfO
 ghost use Rattle.serde_json.specs.Data.{Data};
 ghost use Rattle.hunt_feed.specs.Indicators.{IsHuntOf};
 ghost use Rattle.hunt_feed.specs.Gathering.{GathersFor, indicator_id};
-ghost use Rattle.hunt_feed.specs.inner.Hunting.{IsLast, IsValid, IsClassified};
+ghost use Rattle.hunt_feed.specs.inner.Hunting.{IsLast, IsValidIndicator, IsClassified};
 
 use crate::kept::Kept;
 use crate::version::Version;
@@ -58,7 +58,7 @@ fn is_last(kept: &Kept, versions: &BTreeMap<u128, Version>) -> bool
 
 /// Whether an indicator is valid at a moment.
 fn is_valid(kept: &Kept, moment: Instant) -> bool
-    ensures { IsTrue result ↔ IsValid moment kept.now }
+    ensures { IsTrue result ↔ IsValidIndicator moment kept.now }
 {
     if is_before(moment, kept.from) {
         return false;

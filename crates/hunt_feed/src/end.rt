@@ -1,6 +1,6 @@
 ghost use Rattle.std.specs.Prelude.{◌≡◌};
 ghost use Rattle.hunt_feed.specs.declared.end.FeedEnd.TheVariants.{NoMemory as OutOfMemory};
-ghost use Rattle.hunt_feed.specs.inner.Ends.{end_of_line};
+ghost use Rattle.hunt_feed.specs.inner.Ends.{feed_end};
 
 use crate::FeedRule;
 use flow_lines::LineRefusal;
@@ -26,7 +26,7 @@ impl From<NoMemory> for FeedEnd {
 }
 
 impl From<LineRefusal> for FeedEnd {
-    ghost from_gives = { λ refusal end. end ≡ end_of_line refusal };
+    ghost from_gives = { λ refusal end. end ≡ feed_end refusal };
 
     fn from(refusal: LineRefusal) -> FeedEnd {
         match refusal {

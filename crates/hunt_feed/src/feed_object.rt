@@ -3,7 +3,7 @@
 ghost use Rattle.std.specs.Prelude.{ℕ, List, IfErr, IfOk};
 ghost use Rattle.stix_json.specs.DataOf.{data_of};
 ghost use Rattle.stix_json.specs.Reading.{IsJsonOf};
-ghost use Rattle.hunt_feed.specs.Line.{IsObjectOf, IsRefusedFor};
+ghost use Rattle.hunt_feed.specs.Line.{IsObjectOf, IsRefusedFeedLine};
 
 use crate::FeedRule;
 use flow_values::NoMemory;
@@ -15,7 +15,7 @@ use stix_objects::breaks;
 pub(crate) fn read_object(alloc: Global, bytes: &[u8]) -> Result<Result<Json, FeedRule>, NoMemory>
     ensures ok { IfOk result (λ outcome. IfOk outcome
         (λ object. IsObjectOf bytes.now (data_of object))) }
-    ensures refused { IfOk result (λ outcome. IfErr outcome (IsRefusedFor bytes.now)) }
+    ensures refused { IfOk result (λ outcome. IfErr outcome (IsRefusedFeedLine bytes.now)) }
 {
     match json_of(alloc, bytes)? {
         Ok(json) => unbroken(alloc, json),
@@ -26,7 +26,7 @@ pub(crate) fn read_object(alloc: Global, bytes: &[u8]) -> Result<Result<Json, Fe
 /// Parses bytes as JSON.
 fn json_of(alloc: Global, bytes: &[u8]) -> Result<Result<Json, FeedRule>, NoMemory>
     ensures ok { IfOk result (λ outcome. IfOk outcome (IsJsonOf bytes.now)) }
-    ensures refused { IfOk result (λ outcome. IfErr outcome (IsRefusedFor bytes.now)) }
+    ensures refused { IfOk result (λ outcome. IfErr outcome (IsRefusedFeedLine bytes.now)) }
 {
     match read_json(alloc, bytes) {
         Ok(json) => Ok(Ok(json)),
@@ -40,7 +40,7 @@ fn unbroken(alloc: Global, json: Json) -> Result<Result<Json, FeedRule>, NoMemor
     ensures ok { (bytes : List ℕ) → IsJsonOf bytes json
         → IfOk result (λ outcome. IfOk outcome (λ object. IsObjectOf bytes (data_of object))) }
     ensures refused { (bytes : List ℕ) → IsJsonOf bytes json
-        → IfOk result (λ outcome. IfErr outcome (IsRefusedFor bytes)) }
+        → IfOk result (λ outcome. IfErr outcome (IsRefusedFeedLine bytes)) }
 {
     let found = breaks(alloc, &json)?;
     if found.is_empty() {

@@ -5,7 +5,7 @@ ghost use Rattle.stix_json.specs.DataOf.{data_of};
 ghost use Rattle.stix_objects.specs.Breaks.{AreBreaksOf};
 ghost use Rattle.hunt_feed.specs.Indicators.{IsHuntOf};
 ghost use Rattle.hunt_feed.specs.Gathering.{GathersFor};
-ghost use Rattle.hunt_feed.specs.inner.Adding.{IsIndicator, Puts, AddsIndicator};
+ghost use Rattle.hunt_feed.specs.inner.Adding.{IsIndicator, PutsVersion, AddsIndicator};
 
 use crate::Hunt;
 use crate::candidates::hunt_among;
@@ -105,7 +105,7 @@ impl Gathering {
 
     /// Keeps an indicator and its versions.
     fn put_kept(&mut self, number: u128, versions: Version, kept: Kept) -> Result<(), NoMemory>
-        ensures ok { OnOk result (Puts self.old self.new number versions (Some kept)) }
+        ensures ok { OnOk result (PutsVersion self.old self.new number versions (Some kept)) }
         ensures err { OnErr result (self.new ≡ self.old) }
     {
         self.kept.push(kept)?;
@@ -118,7 +118,7 @@ impl Gathering {
 
     /// Keeps the versions of an indicator.
     fn put(&mut self, number: u128, versions: Version) -> Result<(), NoMemory>
-        ensures ok { OnOk result (Puts self.old self.new number versions None) }
+        ensures ok { OnOk result (PutsVersion self.old self.new number versions None) }
         ensures err { OnErr result (self.new ≡ self.old) }
     {
         self.versions.insert(number, versions)?;

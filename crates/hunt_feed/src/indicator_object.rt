@@ -2,12 +2,13 @@
 
 ghost use Rattle.std.specs.Prelude.{◌≡◌, ◌↔◌, ℤ, [], IsTrue, IfOk, Some, codes};
 ghost use Rattle.stix_json.specs.DataOf.{data_of};
-ghost use Rattle.stix_json.specs.Properties.{text_at as text_under};
+ghost use Rattle.stix_json.specs.Properties.{property_text as text_under};
 ghost use Rattle.stix_objects.specs.Breaks.{AreBreaksOf};
 ghost use Rattle.stix_objects.specs.Properties.{IsTimestampAt, HasId};
 ghost use Rattle.hunt_feed.specs.Indicators.{Revokes, IsStixIndicator};
 ghost use Rattle.hunt_feed.specs.Gathering.{IsKeptAs, indicator_id};
-ghost use Rattle.hunt_feed.specs.inner.Adding.{IsIndicator, HasFields, IsVersionOf, IsToKeep};
+ghost use Rattle.hunt_feed.specs.inner.Adding.{IsIndicator, HasFields, IsIndicatorVersion};
+ghost use Rattle.hunt_feed.specs.inner.Adding.{IsToKeep};
 
 use crate::kept::Kept;
 use crate::version::Version;
@@ -92,7 +93,7 @@ pub(crate) fn version_at(object: &Json, at: u32) -> Version
     requires unbroken { AreBreaksOf (data_of object.now) [] }
     requires indicator { IsIndicator (data_of object.now) }
     ensures at { result.at ≡ at }
-    ensures version { IsVersionOf (data_of object.now) result }
+    ensures version { IsIndicatorVersion (data_of object.now) result }
 {
     indicators_have_fields(object);
     Version {

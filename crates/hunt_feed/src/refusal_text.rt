@@ -3,9 +3,9 @@
 ghost use Rattle.std.specs.Prelude.{◌≡◌, ◌++◌, codes, IsErr};
 ghost use Rattle.flow_edges.specs.Faults.{Counted};
 ghost use Rattle.flow_edges.specs.Flow.{WritesWhole};
-ghost use Rattle.match_input.specs.Texts.{at_path, json_text, line_of_text};
-ghost use Rattle.hunt_feed.specs.Texts.{first_break_text, rule_text, feed_refusal_text};
-ghost use Rattle.hunt_feed.specs.inner.Reasons.{reason_text};
+ghost use Rattle.match_input.specs.Texts.{text_at_path, json_text, line_of_text};
+ghost use Rattle.hunt_feed.specs.Texts.{first_rule_break_text, rule_text, feed_refusal_text};
+ghost use Rattle.hunt_feed.specs.inner.Reasons.{feed_reason_text};
 ghost use Rattle.match_input.specs.inner.Reason.{path_lead};
 
 use crate::FeedRule;
@@ -39,7 +39,7 @@ pub fn write_feed_refusal<S: Sink>(line: u64, rule: &FeedRule, sink: &mut S) -> 
 
 /// The parts for a rule.
 fn reason_of<'a>(rule: &'a FeedRule) -> Reason<'a>
-    ensures { reason_text result ≡ rule_text rule.now }
+    ensures { feed_reason_text result ≡ rule_text rule.now }
 {
     match rule {
         FeedRule::LineTooLong => name_alone("LineTooLong"),
@@ -51,7 +51,7 @@ fn reason_of<'a>(rule: &'a FeedRule) -> Reason<'a>
 
 /// A name alone.
 fn name_alone<'a>(name: &'static str) -> Reason<'a>
-    ensures { reason_text result ≡ name.now }
+    ensures { feed_reason_text result ≡ name.now }
 {
     Reason {
         name,
@@ -62,7 +62,7 @@ fn name_alone<'a>(name: &'static str) -> Reason<'a>
 
 /// A name and a path.
 fn name_at<'a>(name: &'static str, path: &'a str) -> Reason<'a>
-    ensures { reason_text result ≡ at_path name.now path.now }
+    ensures { feed_reason_text result ≡ text_at_path name.now path.now }
 {
     Reason {
         name,
@@ -73,7 +73,7 @@ fn name_at<'a>(name: &'static str, path: &'a str) -> Reason<'a>
 
 /// The parts for bytes that are no JSON.
 fn reason_of_json<'a>(refusal: &'a JsonRefusal) -> Reason<'a>
-    ensures { reason_text result ≡ json_text refusal.now }
+    ensures { feed_reason_text result ≡ json_text refusal.now }
 {
     match refusal {
         JsonRefusal::NotJson => name_alone("NotJson"),
@@ -88,7 +88,7 @@ fn reason_of_json<'a>(refusal: &'a JsonRefusal) -> Reason<'a>
 
 /// The parts for broken rules: the first one.
 fn reason_of_breaks<'a>(breaks: &'a [Break]) -> Reason<'a>
-    ensures { reason_text result ≡ first_break_text breaks.now }
+    ensures { feed_reason_text result ≡ first_rule_break_text breaks.now }
 {
     match breaks {
         [first, ..] => Reason {
@@ -103,7 +103,7 @@ fn reason_of_breaks<'a>(breaks: &'a [Break]) -> Reason<'a>
 /// Writes the line of a refusal.
 fn write_reason<S: Sink>(line: &str, reason: Reason<'_>, sink: &mut S) -> Result<(), Fault>
     ensures text { WritesWhole (codes "indicators "
-        ++ line_of_text line.now (reason_text reason.entry)) (S.written sink.old)
+        ++ line_of_text line.now (feed_reason_text reason.entry)) (S.written sink.old)
         (S.written sink.new) result }
     ensures causes { Counted (IsErr result) (S.faults sink.old) (S.faults sink.new) }
 {
@@ -119,7 +119,7 @@ fn write_parts<'a, S: Sink>(
     sink: &mut S,
 ) -> Result<(), Fault>
     ensures text { WritesWhole (codes "indicators "
-        ++ line_of_text line.now (at_path (name.now ++ rule.now) path.now)) (S.written sink.old)
+        ++ line_of_text line.now (text_at_path (name.now ++ rule.now) path.now)) (S.written sink.old)
         (S.written sink.new) result }
     ensures causes { Counted (IsErr result) (S.faults sink.old) (S.faults sink.new) }
 {

@@ -19,16 +19,16 @@ use Rattle.hunt_index.specs.declared.paths.Lookup.{Lookup}
 use Rattle.hunt_index.specs.declared.paths.PathTable.{PathTable}
 use Rattle.hunt_index.specs.declared.finder.Finder.{Finder}
 use Rattle.hunt_index.specs.Definite.{ArePlain}
-use Rattle.hunt_index.specs.inner.Keys.{Fits}
+use Rattle.hunt_index.specs.inner.Keys.{FitsKey}
 use Rattle.hunt_index.specs.inner.Postings.{HasIndexKeys, IsCovered, IsPostingIn, IsOpenIn, ArePostingsOf}
 use Rattle.hunt_index.specs.inner.Paths.{IsOfPosting, AreAllGrouped}
-use Rattle.hunt_index.specs.inner.Indexed.{IsLedTo, IsFound, IsDefiniteFor, IsEntryOf, IsOpenOf, IsOfKind, IsFinderOf}
+use Rattle.hunt_index.specs.inner.Indexed.{IsLedTo, IsFoundBracket, IsDefiniteFor, IsEntryOf, IsOpenOf, IsPathEntryOfKind, IsFinderOf}
 use Rattle.hunt_index.specs.inner.Finding.{AreKinds}
 use Rattle.hunt_index.proofs.PostingsLemmas.{posting_of}
 
 module _ (brackets : List Leaf) (postings : Postings) (path_table : PathTable) (kinds : List (Bor (List ℕ) × ℕ)) (finder : Finder)
     (are_postings : ArePostingsOf brackets (length brackets) postings) (are_filed : AreAllGrouped postings.indexed.items path_table) (are_kinds : AreKinds path_table.paths.items kinds)
-    (only_kinds : All (IsOfKind path_table.paths.items) kinds)
+    (only_kinds : All (IsPathEntryOfKind path_table.paths.items) kinds)
     (kinded : IsPermutation kinds finder.kinds.entries.items) (same : finder.paths.items ≡ path_table.paths.items)
     (entered : IsPermutation path_table.entries.items finder.brackets_found.entries.items) (unindexed : finder.unindexed.items ≡ postings.unindexed.items) where
   led : (bracket : ℕ) (leaf : Leaf) → HasIndexKeys postings.indexed.items leaf bracket → (objects : List Data) (root : ℕ) → HoldsAt objects root (plain_leaf leaf)
@@ -58,7 +58,7 @@ module _ (brackets : List Leaf) (postings : Postings) (path_table : PathTable) (
         entered = Contains-permutation path_table.entries.items finder.brackets_found.entries.items (lookup, bracket) entered file.entered;
       }
 
-  found : (bracket : ℕ) (leaf : Leaf) → IsCovered postings leaf bracket → IsFound finder leaf bracket
+  found : (bracket : ℕ) (leaf : Leaf) → IsCovered postings leaf bracket → IsFoundBracket finder leaf bracket
   found bracket leaf covered = elim covered [
     | inl is ↦ inl (subst (λ (l : List ℕ). Contains l bracket) (sym unindexed) is)
     | inr indexed ↦ inr (led bracket leaf indexed)
@@ -76,7 +76,7 @@ module _ (brackets : List Leaf) (postings : Postings) (path_table : PathTable) (
         is_root = subst (λ (k : List ℕ). IsRoot objects root k seen.object) (ap (λ (g : IndexKey). g.kind.now) path_is ∙ own.numbered.same.kind) seen.is_root;
         value = from.value;
         reached = subst (λ (s : List Step). Reaches objects None s seen.object from.value) (ap (λ (g : IndexKey). g.steps.now) path_is ∙ own.numbered.same.steps) from.reached;
-        fits = subst (λ (k : Key). Fits k from.value) own.keyed from.fits;
+        fits = subst (λ (k : Key). FitsKey k from.value) own.keyed from.fits;
       })
 
   entry_of_bracket : (entry : Lookup × ℕ) → IsOfPosting path_table.paths.items postings.indexed.items entry → IsEntryOf brackets finder.paths.items entry
@@ -92,8 +92,8 @@ module _ (brackets : List Leaf) (postings : Postings) (path_table : PathTable) (
     unindexed = subst (λ (l : List ℕ). All (IsOpenOf brackets) l) (sym unindexed)
         (All-weaker (IsOpenIn brackets (length brackets)) (IsOpenOf brackets) (λ n own. record { below = own.below; indefinite = λ leaf there. (own.is leaf there).indefinite })
         postings.unindexed.items are_postings.unindexed);
-    kinds = All-permutation (IsOfKind finder.paths.items) kinds finder.kinds.entries.items kinded
-        (subst (λ (ps : List IndexKey). All (IsOfKind ps) kinds) (sym same) only_kinds);
+    kinds = All-permutation (IsPathEntryOfKind finder.paths.items) kinds finder.kinds.entries.items kinded
+        (subst (λ (ps : List IndexKey). All (IsPathEntryOfKind ps) kinds) (sym same) only_kinds);
   }
 
 before_or_last : (at count : ℕ) → at < count + 1 → (at < count) ⊎ (at ≡ count)
@@ -101,7 +101,7 @@ before_or_last at count below = grind arith
 
 -- the first so many paths have their numbers beside the types of their roots
 abbrev pub AreFirstKinds : List IndexKey → ℕ → List (Bor (List ℕ) × ℕ) → Type 0
-AreFirstKinds paths count kinds = ((at : ℕ) (path : IndexKey) → at < count → slice_get paths at ≡ Some path → Contains kinds (path.kind, at)) × All (IsOfKind paths) kinds
+AreFirstKinds paths count kinds = ((at : ℕ) (path : IndexKey) → at < count → slice_get paths at ≡ Some path → Contains kinds (path.kind, at)) × All (IsPathEntryOfKind paths) kinds
 
 -- one path more
 pub kinds_next : (paths : List IndexKey) (count : ℕ) (path : IndexKey) (old new : List (Bor (List ℕ) × ℕ)) → slice_get paths count ≡ Some path
@@ -117,6 +117,6 @@ kinds_next paths count path old new there is first = (
         (subst (λ (index_key : IndexKey). Contains new (index_key.kind, count)) same
         (subst (λ (kinds : List (Bor (List ℕ) × ℕ)). Contains kinds (path.kind, count)) (sym is) (Contains-push old (path.kind, count))))
   ],
-  subst (λ (kinds : List (Bor (List ℕ) × ℕ)). All (IsOfKind paths) kinds) (sym is)
-      (All-push (IsOfKind paths) old (path.kind, count) first.1 (λ other own. ap (λ (index_key : IndexKey). index_key.kind.now) (same_Some other path (sym own ∙ there)))),
+  subst (λ (kinds : List (Bor (List ℕ) × ℕ)). All (IsPathEntryOfKind paths) kinds) (sym is)
+      (All-push (IsPathEntryOfKind paths) old (path.kind, count) first.1 (λ other own. ap (λ (index_key : IndexKey). index_key.kind.now) (same_Some other path (sym own ∙ there)))),
 )

@@ -20,13 +20,13 @@ use Rattle.pattern_types.specs.declared.check.Check.{Check}
 use Rattle.pattern_types.specs.declared.check.Check.TheVariants as checks
 use Rattle.pattern_types.specs.declared.leaf.Test.{Test}
 use Rattle.match_comparisons.specs.Selection.{IsRoot, Reaches, last_name}
-use Rattle.match_comparisons.specs.Tests.{TestHolds, NegatedIf, Meets, last_of}
+use Rattle.match_comparisons.specs.Tests.{TestHolds, NegatedIf, MeetsCheck, last_property}
 use Rattle.hunt_index.specs.declared.index_key.IndexKey.{IndexKey}
 use Rattle.hunt_index.specs.declared.key.Key.{Key}
 use Rattle.hunt_index.specs.declared.key.Key.TheVariants as key
-use Rattle.hunt_index.specs.inner.Keys.{Fits}
+use Rattle.hunt_index.specs.inner.Keys.{FitsKey}
 use Rattle.hunt_index.specs.Definite.{IsPlain, ArePlain, IsDefiniteConstant, IsDefiniteCheck, IsDefiniteTest}
-use Rattle.hunt_index.specs.inner.IndexKeys.{SomeMet, AreIndexKeys, IsSufficient, AreSufficient, HasIndexKey, AreBy, Represents, Answers, AnswersSome}
+use Rattle.hunt_index.specs.inner.IndexKeys.{SomeMet, AreIndexKeys, IsSufficient, AreSufficient, HasIndexKey, AreBy, KeyRepresents, AnswersConstant, AnswersSome}
 
 -- where steps reach a value, the first of them reach one
 pub front_reaches : (objects : List Data) (last : Option (List ℕ)) (front rest : List Step) (value found : Data)
@@ -38,7 +38,7 @@ front_reaches objects last (step ∷ front) rest value found reaches =
 
 -- an index key with the path is met where its steps reach a value that its key stands for
 pub index_key_met : (objects : List Data) (root : ℕ) (kind : List ℕ) (steps : List Step) (index_keys : List IndexKey) (from value : Data) → ArePlain steps
-    → IsRoot objects root kind from → Reaches objects None steps from value → HasIndexKey kind steps (λ own. Fits own value) index_keys → SomeMet objects root index_keys
+    → IsRoot objects root kind from → Reaches objects None steps from value → HasIndexKey kind steps (λ own. FitsKey own value) index_keys → SomeMet objects root index_keys
 index_key_met objects root kind steps index_keys from value plain is_root reaches has = (
   has.index_key,
   has.among,
@@ -63,15 +63,15 @@ weaker kind steps Fact More index_keys follows has = record {
   key = follows has.index_key.key has.key;
 }
 
-any_fits : (value : Data) (own : Key) → own ≡ key.Any → Fits own value
-any_fits value own is = subst (λ (k : Key). Fits k value) (sym is) tt
+any_fits : (value : Data) (own : Key) → own ≡ key.Any → FitsKey own value
+any_fits value own is = subst (λ (k : Key). FitsKey k value) (sym is) tt
 
 module _ (test : Test) (plain_test : test.negated ≡ false) where
   met_value : (objects : List Data) (root : ℕ) (holds : TestHolds objects root test)
-      → (object value : Data) × IsRoot objects root test.path.kind object × Reaches objects None test.path.steps object value × Meets (last_of test.path) value test.check
+      → (object value : Data) × IsRoot objects root test.path.kind object × Reaches objects None test.path.steps object value × MeetsCheck (last_property test.path) value test.check
   met_value objects root holds =
       let some = holds.something (λ absence. false≢true (sym plain_test ∙ absence.1)) in
-      (some.1.object, some.0, some.1.is_root, some.1.reached, subst (λ (b : Bool). NegatedIf b (Meets (last_of test.path) some.0 test.check)) plain_test some.2)
+      (some.1.object, some.0, some.1.is_root, some.1.reached, subst (λ (b : Bool). NegatedIf b (MeetsCheck (last_property test.path) some.0 test.check)) plain_test some.2)
 
   -- and the first steps of its path lead to a value
   pub front_index_keys : (front rest : List Step) (index_keys : List IndexKey) → test.path.steps ≡ front ++ rest → ArePlain front
@@ -80,11 +80,11 @@ module _ (test : Test) (plain_test : test.negated ≡ false) where
       let met = met_value objects root holds in
       let mid = front_reaches objects None front rest met.0 met.1 (subst (λ (s : List Step). Reaches objects None s met.0 met.1) split met.3) in
       index_key_met objects root test.path.kind front index_keys met.0 mid.0 plain met.2 mid.1
-      (weaker test.path.kind front (λ own. own ≡ key.Any) (λ own. Fits own mid.0) index_keys (any_fits mid.0) has)
+      (weaker test.path.kind front (λ own. own ≡ key.Any) (λ own. FitsKey own mid.0) index_keys (any_fits mid.0) has)
 
   -- all of the steps lead to a value that meets its check
   pub value_index_keys : (steps : List Step) (index_keys : List IndexKey) → test.path.steps ≡ steps → ArePlain steps
-      → ((value : Data) → Meets (last_of test.path) value test.check → HasIndexKey test.path.kind steps (λ own. Fits own value) index_keys)
+      → ((value : Data) → MeetsCheck (last_property test.path) value test.check → HasIndexKey test.path.kind steps (λ own. FitsKey own value) index_keys)
       → AreIndexKeys (λ objects root. TestHolds objects root test) index_keys
   value_index_keys steps index_keys is plain has objects root holds =
       let met = met_value objects root holds in
@@ -108,27 +108,27 @@ plain_unless (steps.Place n) not = tt
 plain_unless steps.Each not = absurd (not refl)
 
 -- the key of a text stands for what equals it
-pub text_key : (constant : Constant) (words : List ℕ) (text : Bor (List ℕ)) → constant ≡ constants.String words → text.now ≡ words → Represents constant (key.Text text)
+pub text_key : (constant : Constant) (words : List ℕ) (text : Bor (List ℕ)) → constant ≡ constants.String words → text.now ≡ words → KeyRepresents constant (key.Text text)
 text_key constant words text is same =
-    subst (λ (c : Constant). Represents c (key.Text text)) (sym is)
+    subst (λ (c : Constant). KeyRepresents c (key.Text text)) (sym is)
     (λ last value compares. compares.1 ∙ ap Some (exact_bytes compares.0 words (sym compares.2) ∙ sym same))
 
 -- and each value that it stands for equals the text
-pub text_answers : (constant : Constant) (words : List ℕ) (text : Bor (List ℕ)) → constant ≡ constants.String words → text.now ≡ words → Answers constant (key.Text text)
+pub text_answers : (constant : Constant) (words : List ℕ) (text : Bor (List ℕ)) → constant ≡ constants.String words → text.now ≡ words → AnswersConstant constant (key.Text text)
 text_answers constant words text is same =
-    subst (λ (c : Constant). Answers c (key.Text text)) (sym is)
+    subst (λ (c : Constant). AnswersConstant c (key.Text text)) (sym is)
     (λ definite last value fits. (text.now, fits, sym (subst (λ (t : List ℕ). slice_cmp nat_cmp text.now t ≡ order.Equal) same (tied_itself nat_list_cmp_total text.now))))
 
 -- as that of a whole number does
-pub whole_answers : (constant : Constant) (whole own : ℤ) → constant ≡ constants.Integer whole → own ≡ whole → Answers constant (key.Integer own)
+pub whole_answers : (constant : Constant) (whole own : ℤ) → constant ≡ constants.Integer whole → own ≡ whole → AnswersConstant constant (key.Integer own)
 whole_answers constant whole own is same =
-    subst (λ (n : ℤ). Answers constant (key.Integer n)) (sym same)
-    (subst (λ (c : Constant). Answers c (key.Integer whole)) (sym is) (λ definite last value fits. (whole, fits, sym (tied_itself int_cmp_total whole))))
+    subst (λ (n : ℤ). AnswersConstant constant (key.Integer n)) (sym same)
+    (subst (λ (c : Constant). AnswersConstant c (key.Integer whole)) (sym is) (λ definite last value fits. (whole, fits, sym (tied_itself int_cmp_total whole))))
 
 module _ (test : Test) (definite : IsDefiniteTest test) where
   -- an index key by the path of a definite test is sufficient where each value that its key stands for meets the check
   shown_holds : (index_key : IndexKey) → index_key.kind.now ≡ test.path.kind → index_key.steps.now ≡ test.path.steps
-      → ((value : Data) → Fits index_key.key value → Meets (last_of test.path) value test.check) → IsSufficient (λ objects root. TestHolds objects root test) index_key
+      → ((value : Data) → FitsKey index_key.key value → MeetsCheck (last_property test.path) value test.check) → IsSufficient (λ objects root. TestHolds objects root test) index_key
   shown_holds index_key kind_is steps_are meets objects root shown =
       let is_root = subst (λ (k : List ℕ). IsRoot objects root k shown.object) kind_is shown.is_root in
       let reached = subst (λ (s : List Step). Reaches objects None s shown.object shown.value) steps_are shown.reached in
@@ -139,19 +139,19 @@ module _ (test : Test) (definite : IsDefiniteTest test) where
         something = λ not. (
           shown.value,
           record { object = shown.object; is_root = is_root; reached = reached },
-          subst (λ (b : Bool). NegatedIf b (Meets (last_of test.path) shown.value test.check)) (sym definite.asked) (meets shown.value shown.fits),
+          subst (λ (b : Bool). NegatedIf b (MeetsCheck (last_property test.path) shown.value test.check)) (sym definite.asked) (meets shown.value shown.fits),
         );
       }
 
   -- so is the index key of `=`
-  pub equal_sufficient : (constant : Constant) (own : Key) (front : List Step) (index_keys : List IndexKey) → test.check ≡ checks.Equal constant → test.path.steps ≡ front → Answers constant own
+  pub equal_sufficient : (constant : Constant) (own : Key) (front : List Step) (index_keys : List IndexKey) → test.check ≡ checks.Equal constant → test.path.steps ≡ front → AnswersConstant constant own
       → AreBy test.path.kind front (λ k. k ≡ own) index_keys → AreSufficient (λ objects root. TestHolds objects root test) index_keys
   equal_sufficient constant own front index_keys check_is is answers by index_key has =
       let b = by index_key has in
       shown_holds index_key b.kind_is (b.steps_are ∙ sym is)
       (λ value fits.
-      subst (λ (c : Check). Meets (last_of test.path) value c) (sym check_is)
-      (answers (subst IsDefiniteCheck check_is definite.check) (last_of test.path) value (subst (λ (k : Key). Fits k value) b.key fits)))
+      subst (λ (c : Check). MeetsCheck (last_property test.path) value c) (sym check_is)
+      (answers (subst IsDefiniteCheck check_is definite.check) (last_property test.path) value (subst (λ (k : Key). FitsKey k value) b.key fits)))
 
   -- and each of those of IN
   pub among_sufficient : (list : List Constant) (front : List Step) (index_keys : List IndexKey) → test.check ≡ checks.Among list → test.path.steps ≡ front
@@ -162,13 +162,13 @@ module _ (test : Test) (definite : IsDefiniteTest test) where
       let all = subst IsDefiniteCheck check_is definite.check in
       shown_holds index_key b.kind_is (b.steps_are ∙ sym is)
       (λ value fits.
-      subst (λ (c : Check). Meets (last_of test.path) value c) (sym check_is)
-      (one.0, one.1, one.2 (All-contains IsDefiniteConstant list one.0 all one.1) (last_of test.path) value fits))
+      subst (λ (c : Check). MeetsCheck (last_property test.path) value c) (sym check_is)
+      (one.0, one.1, one.2 (All-contains IsDefiniteConstant list one.0 all one.1) (last_property test.path) value fits))
 
 -- one constant more has its index key
 pub keyed_next : (kind : List ℕ) (steps : List Step) (constants : List Constant) (i : ℕ) (constant : Constant) (old new : List IndexKey) (index_key : IndexKey)
-    → i < length constants → constant ≡ get_or constants i constant → new ≡ old ++ index_key ∷ [] → index_key.kind.now ≡ kind → index_key.steps.now ≡ steps → Represents constant index_key.key
-    → ((c : Constant) → Contains (take i constants) c → HasIndexKey kind steps (Represents c) old) → (c : Constant) → Contains (take (i + 1) constants) c → HasIndexKey kind steps (Represents c) new
+    → i < length constants → constant ≡ get_or constants i constant → new ≡ old ++ index_key ∷ [] → index_key.kind.now ≡ kind → index_key.steps.now ≡ steps → KeyRepresents constant index_key.key
+    → ((c : Constant) → Contains (take i constants) c → HasIndexKey kind steps (KeyRepresents c) old) → (c : Constant) → Contains (take (i + 1) constants) c → HasIndexKey kind steps (KeyRepresents c) new
 keyed_next kind steps constants i constant old new index_key below is added kind_is steps_are stands before c has =
     elim ((in_more (take i constants) constant c).0 (subst (λ (l : List Constant). Contains l c) (take_next constants i constant below is) has)) [
       | inl earlier ↦
@@ -185,13 +185,13 @@ keyed_next kind steps constants i constant old new index_key below is added kind
         among = subst (λ (l : List IndexKey). Contains l index_key) (sym added) (Contains-push old index_key);
         kind_is = kind_is;
         steps_are = steps_are;
-        key = subst (λ (own : Constant). Represents own index_key.key) (sym now) stands;
+        key = subst (λ (own : Constant). KeyRepresents own index_key.key) (sym now) stands;
       }
     ]
 
 -- and the index keys are those of the constants
 pub by_next : (kind : List ℕ) (steps : List Step) (list : List Constant) (i : ℕ) (constant : Constant) (old new : List IndexKey) (index_key : IndexKey)
-    → i < length list → constant ≡ get_or list i constant → new ≡ old ++ index_key ∷ [] → index_key.kind.now ≡ kind → index_key.steps.now ≡ steps → Answers constant index_key.key
+    → i < length list → constant ≡ get_or list i constant → new ≡ old ++ index_key ∷ [] → index_key.kind.now ≡ kind → index_key.steps.now ≡ steps → AnswersConstant constant index_key.key
     → AreBy kind steps (AnswersSome list) old → AreBy kind steps (AnswersSome list) new
 by_next kind steps list i constant old new index_key below is added kind_is steps_are answers before other has =
     elim ((in_more old index_key other).0 (subst (λ (l : List IndexKey). Contains l other) added has)) [

@@ -7,7 +7,7 @@ use Rattle.std.specs.Ordering.{nat_cmp}
 use Rattle.std.specs.Cmp.Lexicographic.{slice_cmp}
 use Rattle.std.specs.declared.cmp.Ordering.TheVariants.{Equal}
 use Rattle.std.proofs.lemmas.Cmp.{tied_itself, nat_list_cmp_total}
-use Rattle.stix_json.specs.Properties.{text_at}
+use Rattle.stix_json.specs.Properties.{property_text}
 use Rattle.match_comparisons.proofs.ContainsLemmas.{in_more}
 use Rattle.hunt_index.specs.declared.finder.Finder.{Finder}
 use Rattle.std.proofs.lemmas.List.Elements.{All-contains, Contains-append_left}
@@ -19,10 +19,10 @@ use Rattle.hunt_index.specs.declared.index_key.IndexKey.{IndexKey}
 use Rattle.hunt_index.specs.declared.key.Key.{Key}
 use Rattle.hunt_index.specs.declared.key.Key.TheVariants.{Any, Integer, Text}
 use Rattle.hunt_index.specs.declared.paths.Lookup.{Lookup}
-use Rattle.hunt_index.specs.inner.Keys.{Fits, AreSame, IsAsked}
+use Rattle.hunt_index.specs.inner.Keys.{FitsKey, AreSame, IsAskedKey}
 use Rattle.hunt_index.specs.Definite.{ArePlain}
-use Rattle.hunt_index.specs.inner.Indexed.{IsReachedFrom, IsSeenFrom, IsSeen, IsOfKind}
-use Rattle.hunt_index.specs.inner.Finding.{AreAlike, Keeps, AsksByPath, AskByPaths, AsksFor, AreAsked, AddsOnly, IsSeenBy, AreSeen}
+use Rattle.hunt_index.specs.inner.Indexed.{IsReachedFrom, IsSeenFrom, IsSeen, IsPathEntryOfKind}
+use Rattle.hunt_index.specs.inner.Finding.{AreAlike, KeepsLookups, AsksByPath, AskByPaths, AsksFor, AreAsked, AddsOnly, IsSeenBy, AreSeen}
 
 pub same_through : (one other third : Key) → AreSame one other → AreSame other third → AreSame one third
 same_through Any Any third same also = also
@@ -43,18 +43,18 @@ pub alike_through : (one other third : Lookup) → AreAlike one other → AreAli
 alike_through one other third first second = record { path = first.path ∙ second.path; key = same_through one.key other.key third.key first.key second.key }
 
 -- more at the end takes nothing away
-pub keeps_more : (old new : List Lookup) (more : List Lookup) → new ≡ old ++ more → Keeps old new
+pub keeps_more : (old new : List Lookup) (more : List Lookup) → new ≡ old ++ more → KeepsLookups old new
 keeps_more old new more is lookup looked = record {
   found = looked.found;
   among = subst (λ (ls : List Lookup). Contains ls looked.found) (sym is) (Contains-append_left old more looked.found looked.among);
   alike = looked.alike;
 }
 
-pub keeps_through : (old mid new : List Lookup) → Keeps old mid → Keeps mid new → Keeps old new
+pub keeps_through : (old mid new : List Lookup) → KeepsLookups old mid → KeepsLookups mid new → KeepsLookups old new
 keeps_through old mid new first second lookup looked = second lookup (first lookup looked)
 
 -- a key is asked for as `Any`, or as that which was found
-asked_cases : (found : Option Key) (own : Key) → IsAsked found own → (own ≡ Any) ⊎ ((other : Key) × (found ≡ Some other) × AreSame own other)
+asked_cases : (found : Option Key) (own : Key) → IsAskedKey found own → (own ≡ Any) ⊎ ((other : Key) × (found ≡ Some other) × AreSame own other)
 asked_cases found Any asked = inl refl
 asked_cases None (Integer whole) asked = absurd asked
 asked_cases None (Text text) asked = absurd asked
@@ -69,33 +69,33 @@ module _ (paths : List IndexKey) (objects : List Data) (from : Data) (number : �
     -- it leads to a value, which is looked up
     pub asks_value : (lookups : List Lookup) (value_there : Data) (found : Option Key)
         → ((value : Data) → ArePlain index_key.steps.now → Reaches objects None index_key.steps.now from value → Some value_there ≡ Some value)
-        → ((own : Key) → Fits own value_there → IsAsked found own) → Contains lookups (record { path = number; key = Any })
+        → ((own : Key) → FitsKey own value_there → IsAskedKey found own) → Contains lookups (record { path = number; key = Any })
         → ((own : Key) → found ≡ Some own → Contains lookups (record { path = number; key = own })) → AsksByPath paths objects from number lookups
     asks_value lookups value_there found only asked has_any has_own lookup is reached =
         let same = the_path lookup is reached in
         let value_is : value_there ≡ reached.value = same_Some value_there reached.value (only reached.value (subst (λ (g : IndexKey). ArePlain g.steps.now) same reached.plain)
         (subst (λ (g : IndexKey). Reaches objects None g.steps.now from reached.value) same reached.reached)) in
-        let cases = asked_cases found lookup.key (asked lookup.key (subst (Fits lookup.key) (sym value_is) reached.fits)) in
+        let cases = asked_cases found lookup.key (asked lookup.key (subst (FitsKey lookup.key) (sym value_is) reached.fits)) in
         elim cases [
           | inl any ↦ record { found = record { path = number; key = Any }; among = has_any; alike = record { path = is; key = subst (λ (k : Key). AreSame k Any) (sym any) tt } }
           | inr own ↦ record { found = record { path = number; key = own.0 }; among = has_own own.0 own.1; alike = record { path = is; key = own.2 } }
         ]
 
 -- what was looked up by a path is looked up still
-pub still_asks : (paths : List IndexKey) (objects : List Data) (from : Data) (number : ℕ) (old new : List Lookup) → Keeps old new
+pub still_asks : (paths : List IndexKey) (objects : List Data) (from : Data) (number : ℕ) (old new : List Lookup) → KeepsLookups old new
     → AsksByPath paths objects from number old → AsksByPath paths objects from number new
 still_asks paths objects from number old new keeps asks lookup is reached = keeps lookup (asks lookup is reached)
 
 -- one path more
 pub paths_next : (paths : List IndexKey) (objects : List Data) (from : Data) (numbers : List (Bor (List ℕ) × ℕ)) (entry : Bor (List ℕ) × ℕ) (old new : List Lookup)
-    → AskByPaths paths objects from numbers old → Keeps old new → AsksByPath paths objects from entry.1 new → AskByPaths paths objects from (numbers ++ entry ∷ []) new
+    → AskByPaths paths objects from numbers old → KeepsLookups old new → AsksByPath paths objects from entry.1 new → AskByPaths paths objects from (numbers ++ entry ∷ []) new
 paths_next paths objects from numbers entry old new before keeps asks other has = elim ((in_more numbers entry other).0 has) [
   | inl earlier ↦ still_asks paths objects from other.1 old new keeps (before other earlier)
   | inr now ↦ subst (λ (e : Bor (List ℕ) × ℕ). AsksByPath paths objects from e.1 new) (sym now) asks
 ]
 
 -- one root more
-pub roots_next : (finder : Finder) (objects : List Data) (roots : List ℕ) (root : ℕ) (old new : List Lookup) → AreAsked finder objects roots old → Keeps old new
+pub roots_next : (finder : Finder) (objects : List Data) (roots : List ℕ) (root : ℕ) (old new : List Lookup) → AreAsked finder objects roots old → KeepsLookups old new
     → AsksFor finder objects root new → AreAsked finder objects (roots ++ root ∷ []) new
 roots_next finder objects roots root old new before keeps asks other has = elim ((in_more roots root other).0 has) [
   | inl earlier ↦ λ lookup leads. keeps lookup (before other earlier lookup leads)
@@ -104,13 +104,13 @@ roots_next finder objects roots root old new before keeps asks other has = elim 
 
 -- the paths for the type of a root's object are all that lead from it
 pub asks_root : (finder : Finder) (objects : List Data) (root : ℕ) (from : Data) (kind : Bor (List ℕ)) (entries : List (Bor (List ℕ) × ℕ)) (lookups : List Lookup)
-    → Some from ≡ slice_get objects root → Some kind.now ≡ text_at (codes "type") from
+    → Some from ≡ slice_get objects root → Some kind.now ≡ property_text (codes "type") from
     → ((own : Bor (List ℕ)) (number : ℕ) → slice_cmp nat_cmp own.now kind.now ≡ Equal → Contains finder.kinds.entries.items (own, number) → Contains entries (own, number))
     → AskByPaths finder.paths.items objects from entries lookups → AsksFor finder objects root lookups
 asks_root finder objects root from kind entries lookups there typed all asks lookup leads =
     let path = leads.reached.path in
     let same : from ≡ leads.object = same_Some from leads.object (there ∙ leads.is_root.there) in
-    let kinds : kind.now ≡ path.kind.now = same_Some kind.now path.kind.now (typed ∙ ap (text_at (codes "type")) same ∙ leads.is_root.typed) in
+    let kinds : kind.now ≡ path.kind.now = same_Some kind.now path.kind.now (typed ∙ ap (property_text (codes "type")) same ∙ leads.is_root.typed) in
     let tied : slice_cmp nat_cmp path.kind.now kind.now ≡ Equal =
     subst (λ (t : List ℕ). slice_cmp nat_cmp path.kind.now t ≡ Equal) (sym kinds) (tied_itself nat_list_cmp_total path.kind.now) in
     asks (path.kind, lookup.path) (all path.kind lookup.path tied leads.kinded) lookup refl
@@ -138,7 +138,7 @@ only_weaker Own More old new follows only lookup has = elim (only lookup has) [
 
 -- a value that a path leads to is seen by it
 pub seen_value : (paths : List IndexKey) (objects : List Data) (from : Data) (number : ℕ) (index_key : IndexKey) (own : Key) (value : Data) → Some index_key ≡ slice_get paths number
-    → Reaches objects None index_key.steps.now from value → Fits own value
+    → Reaches objects None index_key.steps.now from value → FitsKey own value
     → (number ≡ number) × IsSeenFrom paths objects from (record { path = number; key = own })
 seen_value paths objects from number index_key own value there reached fits =
     (refl, record { path = index_key; there = sym there; value = value; reached = reached; fits = fits })
@@ -150,13 +150,13 @@ seen_by paths objects from numbers entry has lookup own = record { entry = entry
 
 -- by the paths for a root's type it is seen from the root
 pub seen_root : (paths : List IndexKey) (objects : List Data) (root : ℕ) (from : Data) (kind : Bor (List ℕ)) (kinds entries : List (Bor (List ℕ) × ℕ))
-    → Some from ≡ slice_get objects root → Some kind.now ≡ text_at (codes "type") from → All (IsOfKind paths) kinds
+    → Some from ≡ slice_get objects root → Some kind.now ≡ property_text (codes "type") from → All (IsPathEntryOfKind paths) kinds
     → ((entry : Bor (List ℕ) × ℕ) → Contains entries entry → Contains kinds entry)
     → ((entry : Bor (List ℕ) × ℕ) → Contains entries entry → slice_cmp nat_cmp entry.0.now kind.now ≡ Equal)
     → (lookup : Lookup) → IsSeenBy paths objects from entries lookup → IsSeen paths objects root lookup
 seen_root paths objects root from kind kinds entries there typed are_kinds only keyed lookup by =
     let path = by.seen.path in
-    let of_kind = All-contains (IsOfKind paths) kinds by.entry are_kinds (only by.entry by.among) in
+    let of_kind = All-contains (IsPathEntryOfKind paths) kinds by.entry are_kinds (only by.entry by.among) in
     let kind_is : path.kind.now ≡ kind.now =
     of_kind path (ap (slice_get paths) (sym by.path_is) ∙ by.seen.there) ∙ exact_bytes by.entry.0.now kind.now (keyed by.entry by.among) in
     record {
@@ -173,7 +173,7 @@ seen_next paths objects roots root old new has before only lookup there = elim (
   | inr now ↦ (root, has, now)
 ]
 
-fits_same : (own other : Key) (value : Data) → AreSame own other → Fits other value → Fits own value
+fits_same : (own other : Key) (value : Data) → AreSame own other → FitsKey other value → FitsKey own value
 fits_same Any other value same fits = tt
 fits_same (Integer whole) (Integer other) value same fits = fits ∙ ap (λ (n : ℤ). number_of (of_integer n)) (sym same)
 fits_same (Text text) (Text other) value same fits = fits ∙ ap Some (sym same)

@@ -11,7 +11,7 @@ use Rattle.match_comparisons.specs.Tests.{LeafHolds}
 use Rattle.match_comparisons.proofs.ContainsLemmas.{in_more}
 use Rattle.hunt_index.specs.declared.paths.Lookup.{Lookup}
 use Rattle.hunt_index.specs.declared.finder.Finder.{Finder}
-use Rattle.hunt_index.specs.inner.Indexed.{IsFound, IsEntryOf, IsOpenOf, IsFinderOf}
+use Rattle.hunt_index.specs.inner.Indexed.{IsFoundBracket, IsEntryOf, IsOpenOf, IsFinderOf}
 use Rattle.hunt_index.specs.inner.Finding.{AreAlike, AreAsked, AreSeen, FindsPlaces, IsPlaceOf, AddsFound}
 use Rattle.hunt_index.specs.Candidates.{AreCandidates}
 use Rattle.hunt_index.specs.Definite.{IsDefinite}
@@ -103,7 +103,7 @@ module _ (brackets : List Leaf) (finder : Finder) (objects : List Data) (roots o
       ] in
       omega arith
 
-  reached : (bracket : ℕ) (leaf : Leaf) → IsFound finder leaf bracket → LeafHolds objects roots (plain_leaf leaf) → Contains brackets_found bracket
+  reached : (bracket : ℕ) (leaf : Leaf) → IsFoundBracket finder leaf bracket → LeafHolds objects roots (plain_leaf leaf) → Contains brackets_found bracket
   reached bracket leaf is_found holds = elim is_found [
     | inl unindexed ↦ found.unindexed bracket unindexed
     | inr led ↦ found.led bracket holds.0 ((same_roots holds.0).1 holds.1) (led objects holds.0 holds.2)

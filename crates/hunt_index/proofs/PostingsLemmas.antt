@@ -13,7 +13,7 @@ use Rattle.hunt_index.specs.declared.postings.Postings.{Postings}
 use Rattle.hunt_index.specs.Definite.{IsDefinite}
 use Rattle.hunt_index.specs.inner.IndexKeys.{AreIndexKeys, IsSufficient, AreSufficient}
 use Rattle.hunt_index.proofs.ListLemmas.{in_map}
-use Rattle.hunt_index.specs.inner.Postings.{AreAmong, IsCovered, Adds, IsPostingOf, IsOpen, IsPostingIn, IsOpenIn, AddsBracket, ArePostingsOf}
+use Rattle.hunt_index.specs.inner.Postings.{ArePostedKeys, IsCovered, Adds, IsPostingOf, IsIndefiniteBracket, IsPostingIn, IsOpenIn, AddsBracket, ArePostingsOf}
 
 -- an index key beside its place
 abbrev pub posting_of : ℕ → IndexKey → Posting
@@ -22,7 +22,7 @@ posting_of bracket index_key = record { index_key = index_key; bracket = bracket
 pub adds_none : {A : Type 0} (Own : A → Type 0) (old new : List A) → new ≡ old → Adds Own old new
 adds_none Own old new is = record { more = []; is = is ∙ sym (append-nil old); own = All-nil Own }
 
-contains_posting : (bracket : ℕ) (index_keys : List IndexKey) → AreAmong (map (posting_of bracket) index_keys) bracket index_keys
+contains_posting : (bracket : ℕ) (index_keys : List IndexKey) → ArePostedKeys (map (posting_of bracket) index_keys) bracket index_keys
 contains_posting bracket index_keys index_key has = in_map (posting_of bracket) index_keys index_key has
 
 postings_of_bracket : (leaf : Leaf) (bracket : ℕ) (index_keys : List IndexKey) → (IsDefinite (plain_leaf leaf) → AreSufficient (λ objects root. HoldsAt objects root (plain_leaf leaf)) index_keys)
@@ -41,7 +41,7 @@ adds_index_keys leaf bracket index_keys old new own sufficient is same = record 
         (Contains-append_right old.indexed.items (map (posting_of bracket) index_keys) (posting_of bracket index_key) (contains_posting bracket index_keys index_key has));
   });
   indexed = record { more = map (posting_of bracket) index_keys; is = is; own = postings_of_bracket leaf bracket index_keys sufficient };
-  unindexed = adds_none (IsOpen leaf bracket) old.unindexed.items new.unindexed.items same;
+  unindexed = adds_none (IsIndefiniteBracket leaf bracket) old.unindexed.items new.unindexed.items same;
 }
 
 still_there : {A : Type 0} (Own : A → Type 0) (old new : List A) → Adds Own old new → (x : A) → Contains old x → Contains new x
@@ -53,7 +53,7 @@ all_still Own P old new adds follows all =
 
 still_covered : (leaf other : Leaf) (bracket at : ℕ) (old new : Postings) → AddsBracket leaf bracket old new → IsCovered old other at → IsCovered new other at
 still_covered leaf other bracket at old new adds covered = elim covered [
-  | inl unindexed ↦ inl (still_there (IsOpen leaf bracket) old.unindexed.items new.unindexed.items adds.unindexed at unindexed)
+  | inl unindexed ↦ inl (still_there (IsIndefiniteBracket leaf bracket) old.unindexed.items new.unindexed.items adds.unindexed at unindexed)
   | inr indexed ↦ inr (record {
     index_keys = indexed.index_keys;
     own = indexed.own;
@@ -76,7 +76,7 @@ posting_in brackets count leaf posting there own = record {
       };
 }
 
-open_in : (brackets : List Leaf) (count : ℕ) (leaf : Leaf) (n : ℕ) → slice_get brackets count ≡ Some leaf → IsOpen leaf count n → IsOpenIn brackets (count + 1) n
+open_in : (brackets : List Leaf) (count : ℕ) (leaf : Leaf) (n : ℕ) → slice_get brackets count ≡ Some leaf → IsIndefiniteBracket leaf count n → IsOpenIn brackets (count + 1) n
 open_in brackets count leaf n there own = record {
   below = omega (arith, own.placed);
   is = λ other is.
@@ -96,6 +96,6 @@ postings_next brackets count leaf old new there postings adds = record {
   ];
   indexed = all_still (IsPostingOf leaf count) (IsPostingIn brackets (count + 1)) old.indexed.items new.indexed.items adds.indexed (λ posting own. posting_in brackets count leaf posting there own)
       (All-weaker (IsPostingIn brackets count) (IsPostingIn brackets (count + 1)) (λ posting own. record { below = omega (arith, own.below); is = own.is }) old.indexed.items postings.indexed);
-  unindexed = all_still (IsOpen leaf count) (IsOpenIn brackets (count + 1)) old.unindexed.items new.unindexed.items adds.unindexed (λ n own. open_in brackets count leaf n there own)
+  unindexed = all_still (IsIndefiniteBracket leaf count) (IsOpenIn brackets (count + 1)) old.unindexed.items new.unindexed.items adds.unindexed (λ n own. open_in brackets count leaf n there own)
       (All-weaker (IsOpenIn brackets count) (IsOpenIn brackets (count + 1)) (λ n own. record { below = omega (arith, own.below); is = own.is }) old.unindexed.items postings.unindexed);
 }

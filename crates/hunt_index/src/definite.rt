@@ -2,7 +2,7 @@
 //! candidate needs no evaluation.
 
 ghost use Rattle.std.specs.Prelude.{◌↔◌, IsTrue, All};
-ghost use Rattle.pattern_types.specs.PlainLeaf.{plain_leaf, listed};
+ghost use Rattle.pattern_types.specs.PlainLeaf.{plain_leaf, leaves_of_list};
 ghost use Rattle.hunt_index.specs.Definite.{IsDefiniteConstant, IsDefiniteCheck, IsPlain, ArePlain};
 ghost use Rattle.hunt_index.specs.Definite.{IsDefiniteTest, IsDefinite, AreDefinite};
 
@@ -24,7 +24,7 @@ pub fn is_definite(leaf: &Leaf) -> bool
 /// Whether each of some parts is definite.
 #[cycle(leaves)]
 fn are_definite(parts: &[Leaf]) -> bool
-    ensures { IsTrue result ↔ AreDefinite (listed parts.now) }
+    ensures { IsTrue result ↔ AreDefinite (leaves_of_list parts.now) }
 {
     for part in parts {
         if !is_definite(part) {

@@ -9,8 +9,9 @@ ghost use Rattle.stix_bundles.specs.Objects.{data_in};
 ghost use Rattle.stix_json.specs.DataOf.{data_of};
 ghost use Rattle.stix_json.specs.Ordered.{IsOrdered};
 ghost use Rattle.hunt_index.specs.declared.paths.Lookup.{Lookup};
-ghost use Rattle.hunt_index.specs.inner.Indexed.{IsSeenFrom, IsSeen, IsOfKind, IsFinderOf};
-ghost use Rattle.hunt_index.specs.inner.Finding.{Keeps, AreAsked, AsksFor, AsksByPath, AskByPaths};
+ghost use Rattle.hunt_index.specs.inner.Indexed.{IsSeenFrom, IsSeen, IsPathEntryOfKind, IsFinderOf};
+ghost use Rattle.hunt_index.specs.inner.Finding.{KeepsLookups, AreAsked, AsksFor, AsksByPath};
+ghost use Rattle.hunt_index.specs.inner.Finding.{AskByPaths};
 ghost use Rattle.hunt_index.specs.inner.Finding.{AddsOnly, IsSeenBy, AreSeen, FindsPlaces};
 ghost use Rattle.hunt_index.specs.inner.Finding.{AddsFound, AreKinds};
 
@@ -64,7 +65,7 @@ impl<'p> Finder<'p> {
         bundle: &Bundle,
         roots: &[u32],
     ) -> Result<Vec<u32>, NoMemory>
-        requires { All (IsOfKind self.now.paths.items) self.now.kinds.entries.items }
+        requires { All (IsPathEntryOfKind self.now.paths.items) self.now.kinds.entries.items }
         ensures { IfOk result (λ brackets_found. FindsPlaces self.now
             (data_in bundle.now) roots.now brackets_found.items) }
     {
@@ -96,7 +97,7 @@ impl<'p> Finder<'p> {
         bundle: &'b Bundle,
         roots: &[u32],
     ) -> Result<Vec<Lookup<'b>>, NoMemory>
-        requires { All (IsOfKind self.now.paths.items) self.now.kinds.entries.items }
+        requires { All (IsPathEntryOfKind self.now.paths.items) self.now.kinds.entries.items }
         ensures asks { IfOk result (λ lookups. AreAsked self.now (data_in bundle.now) roots.now
             lookups.items) }
         ensures seen { IfOk result (λ lookups. AreSeen self.now.paths.items
@@ -116,8 +117,8 @@ impl<'p> Finder<'p> {
         root: u32,
         lookups: &mut Vec<Lookup<'b>>,
     ) -> Result<(), NoMemory>
-        requires { All (IsOfKind self.now.paths.items) self.now.kinds.entries.items }
-        ensures keeps { OnOk result (Keeps lookups.old.items lookups.new.items) }
+        requires { All (IsPathEntryOfKind self.now.paths.items) self.now.kinds.entries.items }
+        ensures keeps { OnOk result (KeepsLookups lookups.old.items lookups.new.items) }
         ensures asks { OnOk result (AsksFor self.now (data_in bundle.now) root lookups.new.items) }
         // Nothing else is looked up: needed for definite brackets.
         ensures only { OnOk result (AddsOnly
@@ -143,7 +144,7 @@ impl<'p> Finder<'p> {
         lookups: &mut Vec<Lookup<'b>>,
     ) -> Result<(), NoMemory>
         requires { IsOrdered (data_of object.now) }
-        ensures keeps { OnOk result (Keeps lookups.old.items lookups.new.items) }
+        ensures keeps { OnOk result (KeepsLookups lookups.old.items lookups.new.items) }
         ensures asks { OnOk result (AskByPaths self.now.paths.items (data_in bundle.now)
             (data_of object.now) paths.now lookups.new.items) }
         ensures only { OnOk result (AddsOnly
@@ -166,7 +167,7 @@ impl<'p> Finder<'p> {
         lookups: &mut Vec<Lookup<'b>>,
     ) -> Result<(), NoMemory>
         requires { IsOrdered (data_of object.now) }
-        ensures keeps { OnOk result (Keeps lookups.old.items lookups.new.items) }
+        ensures keeps { OnOk result (KeepsLookups lookups.old.items lookups.new.items) }
         ensures asks { OnOk result (AsksByPath self.now.paths.items (data_in bundle.now)
             (data_of object.now) path lookups.new.items) }
         ensures only { OnOk result (AddsOnly (λ lookup. (lookup.path ≡ path)
@@ -192,7 +193,7 @@ impl<'p> Finder<'p> {
 
 /// The look-ups without duplicates.
 fn dedup_lookups(mut lookups: Vec<Lookup<'_>>) -> Vec<Lookup<'_>>
-    ensures keeps { Keeps lookups.entry.items result.items }
+    ensures keeps { KeepsLookups lookups.entry.items result.items }
     ensures only { (lookup : Lookup) → Contains result.items lookup
         → Contains lookups.entry.items lookup }
 {
@@ -218,7 +219,7 @@ fn add_brackets(
 /// The numbers of the paths, by the type of the root.
 fn kinds_of<'p>(alloc: Global, paths: &[IndexKey<'p>]) -> Result<Vec<(&'p str, usize)>, NoMemory>
     ensures all { IfOk result (λ kinds. AreKinds paths.now kinds.items) }
-    ensures only { IfOk result (λ kinds. All (IsOfKind paths.now) kinds.items) }
+    ensures only { IfOk result (λ kinds. All (IsPathEntryOfKind paths.now) kinds.items) }
 {
     let mut kinds = Vec::with_capacity(alloc, paths.len())?;
     for (number, path) in paths.iter().enumerate() {

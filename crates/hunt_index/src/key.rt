@@ -2,8 +2,8 @@
 
 ghost use Rattle.std.specs.Prelude.{IfSome};
 ghost use Rattle.stix_json.specs.DataOf.{data_of};
-ghost use Rattle.hunt_index.specs.inner.Keys.{Fits, IsAsked};
-ghost use Rattle.hunt_index.specs.inner.IndexKeys.{Represents, Answers};
+ghost use Rattle.hunt_index.specs.inner.Keys.{FitsKey, IsAskedKey};
+ghost use Rattle.hunt_index.specs.inner.IndexKeys.{KeyRepresents, AnswersConstant};
 
 use pattern_types::Constant;
 use stix_json::Json;
@@ -21,8 +21,8 @@ pub(crate) enum Key<'p> {
 
 /// The key of a constant in a comparison. Constants that several values equal have the key `Any`.
 pub(crate) fn key_of(constant: &Constant) -> Key<'_>
-    ensures stands { Represents constant.now result }
-    ensures answers { Answers constant.now result }
+    ensures stands { KeyRepresents constant.now result }
+    ensures answers { AnswersConstant constant.now result }
 {
     match constant {
         Constant::Integer(whole) => Key::Integer(*whole),
@@ -34,8 +34,8 @@ pub(crate) fn key_of(constant: &Constant) -> Key<'_>
 
 /// The key of a value besides `Any`. None for values that no key but `Any` matches.
 pub(crate) fn key_in(value: &Json) -> Option<Key<'_>>
-    ensures asked { (key : Key) → Fits key (data_of value.now) → IsAsked result key }
-    ensures fits { IfSome result (λ key. Fits key (data_of value.now)) }
+    ensures asked { (key : Key) → FitsKey key (data_of value.now) → IsAskedKey result key }
+    ensures fits { IfSome result (λ key. FitsKey key (data_of value.now)) }
 {
     match value {
         Json::Integer(whole) => Some(Key::Integer(*whole)),

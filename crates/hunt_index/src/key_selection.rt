@@ -6,12 +6,12 @@
 
 ghost use Rattle.std.specs.Prelude.{◌≡◌, ◌⊎◌, ◌++◌, List, IfOk, Contains};
 ghost use Rattle.pattern_types.specs.declared.constant.Constant.{Constant};
-ghost use Rattle.pattern_types.specs.PlainLeaf.{plain_leaf, listed};
+ghost use Rattle.pattern_types.specs.PlainLeaf.{plain_leaf, leaves_of_list};
 ghost use Rattle.pattern_types.specs.declared.path.Step.{Step};
 ghost use Rattle.match_comparisons.specs.Tests.{TestHolds, HoldsAt, AllHold, SomeHold};
 ghost use Rattle.hunt_index.specs.Definite.{IsDefinite, AreDefinite, IsDefiniteTest, ArePlain};
 ghost use Rattle.hunt_index.specs.inner.IndexKeys.{AreIndexKeys, IndexKeys, AreSufficient};
-ghost use Rattle.hunt_index.specs.inner.IndexKeys.{Sufficient, HasIndexKey, AreBy, Represents};
+ghost use Rattle.hunt_index.specs.inner.IndexKeys.{Sufficient, HasIndexKey, AreBy, KeyRepresents};
 ghost use Rattle.hunt_index.specs.inner.IndexKeys.{AnswersSome};
 
 use crate::index_key::IndexKey;
@@ -49,7 +49,7 @@ fn index_keys_of_all<'p>(
     alloc: Global,
     parts: &'p [Leaf],
 ) -> Result<Option<Items<IndexKey<'p>>>, NoMemory>
-    ensures { IfOk result (IndexKeys (λ objects root. AllHold objects root (listed parts.now))) }
+    ensures { IfOk result (IndexKeys (λ objects root. AllHold objects root (leaves_of_list parts.now))) }
 {
     let mut fewest = None;
     for part in parts {
@@ -66,9 +66,9 @@ fn index_keys_of_some<'p>(
     parts: &'p [Leaf],
 ) -> Result<Option<Items<IndexKey<'p>>>, NoMemory>
     ensures needed { IfOk result (IndexKeys
-        (λ objects root. SomeHold objects root (listed parts.now))) }
-    ensures sufficient { IfOk result (λ found. AreDefinite (listed parts.now)
-        → Sufficient (λ objects root. SomeHold objects root (listed parts.now)) found) }
+        (λ objects root. SomeHold objects root (leaves_of_list parts.now))) }
+    ensures sufficient { IfOk result (λ found. AreDefinite (leaves_of_list parts.now)
+        → Sufficient (λ objects root. SomeHold objects root (leaves_of_list parts.now)) found) }
 {
     let mut index_keys = Vec::new(alloc);
     for part in parts {
@@ -167,7 +167,7 @@ fn index_keys_by_value<'p>(
 ) -> Result<Items<IndexKey<'p>>, NoMemory>
     ensures has { IfOk result (λ index_keys. (constant : Constant)
         → Contains constants.now constant
-        → HasIndexKey kind.now steps.now (Represents constant) index_keys) }
+        → HasIndexKey kind.now steps.now (KeyRepresents constant) index_keys) }
     ensures by { IfOk result (AreBy kind.now steps.now (AnswersSome constants.now)) }
 {
     let mut index_keys = Items::with_capacity(alloc, constants.len())?;

@@ -2,7 +2,7 @@ ghost use Rattle.std.specs.Prelude.{◌≡◌, None, Some, Option, IfSome, optio
 ghost use Rattle.serde_json.specs.Data.{Data};
 ghost use Rattle.stix_json.specs.DataOf.{data_of};
 ghost use Rattle.stix_json.specs.Ordered.{IsOrdered};
-ghost use Rattle.stix_json.specs.Properties.{text_at};
+ghost use Rattle.stix_json.specs.Properties.{property_text};
 ghost use Rattle.stix_bundles.specs.Objects.{data_in};
 ghost use Rattle.match_comparisons.specs.Selection.{StepReaches, Reaches};
 ghost use Rattle.hunt_index.specs.Definite.{IsPlain, ArePlain};
@@ -61,7 +61,7 @@ fn next_value<'a>(
 /// The type of an object.
 pub(crate) fn kind_of(object: &Json) -> Option<&str>
     requires { IsOrdered (data_of object.now) }
-    ensures { option_map (λ kind. kind.now) result ≡ text_at (codes "type") (data_of object.now) }
+    ensures { option_map (λ kind. kind.now) result ≡ property_text (codes "type") (data_of object.now) }
 {
     match get_ordered(object, "type") {
         Some(value) => text_of(value),

@@ -6,7 +6,7 @@ use Rattle.json.specs.Print.{escape_byte}
 use Rattle.serde_json.specs.Data.{Data}
 use Rattle.serde_json.specs.View.{items_of}
 use Rattle.serde_json.specs.Written.{compact_text, items_text}
-use Rattle.hunt_report.specs.Envelope.{comma_joined, listed, opened, envelope_text, envelope_data}
+use Rattle.hunt_report.specs.Envelope.{comma_joined, comma_separated, opened, sightings_text, sightings_data}
 
 behind_more : (texts : List (List ℕ)) (text : List ℕ) → comma_joined (texts ++ text ∷ []) ≡ comma_joined texts ++ (codes "," ++ text)
 behind_more [] text = ap (λ (l : List ℕ). codes "," ++ l) (append-nil text)
@@ -26,13 +26,13 @@ items_behind [] = refl
 items_behind (next ∷ objects) =
     ap (λ (l : List ℕ). 44 ∷ l) (append_assoc (compact_text next) (comma_joined (map compact_text objects)) (93 ∷ []) ∙ ap (λ (l : List ℕ). compact_text next ++ l) (items_behind objects))
 
-items_listed : (objects : List Data) → listed (map compact_text objects) ++ 93 ∷ [] ≡ items_text false (items_of objects)
+items_listed : (objects : List Data) → comma_separated (map compact_text objects) ++ 93 ∷ [] ≡ items_text false (items_of objects)
 items_listed [] = refl
 items_listed (first ∷ objects) =
     append_assoc (compact_text first) (comma_joined (map compact_text objects)) (93 ∷ []) ∙ ap (λ (l : List ℕ). compact_text first ++ l) (items_behind objects)
 
-pub envelope_whole : (objects : List Data) → envelope_text (map compact_text objects) ≡ compact_text (envelope_data objects)
+pub envelope_whole : (objects : List Data) → sightings_text (map compact_text objects) ≡ compact_text (sightings_data objects)
 unfolding escape_byte
 envelope_whole objects =
-    let texts = listed (map compact_text objects) in
+    let texts = comma_separated (map compact_text objects) in
     ap (λ (l : List ℕ). codes "{\"objects\":[" ++ l) (sym (append_assoc texts (93 ∷ []) (125 ∷ [])) ∙ ap (λ (l : List ℕ). l ++ 125 ∷ []) (items_listed objects))

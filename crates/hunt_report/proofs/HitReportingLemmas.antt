@@ -13,10 +13,10 @@ use Rattle.match_run.specs.declared.see_end.SeeEnd.TheVariants.{Stopped, WriteFa
 use Rattle.match_run.specs.inner.WatchEnds.{end_of_cut}
 use Rattle.match_run.specs.Buffered.{IsBuffered}
 use Rattle.match_run.specs.Watching.{BreaksOff, EndsSeeing}
-use Rattle.hunt_engine.specs.EngineLog.{row_of}
+use Rattle.hunt_engine.specs.EngineLog.{engine_row}
 use Rattle.hunt_report.specs.declared.over_limit.OverLimit.{OverLimit}
 use Rattle.hunt_report.specs.Hunting.{HunterState, BeginsBundle, StopsInBundle}
-use Rattle.hunt_report.specs.inner.HitReporting.{EndsAtRow, TakesSoFar, StopsSoFar, TakesPart, EndsAmong, HasCutLines}
+use Rattle.hunt_report.specs.inner.HitReporting.{EndsAtHuntedRow, TakesSoFar, StopsSoFar, ReportsPartOfHits, EndsAmongHits, HasCutHitLines}
 use Rattle.hunt_report.proofs.HunterLemmas.{stops-next, takes-none, takes-first}
 
 -- the law on texts that are on their way
@@ -30,8 +30,8 @@ prefix_of law text pending first now way = subst (λ (t : List ℕ). WritesPrefi
 
 module _ (law : Prefix) (objects : List Data) (observations seen later : List Observation) (o : Observation) (before between : HunterState)
     (pending : List ℕ) (first now : Option (List ℕ)) (are : observations ≡ seen ++ o ∷ later) where
-  pub ends-next : TakesSoFar objects seen before between pending first now → (end : SeeEnd OverLimit) → EndsAtRow (row_of o objects) between end
-      → EndsAmong objects observations before pending first now end
+  pub ends-next : TakesSoFar objects seen before between pending first now → (end : SeeEnd OverLimit) → EndsAtHuntedRow (engine_row o objects) between end
+      → EndsAmongHits objects observations before pending first now end
   ends-next far (Stopped why) over_limit = subst (λ (os : List Observation). StopsSoFar objects os before why pending first now) (sym are) (record {
     text = far.text;
     stops = stops-next objects seen later o before between far.text why far.takes over_limit;
@@ -47,16 +47,16 @@ module _ (law : Prefix) (objects : List Data) (observations seen later : List Ob
 -- the lines were cut
 pub ends-cut : {T : Type 0} (objects : List Data) (observations : List Observation) (before : HunterState) (pending : List ℕ) (first now : Option (List ℕ))
     (answer : Result T (SeeEnd OverLimit)) (short : CutShort) → IsErrAnd answer (λ end. end ≡ end_of_cut short)
-    → TakesPart objects observations before first now → IfErr answer (EndsAmong objects observations before pending first now)
+    → ReportsPartOfHits objects observations before first now → IfErr answer (EndsAmongHits objects observations before pending first now)
 ends-cut objects observations before pending first now (Ok value) short is part = absurd is
-ends-cut objects observations before pending first now (Err end) cut.WriteFault is part = subst (EndsAmong objects observations before pending first now) (sym is) part
-ends-cut objects observations before pending first now (Err end) cut.NoMemory is part = subst (EndsAmong objects observations before pending first now) (sym is) part
+ends-cut objects observations before pending first now (Err end) cut.WriteFault is part = subst (EndsAmongHits objects observations before pending first now) (sym is) part
+ends-cut objects observations before pending first now (Err end) cut.NoMemory is part = subst (EndsAmongHits objects observations before pending first now) (sym is) part
 
 -- memory ran out ahead of the first one
 pub ends-first : {T : Type 0} (law : Prefix) (objects : List Data) (observations : List Observation) (before : HunterState) (pending : List ℕ) (first : Option (List ℕ))
-    (answer : Result T (SeeEnd OverLimit)) → IsErrAnd answer (λ end. end ≡ NoMemory) → IsBuffered [] pending first first → IfErr answer (EndsAmong objects observations before pending first first)
+    (answer : Result T (SeeEnd OverLimit)) → IsErrAnd answer (λ end. end ≡ NoMemory) → IsBuffered [] pending first first → IfErr answer (EndsAmongHits objects observations before pending first first)
 ends-first law objects observations before pending first (Ok value) is way = absurd is
-ends-first law objects observations before pending first (Err end) is way = subst (EndsAmong objects observations before pending first first) (sym is) (record {
+ends-first law objects observations before pending first (Err end) is way = subst (EndsAmongHits objects observations before pending first first) (sym is) (record {
   text = [];
   takes = takes-first objects [] observations observations before before [] refl (takes-none before);
   prefix = prefix_of law [] pending first first way;
@@ -66,9 +66,9 @@ ends-first law objects observations before pending first (Err end) is way = subs
 
 module _ (before : HunterState) (bundle : BundleOf) (pending : List ℕ) (first now : Option (List ℕ)) where
   abbrev pub Ends : SeeEnd OverLimit → Type 0
-  Ends end = EndsAmong bundle.objects bundle.observations before pending first now end
+  Ends end = EndsAmongHits bundle.objects bundle.observations before pending first now end
 
-  pub see-cut : (told : Result (Unit {0}) (SeeEnd OverLimit)) → HasCutLines told → IfErr told Ends
+  pub see-cut : (told : Result (Unit {0}) (SeeEnd OverLimit)) → HasCutHitLines told → IfErr told Ends
       → IfErr told (EndsSeeing (StopsInBundle before bundle) (BeginsBundle before bundle) first now)
   see-cut (Ok value) is ends = tt
   see-cut (Err (Stopped why)) (inl is) ends = absurd (cc)
@@ -78,7 +78,7 @@ module _ (before : HunterState) (bundle : BundleOf) (pending : List ℕ) (first 
 
   -- what is pending was written
   pub see-all : (after : Option (List ℕ)) → ((text : List ℕ) → IsBuffered text pending first now → after ≡ written_with text first)
-      → (told : Result (Unit {0}) (SeeEnd OverLimit)) → ¬ HasCutLines told → IfErr told Ends
+      → (told : Result (Unit {0}) (SeeEnd OverLimit)) → ¬ HasCutHitLines told → IfErr told Ends
       → IfErr told (EndsSeeing (StopsInBundle before bundle) (BeginsBundle before bundle) first after)
   see-all after written (Ok value) uncut ends = tt
   see-all after written (Err (Stopped why)) uncut ends = (ends.text, ends.stops, written ends.text ends.way)
@@ -87,7 +87,7 @@ module _ (before : HunterState) (bundle : BundleOf) (pending : List ℕ) (first 
 
   -- of what is pending a prefix was written
   pub see-part : (comma_joined : HunterState) (after : Option (List ℕ)) → ((text : List ℕ) → IsBuffered text pending first now → WritesPrefix text first after)
-      → (told : Result (Unit {0}) (SeeEnd OverLimit)) → ¬ HasCutLines told
+      → (told : Result (Unit {0}) (SeeEnd OverLimit)) → ¬ HasCutHitLines told
       → OnOk told (TakesSoFar bundle.objects bundle.observations before comma_joined pending first now) → IfErr told Ends
       → BreaksOff (BeginsBundle before bundle) first after
   see-part comma_joined after written (Ok value) uncut far ends = (

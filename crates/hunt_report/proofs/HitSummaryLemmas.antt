@@ -7,17 +7,17 @@ use Rattle.std.proofs.lemmas.List.{append-nil, length-set}
 use Rattle.std.proofs.lemmas.Option.{slice_get-get_or}
 use Rattle.match_bindings.specs.BindTree.{BindTree, tree_of}
 use Rattle.hunt_engine.specs.declared.found.Hit.{Hit}
-use Rattle.hunt_engine.specs.EngineLog.{Row}
+use Rattle.hunt_engine.specs.EngineLog.{ObservationRow}
 use Rattle.hunt_engine.specs.EngineAnswer.{binds_at}
 use Rattle.hunt_report.proofs.PlaceLemmas.{same_or_other, get_left, get_set, get_set_other}
 use Rattle.hunt_report.specs.declared.hit_summary.HitSummary.{HitSummary}
 use Rattle.hunt_report.specs.HitSummaries.{EndsWhen, IsHitSummaryOf, IsHitSummary}
-use Rattle.hunt_report.specs.inner.Noting.{hit_summary_after, noted, all_noted, AreBefore, AreInOrder}
+use Rattle.hunt_report.specs.inner.Noting.{hit_summary_after, noted, all_noted, AreBefore, AreSummariesInOrder}
 use Rattle.hunt_report.proofs.HitsLemmas.{binds_append}
 
 -- ---- over more rows
 
-ends-more : (rows more : List Row) (tree : BindTree) (time : ℤ) → EndsWhen rows tree time → EndsWhen (rows ++ more) tree time
+ends-more : (rows more : List ObservationRow) (tree : BindTree) (time : ℤ) → EndsWhen rows tree time → EndsWhen (rows ++ more) tree time
 ends-more rows more tree time ends = record {
   before = ends.before;
   number = ends.number;
@@ -26,7 +26,7 @@ ends-more rows more tree time ends = record {
   time_is = ends.time_is;
 }
 
-pub hit_summary-rows : (rows more : List Row) (trees : List BindTree) (hit_summary : Option HitSummary) → IsHitSummary rows trees hit_summary → IsHitSummary (rows ++ more) trees hit_summary
+pub hit_summary-rows : (rows more : List ObservationRow) (trees : List BindTree) (hit_summary : Option HitSummary) → IsHitSummary rows trees hit_summary → IsHitSummary (rows ++ more) trees hit_summary
 hit_summary-rows rows more trees None is = is
 hit_summary-rows rows more trees (Some hit_summary) is = record {
   count = is.count;
@@ -42,7 +42,7 @@ hit_summary-rows rows more trees (Some hit_summary) is = record {
 
 -- ---- with one binding more
 
-hit_summary-tree : (rows : List Row) (trees : List BindTree) (tree : BindTree) (last : ℤ) (hit_summary : Option HitSummary) → IsHitSummary rows trees hit_summary
+hit_summary-tree : (rows : List ObservationRow) (trees : List BindTree) (tree : BindTree) (last : ℤ) (hit_summary : Option HitSummary) → IsHitSummary rows trees hit_summary
     → EndsWhen rows tree last → IsHitSummaryOf rows (trees ++ tree ∷ []) (hit_summary_after last hit_summary)
 hit_summary-tree rows trees tree last None is ends =
     let alone : trees ++ tree ∷ [] ≡ tree ∷ [] = ap (λ (l : List BindTree). l ++ tree ∷ []) is in record {
@@ -71,7 +71,7 @@ hit_summary-tree rows trees tree last (Some hit_summary) is ends = record {
 -- ---- with one hit more
 
 -- what is kept at each place is what was seen there
-abbrev pub AreHitSummaries : List Row → List Hit → List (Option HitSummary) → Type 0
+abbrev pub AreHitSummaries : List ObservationRow → List Hit → List (Option HitSummary) → Type 0
 AreHitSummaries rows hits hit_summaries = (place : ℕ) (hit_summary : Option HitSummary) → slice_get hit_summaries place ≡ Some hit_summary → IsHitSummary rows (binds_at place hits) hit_summary
 
 own_bind : (hit : Hit) → binds_at hit.hunted (hit ∷ []) ≡ tree_of hit.bind ∷ []
@@ -80,7 +80,7 @@ own_bind hit = let yes : nat_eq hit.hunted hit.hunted ≡ true = eq-eqb hit.hunt
 other_bind : (hit : Hit) (place : ℕ) → (hit.hunted ≡ place → ⊥) → binds_at place (hit ∷ []) ≡ []
 other_bind hit place apart = let no : nat_eq hit.hunted place ≡ false = ne_eqb hit.hunted place apart in rw no refl
 
-hit_summaries-hit : (rows : List Row) (hits : List Hit) (hit_summaries : List (Option HitSummary)) (last : ℤ) (hit : Hit) → hit.hunted < length hit_summaries
+hit_summaries-hit : (rows : List ObservationRow) (hits : List Hit) (hit_summaries : List (Option HitSummary)) (last : ℤ) (hit : Hit) → hit.hunted < length hit_summaries
     → EndsWhen rows (tree_of hit.bind) last → AreHitSummaries rows hits hit_summaries → AreHitSummaries rows (hits ++ hit ∷ []) (noted last hit hit_summaries)
 hit_summaries-hit rows hits hit_summaries last hit inside ends are place hit_summary at = by (same_or_other hit.hunted place)
   where
@@ -106,10 +106,10 @@ hit_summaries-hit rows hits hit_summaries last hit inside ends are place hit_sum
 -- ---- with all that end at a row
 
 -- a hit ends then, and its indicator has a place
-abbrev pub IsNotable : List Row → ℤ → ℕ → Hit → Type 0
+abbrev pub IsNotable : List ObservationRow → ℤ → ℕ → Hit → Type 0
 IsNotable rows last places hit = (hit.hunted < places) × EndsWhen rows (tree_of hit.bind) last
 
-pub hit_summaries-hits : (rows : List Row) (hits : List Hit) (hit_summaries : List (Option HitSummary)) (last : ℤ) (own : List Hit)
+pub hit_summaries-hits : (rows : List ObservationRow) (hits : List Hit) (hit_summaries : List (Option HitSummary)) (last : ℤ) (own : List Hit)
     → ((k : ℕ) (hit : Hit) → slice_get own k ≡ Some hit → IsNotable rows last (length hit_summaries) hit)
     → AreHitSummaries rows hits hit_summaries → AreHitSummaries rows (hits ++ own) (all_noted last own hit_summaries)
 hit_summaries-hits rows hits hit_summaries last [] each are = subst (λ (l : List Hit). AreHitSummaries rows l hit_summaries) (sym (append-nil hits)) are
@@ -173,5 +173,5 @@ pub nothing_seen : (n : ℕ) (hit_summaries : List (Option HitSummary)) → hit_
     → slice_get hit_summaries place ≡ Some hit_summary → hit_summary ≡ None
 nothing_seen n hit_summaries is place hit_summary at = nothing_in n place hit_summary (ap (λ (l : List (Option HitSummary)). slice_get l place) (sym is) ∙ at)
 
-pub nothing_in_order : (n : ℕ) (hit_summaries : List (Option HitSummary)) → hit_summaries ≡ replicate n None → AreInOrder hit_summaries
+pub nothing_in_order : (n : ℕ) (hit_summaries : List (Option HitSummary)) → hit_summaries ≡ replicate n None → AreSummariesInOrder hit_summaries
 nothing_in_order n hit_summaries is place hit_summary at = let none = nothing_seen n hit_summaries is place (Some hit_summary) at in absurd (cc)

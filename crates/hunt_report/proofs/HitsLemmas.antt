@@ -12,16 +12,16 @@ use Rattle.match_bindings.specs.NumberedPattern.{NumberedPattern, numbered_patte
 use Rattle.match_bindings.specs.BindTree.{BindTree, tree_of}
 use Rattle.match_bindings.specs.Log.{observed_in}
 use Rattle.match_bindings.specs.Listing.{IsListing}
-use Rattle.match_bindings.specs.Once.{count, same}
+use Rattle.match_bindings.specs.Once.{count, is_same_tree}
 use Rattle.match_bindings.proofs.OnceLemmas.{same_self}
 use Rattle.match_stream.specs.Answer.{IsAnswer, AnswersAfter, AreAnswers, joined_answers}
 use Rattle.match_run.specs.Listing.{AreBindings}
 use Rattle.match_run.proofs.LogLemmas.{ends_at}
 use Rattle.hunt_engine.specs.declared.found.Hit.{Hit}
-use Rattle.hunt_engine.specs.EngineLog.{Row, IsEntry, IsLogOf}
+use Rattle.hunt_engine.specs.EngineLog.{ObservationRow, IsEntry, IsLogOf}
 use Rattle.hunt_engine.specs.EngineAnswer.{binds_at, ReportsRow}
 use Rattle.hunt_report.proofs.PlaceLemmas.{seam}
-use Rattle.hunt_report.specs.Hits.{end_of, ComesBefore, AreHits, AnswerRows}
+use Rattle.hunt_report.specs.Hits.{last_observation, IsEarlierHit, AreHits, AnswerRows}
 
 -- ---- what is found at a place
 
@@ -39,7 +39,7 @@ bind_there [] k hit at = absurd (cc)
 bind_there (f ∷ own) zero hit at =
     let is : f ≡ hit = cc in
     let one : nat_eq hit.hunted hit.hunted ≡ true = eq-eqb hit.hunted hit.hunted refl in
-    let me : same (tree_of hit.bind) (tree_of hit.bind) ≡ true = same_self (tree_of hit.bind) in
+    let me : is_same_tree (tree_of hit.bind) (tree_of hit.bind) ≡ true = same_self (tree_of hit.bind) in
     subst (λ (g : Hit). 0 < count (tree_of hit.bind) (binds_at hit.hunted (g ∷ own))) (sym is) (rw one (rw me (omega arith)))
 bind_there (f ∷ own) (suc k) hit at = by (nat_eq f.hunted hit.hunted) refl (bind_there own k hit at)
   where
@@ -50,7 +50,7 @@ bind_there (f ∷ own) (suc k) hit at = by (nat_eq f.hunted hit.hunted) refl (bi
 
 -- ---- the log that rows are to a pattern, and one row more
 
-log_length : (p : PlainPattern) (rows : List Row) (log : List LogEntry) → IsLogOf p rows log → length log ≡ length rows
+log_length : (p : PlainPattern) (rows : List ObservationRow) (log : List LogEntry) → IsLogOf p rows log → length log ≡ length rows
 log_length p [] [] is = refl
 log_length p (row ∷ rows) (entry ∷ log) is = ap suc (log_length p rows log is.1)
 log_length p [] (entry ∷ log) is = absurd is
@@ -58,16 +58,16 @@ log_length p (row ∷ rows) [] is = absurd is
 
 -- there is one
 abbrev pub OneLog : Type 0
-OneLog = (p : PlainPattern) (rows : List Row) (log other : List LogEntry) → IsLogOf p rows log → IsLogOf p rows other → log ≡ other
+OneLog = (p : PlainPattern) (rows : List ObservationRow) (log other : List LogEntry) → IsLogOf p rows log → IsLogOf p rows other → log ≡ other
 
-pub record Ends (p : PlainPattern) (rows : List Row) (row : Row) (log : List LogEntry) : Type 0 where
+pub record Ends (p : PlainPattern) (rows : List ObservationRow) (row : ObservationRow) (log : List LogEntry) : Type 0 where
   pub before : List LogEntry
   pub entry : LogEntry
   pub log_is : log ≡ before ++ entry ∷ []
   pub of_rows : IsLogOf p rows before
   pub of_row : IsEntry p row entry
 
-pub log_ends : (p : PlainPattern) (rows : List Row) (row : Row) (log : List LogEntry) → IsLogOf p (rows ++ row ∷ []) log → Ends p rows row log
+pub log_ends : (p : PlainPattern) (rows : List ObservationRow) (row : ObservationRow) (log : List LogEntry) → IsLogOf p (rows ++ row ∷ []) log → Ends p rows row log
 log_ends p [] row [] is = absurd is
 log_ends p [] row (entry ∷ []) is = record { before = []; entry = entry; log_is = refl; of_rows = tt; of_row = is.0 }
 log_ends p [] row (entry ∷ next ∷ log) is = absurd is.1
@@ -82,7 +82,7 @@ log_ends p (r ∷ rows) row (e ∷ log) is =
     }
 
 -- the log of the rows and the one more goes on that of the rows
-pub log_continues : OneLog → (p : PlainPattern) (rows : List Row) (row : Row) (before log : List LogEntry) → IsLogOf p rows before
+pub log_continues : OneLog → (p : PlainPattern) (rows : List ObservationRow) (row : ObservationRow) (before log : List LogEntry) → IsLogOf p rows before
     → (is : IsLogOf p (rows ++ row ∷ []) log) → log ≡ before ++ (log_ends p rows row log is).entry ∷ []
 log_continues one p rows row before log of_rows is =
     let ends = log_ends p rows row log is in
@@ -90,7 +90,7 @@ log_continues one p rows row before log of_rows is =
 
 -- ---- the answers at a place are a listing
 
-record AnswersAt (p : Pattern) (before : List LogEntry) (rows : List Row) (binds : List BindTree) : Type 0 where
+record AnswersAt (p : Pattern) (before : List LogEntry) (rows : List ObservationRow) (binds : List BindTree) : Type 0 where
   pub log : List LogEntry
   pub is_log : IsLogOf (plain_pattern p) rows log
   pub answers : List (List BindTree)
@@ -98,7 +98,7 @@ record AnswersAt (p : Pattern) (before : List LogEntry) (rows : List Row) (binds
   pub joined : joined_answers answers ≡ binds
 
 answers_at : OneLog → (patterns : List Pattern) (place : ℕ) (p : Pattern) → slice_get patterns place ≡ Some p
-    → (before rows : List Row) (hits : List Hit) (log : List LogEntry) → IsLogOf (plain_pattern p) before log → AnswerRows patterns before rows hits
+    → (before rows : List ObservationRow) (hits : List Hit) (log : List LogEntry) → IsLogOf (plain_pattern p) before log → AnswerRows patterns before rows hits
     → AnswersAt p log rows (binds_at place hits)
 answers_at one patterns place p of_p before [] hits log is answers = record {
   log = [];
@@ -121,7 +121,7 @@ answers_at one patterns place p of_p before (row ∷ rows) hits log is (own, lat
       joined = ap (λ (l : List BindTree). binds_at place own ++ l) more.joined ∙ sym (binds_append place own later) ∙ ap (binds_at place) (sym hits_are);
     }
 
-none_at : (patterns : List Pattern) (place : ℕ) → slice_get patterns place ≡ None → (before rows : List Row) (hits : List Hit)
+none_at : (patterns : List Pattern) (place : ℕ) → slice_get patterns place ≡ None → (before rows : List ObservationRow) (hits : List Hit)
     → AnswerRows patterns before rows hits → binds_at place hits ≡ []
 none_at patterns place none before [] hits answers = ap (binds_at place) answers
 none_at patterns place none before (row ∷ rows) hits (own, later, reports, rest, is) =
@@ -131,11 +131,11 @@ none_at patterns place none before (row ∷ rows) hits (own, later, reports, res
 -- ---- where a hit ends
 
 -- it is of an indicator, and ends at the last row
-pub record EndsAtLast (patterns : List Pattern) (rows : List Row) (hit : Hit) : Type 0 where
+pub record EndsAtLast (patterns : List Pattern) (rows : List ObservationRow) (hit : Hit) : Type 0 where
   pub inside : hit.hunted < length patterns
-  pub number : end_of hit ≡ length rows
+  pub number : last_observation hit ≡ length rows
 
-pub row_ends : (patterns : List Pattern) (rows : List Row) (own : List Hit) → ReportsRow patterns rows own → (k : ℕ) (hit : Hit)
+pub row_ends : (patterns : List Pattern) (rows : List ObservationRow) (own : List Hit) → ReportsRow patterns rows own → (k : ℕ) (hit : Hit)
     → slice_get own k ≡ Some hit → EndsAtLast patterns rows hit
 row_ends patterns rows own reports k hit at = by (slice_get patterns hit.hunted) refl
   where
@@ -153,7 +153,7 @@ row_ends patterns rows own reports k hit at = by (slice_get patterns hit.hunted)
 
 -- after the rows that were taken before
 abbrev EndBehind : ℕ → List Hit → Type 0
-EndBehind number hits = (k : ℕ) (hit : Hit) → slice_get hits k ≡ Some hit → number < end_of hit
+EndBehind number hits = (k : ℕ) (hit : Hit) → slice_get hits k ≡ Some hit → number < last_observation hit
 
 -- an item of two lists, by the one that it is of
 abbrev Seam : List Hit → List Hit → ℕ → Hit → Type 0
@@ -166,7 +166,7 @@ none_there : (hits : List Hit) (k : ℕ) (hit : Hit) → hits ≡ [] → slice_g
 none_there [] k hit none at = cc
 none_there (f ∷ hits) k hit none at = cc
 
-end_behind : (patterns : List Pattern) (before rows : List Row) (hits : List Hit) → AnswerRows patterns before rows hits → EndBehind (length before) hits
+end_behind : (patterns : List Pattern) (before rows : List ObservationRow) (hits : List Hit) → AnswerRows patterns before rows hits → EndBehind (length before) hits
 end_behind patterns before [] hits answers k hit at = absurd (none_there hits k hit answers at)
 end_behind patterns before (row ∷ rows) hits (own, later, reports, rest, is) k hit at =
     by (end_behind patterns (before ++ row ∷ []) rows later rest) (cut_at own later hits is k hit at)
@@ -174,25 +174,25 @@ end_behind patterns before (row ∷ rows) hits (own, later, reports, rest, is) k
     long : length (before ++ row ∷ []) ≡ length before + 1
     long = length-append before (row ∷ [])
 
-    by : EndBehind (length (before ++ row ∷ [])) later → Seam own later k hit → length before < end_of hit
+    by : EndBehind (length (before ++ row ∷ [])) later → Seam own later k hit → length before < last_observation hit
     by comma_joined (inl h) = let e = (row_ends patterns (before ++ row ∷ []) own reports k hit h.1).number in omega (arith, e, long)
     by comma_joined (inr h) = let less = comma_joined h.0 hit h.2 in omega (arith, less, long)
 
 -- ---- the order of the hits
 
 abbrev Merged : List Hit → Type 0
-Merged hits = (j k : ℕ) (hit other : Hit) → j < k → slice_get hits j ≡ Some hit → slice_get hits k ≡ Some other → ComesBefore hit other
+Merged hits = (j k : ℕ) (hit other : Hit) → j < k → slice_get hits j ≡ Some hit → slice_get hits k ≡ Some other → IsEarlierHit hit other
 
 place_at : (own : List Hit) (k : ℕ) (hit : Hit) → slice_get own k ≡ Some hit → slice_get (map (λ f. f.hunted) own) k ≡ Some hit.hunted
 place_at own k hit at = slice_get-map (λ (f : Hit). f.hunted) own k ∙ ap (option_map (λ (f : Hit). f.hunted)) at
 
-merged : (patterns : List Pattern) (before rows : List Row) (hits : List Hit) → AnswerRows patterns before rows hits → Merged hits
+merged : (patterns : List Pattern) (before rows : List ObservationRow) (hits : List Hit) → AnswerRows patterns before rows hits → Merged hits
 merged patterns before [] hits answers j k hit other less at there = absurd (none_there hits k other answers there)
 merged patterns before (row ∷ rows) hits (own, later, reports, rest, is) j k hit other less at there =
     by (merged patterns (before ++ row ∷ []) rows later rest) (end_behind patterns (before ++ row ∷ []) rows later rest)
     (cut_at own later hits is j hit at) (cut_at own later hits is k other there)
   where
-    by : Merged later → EndBehind (length (before ++ row ∷ [])) later → Seam own later j hit → Seam own later k other → ComesBefore hit other
+    by : Merged later → EndBehind (length (before ++ row ∷ [])) later → Seam own later j hit → Seam own later k other → IsEarlierHit hit other
     by more comma_joined (inl h) (inl g) =
         let e = (row_ends patterns (before ++ row ∷ []) own reports j hit h.1).number in
         let f = (row_ends patterns (before ++ row ∷ []) own reports k other g.1).number in
@@ -210,7 +210,7 @@ abbrev pub Listed : Type 0
 Listed = (p : NumberedPattern) (log : List LogEntry) (answers : List (List BindTree)) → AreAnswers p log answers
     → IsListing (observed_in log) p (joined_answers answers)
 
-pub are_hits : OneLog → Listed → (patterns : List Pattern) (rows : List Row) (hits : List Hit) → AnswerRows patterns [] rows hits → AreHits patterns rows hits
+pub are_hits : OneLog → Listed → (patterns : List Pattern) (rows : List ObservationRow) (hits : List Hit) → AnswerRows patterns [] rows hits → AreHits patterns rows hits
 are_hits one listed patterns rows hits answers = record {
   listings = λ place p of_p.
       let at = answers_at one patterns place p of_p [] rows hits [] tt answers in
@@ -220,7 +220,7 @@ are_hits one listed patterns rows hits answers = record {
 }
 
 -- the answer to one row more
-pub answers-more : (patterns : List Pattern) (before rows : List Row) (row : Row) (hits own : List Hit) → AnswerRows patterns before rows hits
+pub answers-more : (patterns : List Pattern) (before rows : List ObservationRow) (row : ObservationRow) (hits own : List Hit) → AnswerRows patterns before rows hits
     → ReportsRow patterns (before ++ (rows ++ row ∷ [])) own → AnswerRows patterns before (rows ++ row ∷ []) (hits ++ own)
 answers-more patterns before [] row hits own answers reports = (
   own,
@@ -234,6 +234,6 @@ answers-more patterns before (first ∷ rows) row hits own (mine, later, reports
   later ++ own,
   reports,
   answers-more patterns (before ++ first ∷ []) rows row later own rest
-      (subst (λ (l : List Row). ReportsRow patterns l own) (sym (append_assoc before (first ∷ []) (rows ++ row ∷ []))) told),
+      (subst (λ (l : List ObservationRow). ReportsRow patterns l own) (sym (append_assoc before (first ∷ []) (rows ++ row ∷ []))) told),
   ap (λ (l : List Hit). l ++ own) is ∙ append_assoc mine later own,
 )

@@ -16,7 +16,7 @@ use Rattle.pattern_types.specs.PlainPattern.{plain_pattern}
 use Rattle.pattern_types.specs.Width.{brackets, IsTooWide}
 use Rattle.hunt_feed.specs.declared.hunted.Hunted.{Hunted}
 use Rattle.hunt_feed.specs.declared.hunted.Skipped.{Skipped}
-use Rattle.hunt_feed.specs.Indicators.{IsHunted, IsSkipped}
+use Rattle.hunt_feed.specs.Indicators.{IsHunted, IsSkippedIndicator}
 use Rattle.hunt_report.proofs.PlaceLemmas.{all_at, less_or_not}
 use Rattle.hunt_report.specs.Hunting.{IsHuntable}
 
@@ -62,7 +62,7 @@ huntable of_value one whole same objects moment indicator unbroken is =
 
 -- what is skipped has an identifier of a kind
 pub kind_of_skipped : Named → OneId → (objects : List Data) (moment : ℤ) (skipped : Skipped)
-    → All (λ object. AreBreaksOf object []) objects → IsSkipped objects moment skipped → IsKind skipped.id.kind
+    → All (λ object. AreBreaksOf object []) objects → IsSkippedIndicator objects moment skipped → IsKind skipped.id.kind
 kind_of_skipped of_value one objects moment skipped unbroken is =
     let current = is.candidate.current in
     let sound = all_at (λ object. AreBreaksOf object []) objects skipped.at is.object unbroken current.there in

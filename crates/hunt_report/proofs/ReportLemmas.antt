@@ -7,14 +7,14 @@ use Rattle.match_run.specs.Buffered.{IsBuffered}
 use Rattle.match_bindings.specs.BindTree.{BindTree}
 use Rattle.hunt_feed.specs.declared.hunted.Hunted.{Hunted}
 use Rattle.hunt_engine.specs.declared.found.Hit.{Hit}
-use Rattle.hunt_engine.specs.EngineLog.{Row}
+use Rattle.hunt_engine.specs.EngineLog.{ObservationRow}
 use Rattle.hunt_engine.specs.EngineAnswer.{binds_at}
 use Rattle.hunt_report.proofs.PlaceLemmas.{get_left}
 use Rattle.hunt_report.specs.Envelope.{opened}
 use Rattle.hunt_report.specs.declared.hit_summary.HitSummary.{HitSummary}
 use Rattle.hunt_report.specs.HitSummaries.{IsHitSummaryOf, IsHitSummary, IsSighting, AreSightings, report_of, IsReport, begun_by, IsReportText}
 use Rattle.hunt_report.specs.Hunting.{HunterState, HuntsOver}
-use Rattle.hunt_report.specs.inner.Reporting.{IsTextOf, ReportsHitSummary, ReportsHitSummaries, is_begun, mark_of, end_of, ReportsSoFar, ReportsPart, AddsHitSummary, BreaksAtHitSummary}
+use Rattle.hunt_report.specs.inner.Reporting.{IsTextOfSighting, ReportsHitSummary, ReportsHitSummaries, is_begun, mark_of, report_end, ReportsSoFar, ReportsPart, AddsHitSummary, BreaksAtHitSummary}
 
 -- ---- one indicator more
 
@@ -64,14 +64,14 @@ begun_is-more [] text = refl
 begun_is-more (before ∷ texts) text = refl
 
 -- the end of the line
-pub report-whole : (texts : List (List ℕ)) → begun_by texts ++ end_of (is_begun texts) ≡ report_of texts
+pub report-whole : (texts : List (List ℕ)) → begun_by texts ++ report_end (is_begun texts) ≡ report_of texts
 report-whole [] = refl
 report-whole (text ∷ texts) = sym (append_assoc (opened (text ∷ texts)) (codes "]}") (codes "\n"))
 
 -- ---- what is kept is what was seen
 
-sighting_of : (moment : ℤ) (rows : List Row) (indicator : Hunted) (trees : List BindTree) (hit_summary : HitSummary) (text : List ℕ) → IsHitSummaryOf rows trees hit_summary
-    → IsTextOf moment indicator hit_summary text → IsSighting moment rows indicator trees text
+sighting_of : (moment : ℤ) (rows : List ObservationRow) (indicator : Hunted) (trees : List BindTree) (hit_summary : HitSummary) (text : List ℕ) → IsHitSummaryOf rows trees hit_summary
+    → IsTextOfSighting moment indicator hit_summary text → IsSighting moment rows indicator trees text
 sighting_of moment rows indicator trees hit_summary text is of = record {
   seen = of.seen;
   seen_is = record {
@@ -86,7 +86,7 @@ sighting_of moment rows indicator trees hit_summary text is of = record {
         → hit_summary ≡ record { count = of.seen.count; first = of.seen.first; last = of.seen.last }
     same a b c = λ i. record { count = sym a i; first = sym b i; last = sym c i }
 
-pub are-sightings : (moment : ℤ) (rows : List Row) (hits : List Hit) (place : ℕ) (hunted : List Hunted) (hit_summaries : List (Option HitSummary)) (texts : List (List ℕ))
+pub are-sightings : (moment : ℤ) (rows : List ObservationRow) (hits : List Hit) (place : ℕ) (hunted : List Hunted) (hit_summaries : List (Option HitSummary)) (texts : List (List ℕ))
     → ((k : ℕ) (hit_summary : Option HitSummary) → slice_get hit_summaries k ≡ Some hit_summary → IsHitSummary rows (binds_at (place + k) hits) hit_summary)
     → ReportsHitSummaries moment hunted hit_summaries texts → AreSightings moment rows hits place hunted texts
 are-sightings moment rows hits place [] [] texts are reports = reports
@@ -115,7 +115,7 @@ are-sightings moment rows hits place (h ∷ hunted) (hit_summary ∷ hit_summari
 
 -- ---- the line, or its beginning
 
-module _ (moment : ℤ) (rows : List Row) (hits : List Hit) (hunter : HunterState) (hunts : HuntsOver hunter rows hits) where
+module _ (moment : ℤ) (rows : List ObservationRow) (hits : List Hit) (hunter : HunterState) (hunts : HuntsOver hunter rows hits) where
   -- of the first indicators
   first_sightings : (front : List Hunted) (seen unseen : List (Option HitSummary)) (texts : List (List ℕ)) → hunter.hit_summaries ≡ seen ++ unseen
       → ReportsHitSummaries moment front seen texts → AreSightings moment rows hits 0 front texts
@@ -190,7 +190,7 @@ module _ (moment : ℤ) (hunted : List Hunted) (hit_summaries : List (Option Hit
 -- ---- one sighting
 
 module _ (first_text : FirstText) (other_text : OtherText) (moment : ℤ) (indicator : Hunted) (hit_summary : HitSummary) (texts : List (List ℕ)) (text : List ℕ)
-    (of : IsTextOf moment indicator hit_summary text) (first now : Option (List ℕ)) where
+    (of : IsTextOfSighting moment indicator hit_summary text) (first now : Option (List ℕ)) where
   pub adds-one : (begun : Bool) (pending : List ℕ) → begun ≡ is_begun texts → IsBuffered (begun_by texts ++ (mark_of begun ++ text)) pending first now
       → AddsHitSummary moment indicator (Some hit_summary) texts true pending first now
   adds-one begun pending same way = record {

@@ -3,9 +3,9 @@ use Rattle.std.proofs.Common.{arith, ◌≡◌, ℕ, Bool, true, false, ◌≤�
 use Rattle.std.specs.Prelude.{◌≤ℤ◌, ◌<ℤ◌, ◌%◌, ◌==◌, unsigned_abs, codes, if◌then◌else◌}
 use Rattle.std.proofs.lemmas.Int.{ints}
 use Rattle.std.proofs.lemmas.Option.{same_Some}
-use Rattle.stix_times.specs.Reading.{IsTextOf as IsTimeOf, IsMillisTextOf as IsMillisOf}
+use Rattle.stix_times.specs.Reading.{IsTextOfInstant as IsTimeOf, IsMillisTextOf as IsMillisOf}
 use Rattle.stix_ids.specs.declared.id.Id.{Id}
-use Rattle.stix_ids.specs.Identifier.{IsTextOf}
+use Rattle.stix_ids.specs.Identifier.{IsTextOfId}
 use Rattle.stix_objects.specs.declared.form.Precision.TheVariants.{Any, Millis}
 use Rattle.stix_objects.specs.Conditions.{SecondIsEarlier}
 use Rattle.stix_objects.specs.Breaks.{AreBreaksOf, rows_for, type_of}
@@ -41,7 +41,7 @@ not_earlier a b from to order is_from is_to earlier = omega (arith, ints, order,
 module _ (one : OneInstant) (count : ℕ) (few : count ≤ 999999999) (created first id last modified of : List ℕ) (created_at modified_at first_at last_at : ℤ) (own : ℕ) (indicator : Id)
     (is_created : IsMillisOf created created_at) (is_modified : IsMillisOf modified modified_at) (in_order : created_at ≤ℤ modified_at)
     (is_first : IsTimeOf first first_at) (is_last : IsTimeOf last last_at) (seen_in_order : first_at ≤ℤ last_at)
-    (is_id : IsTextOf id (record { kind = codes "sighting"; number = own })) (is_of : IsTextOf of indicator) where
+    (is_id : IsTextOfId id (record { kind = codes "sighting"; number = own })) (is_of : IsTextOfId of indicator) where
   order : ¬ SecondIsEarlier Millis (codes "created") (codes "modified") (sighting_data count created first id last modified of)
   order early =
       let from = one early.begins.text early.from created_at (millis_time early.begins.text early.from early.begins.names)

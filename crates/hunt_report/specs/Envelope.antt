@@ -10,18 +10,18 @@ comma_joined [] = []
 comma_joined (text ∷ texts) = codes "," ++ (text ++ comma_joined texts)
 
 -- texts with a comma between each two
-abbrev pub listed : List (List ℕ) → List ℕ
-listed [] = []
-listed (text ∷ texts) = text ++ comma_joined texts
+abbrev pub comma_separated : List (List ℕ) → List ℕ
+comma_separated [] = []
+comma_separated (text ∷ texts) = text ++ comma_joined texts
 
 -- the envelope up to the last of these texts
 abbrev pub opened : List (List ℕ) → List ℕ
-opened texts = codes "{\"objects\":[" ++ listed texts
+opened texts = codes "{\"objects\":[" ++ comma_separated texts
 
 -- the envelope of these texts
-abbrev pub envelope_text : List (List ℕ) → List ℕ
-envelope_text texts = opened texts ++ codes "]}"
+abbrev pub sightings_text : List (List ℕ) → List ℕ
+sightings_text texts = opened texts ++ codes "]}"
 
 -- the envelope of these objects, as a value
-abbrev pub envelope_data : List Data → Data
-envelope_data objects = object (member (codes "objects") (array (items_of objects)) no_members)
+abbrev pub sightings_data : List Data → Data
+sightings_data objects = object (member (codes "objects") (array (items_of objects)) no_members)

@@ -10,7 +10,7 @@ use Rattle.pattern_types.specs.Soundness.{IsSoundPattern}
 use Rattle.match_input.specs.Reading.{BundleOf}
 use Rattle.hunt_feed.specs.declared.hunted.Hunted.{Hunted}
 use Rattle.hunt_engine.specs.declared.found.Hit.{Hit}
-use Rattle.hunt_engine.specs.EngineLog.{Row, row_of}
+use Rattle.hunt_engine.specs.EngineLog.{ObservationRow, engine_row}
 use Rattle.hunt_engine.specs.EngineState.{EngineState, EngineRepresents}
 use Rattle.hunt_engine.specs.EngineAnswer.{binds_at, IsFirstOverLimit}
 use Rattle.hunt_report.specs.declared.hit_summary.HitSummary.{HitSummary}
@@ -39,7 +39,7 @@ pub record IsHuntable (indicator : Hunted) : Type 0 where
 
 -- it hunted over these rows, with these hits: its engine represents the rows, none of which exceeds
 -- the limit, and it has the summary of each indicator
-pub record HuntsOver (hunter : HunterState) (rows : List Row) (hits : List Hit) : Type 0 where
+pub record HuntsOver (hunter : HunterState) (rows : List ObservationRow) (hits : List Hit) : Type 0 where
   pub patterns : hunter.engine.patterns ≡ patterns_of hunter.hunted
   pub engine : EngineRepresents hunter.engine rows
   pub answers : AnswerRows (patterns_of hunter.hunted) [] rows hits
@@ -48,22 +48,22 @@ pub record HuntsOver (hunter : HunterState) (rows : List Row) (hits : List Hit) 
   pub hit_summaries : (place : ℕ) (hit_summary : Option HitSummary) → slice_get hunter.hit_summaries place ≡ Some hit_summary → IsHitSummary rows (binds_at place hits) hit_summary
 
 -- it hunts over some rows
-pub record IsReady (hunter : HunterState) : Type 0 where
+pub record IsReadyHunter (hunter : HunterState) : Type 0 where
   pub huntable : All IsHuntable hunter.hunted
-  pub rows : List Row
+  pub rows : List ObservationRow
   pub hits : List Hit
   pub hunts : HuntsOver hunter rows hits
 
 -- after any rows it took some more, and wrote their hits
-pub record TakesRows (rows : List Row) (before after : HunterState) (text : List ℕ) : Type 0 where
+pub record TakesRows (rows : List ObservationRow) (before after : HunterState) (text : List ℕ) : Type 0 where
   pub hunted : after.hunted ≡ before.hunted
   pub retained_limit : after.engine.retained_limit ≡ before.engine.retained_limit
-  pub takes : (earlier : List Row) (hits : List Hit) → HuntsOver before earlier hits
+  pub takes : (earlier : List ObservationRow) (hits : List Hit) → HuntsOver before earlier hits
       → (more : List Hit) × HuntsOver after (earlier ++ rows) (hits ++ more) × (text ≡ hits_text before.hunted more)
 
 -- it saw a bundle
-abbrev pub SeesBundle : HunterState → BundleOf → HunterState → List ℕ → Type 0
-SeesBundle before bundle after text = TakesRows (rows_over bundle.objects bundle.observations) before after text
+abbrev pub HunterSeesBundle : HunterState → BundleOf → HunterState → List ℕ → Type 0
+HunterSeesBundle before bundle after text = TakesRows (rows_over bundle.objects bundle.observations) before after text
 
 -- the text that it wrote about the first of some observations
 pub record TakesFirst (objects : List Data) (observations : List Observation) (before : HunterState) (text : List ℕ) : Type 0 where
@@ -86,8 +86,8 @@ pub record TakesUpTo (objects : List Data) (observations : List Observation) (be
   pub observations_are : observations ≡ seen ++ observation ∷ later
   pub after : HunterState
   pub takes : TakesRows (rows_over objects seen) before after text
-  pub over_limit : (earlier : List Row) (hits : List Hit) → HuntsOver before earlier hits
-      → IsFirstOverLimit (patterns_of before.hunted) before.engine.retained_limit ((earlier ++ rows_over objects seen) ++ row_of observation objects ∷ [])
+  pub over_limit : (earlier : List ObservationRow) (hits : List Hit) → HuntsOver before earlier hits
+      → IsFirstOverLimit (patterns_of before.hunted) before.engine.retained_limit ((earlier ++ rows_over objects seen) ++ engine_row observation objects ∷ [])
       why.hunted why.number why.retained_limit
 
 -- the same for the observations of a bundle

@@ -2,7 +2,7 @@
 use Rattle.std.specs.Prelude.{ℕ, List, [], ◌++◌, codes, Option, Some, None, slice_get}
 use Rattle.std.specs.List.{flat_map}
 use Rattle.stix_ids.specs.Identifier.{canonical_text}
-use Rattle.pattern_reader.specs.PatternRefusal.{refusal_text}
+use Rattle.pattern_reader.specs.PatternRefusal.{pattern_refusal_text}
 use Rattle.match_bindings.specs.BindTree.{BindTree, tree_of}
 use Rattle.match_bindings.specs.Line.{line_text}
 use Rattle.hunt_feed.specs.declared.hunted.Hunted.{Hunted}
@@ -11,10 +11,10 @@ use Rattle.hunt_engine.specs.declared.found.Hit.{Hit}
 
 -- skipped ID: NAME at N, the offset if there is one
 abbrev pub skipped_line : Skipped → List ℕ
-skipped_line skipped = codes "skipped " ++ (canonical_text skipped.id ++ (codes ": " ++ (refusal_text skipped.refusal ++ codes "\n")))
+skipped_line skipped = codes "skipped " ++ (canonical_text skipped.id ++ (codes ": " ++ (pattern_refusal_text skipped.refusal ++ codes "\n")))
 
-abbrev pub skipped_text : List Skipped → List ℕ
-skipped_text skipped = flat_map skipped_line skipped
+abbrev pub skipped_lines : List Skipped → List ℕ
+skipped_lines skipped = flat_map skipped_line skipped
 
 -- the identifier of the indicator, a space, and the line of the binding
 abbrev pub line_for : Option Hunted → BindTree → List ℕ

@@ -5,7 +5,7 @@ use Rattle.serde_json.specs.Data.{Data, number, string, object}
 use Rattle.serde_json.specs.Find.{of_integer}
 use Rattle.serde_json.specs.Written.{compact_text}
 use Rattle.stix_ids.specs.declared.id.Id.{Id}
-use Rattle.stix_ids.specs.Identifier.{IsCanonicalTextOf as IsCanonicalIdOf}
+use Rattle.stix_ids.specs.Identifier.{IsCanonicalIdText as IsCanonicalIdOf}
 use Rattle.stix_json.specs.DataOf.{Member, members_of}
 use Rattle.stix_times.specs.Writing.{IsCanonicalTextOf, IsTextOfDigits, IsWhole}
 use Rattle.hunt_report.specs.declared.seen.SightingInput.{SightingInput}
@@ -13,7 +13,7 @@ use Rattle.hunt_report.specs.declared.seen.TheConstants.{MAX_COUNT}
 
 -- what the input of a sighting has to satisfy: the creation time is a whole number of microseconds,
 -- and the last binding didn't end before the first
-pub record IsSeen (seen : SightingInput) : Type 0 where
+pub record IsSightingInput (seen : SightingInput) : Type 0 where
   pub kind : seen.indicator.now.kind ≡ codes "indicator"
   pub created : IsWhole 1000 seen.created
   pub in_order : seen.first ≤ℤ seen.last
@@ -23,8 +23,8 @@ abbrev pub version_digits : ℤ → ℕ
 version_digits instant = if unsigned_abs instant % 1_000_000 == 0 then 3 else 6
 
 -- the text of a version's instant
-abbrev pub IsVersionText : ℤ → List ℕ → Type 0
-IsVersionText instant text = IsTextOfDigits (version_digits instant) text instant
+abbrev pub IsVersionInstantText : ℤ → List ℕ → Type 0
+IsVersionInstantText instant text = IsTextOfDigits (version_digits instant) text instant
 
 -- the moment rounded down to milliseconds
 pub record IsRoundedDown (moment rounded : ℤ) : Type 0 where
@@ -65,11 +65,11 @@ sighting_id indicator = record { kind = codes "sighting"; number = indicator.num
 -- the sighting of this input, made at the moment
 pub record IsSightingOf (moment : ℤ) (seen : SightingInput) (d : Data) : Type 0 where
   pub created : List ℕ
-  pub created_is : IsVersionText seen.created created
+  pub created_is : IsVersionInstantText seen.created created
   pub instant : ℤ
   pub modified_at : IsModifiedAt seen.created moment instant
   pub modified : List ℕ
-  pub modified_is : IsVersionText instant modified
+  pub modified_is : IsVersionInstantText instant modified
   pub first : List ℕ
   pub first_is : IsCanonicalTextOf first seen.first
   pub last : List ℕ

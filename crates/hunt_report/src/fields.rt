@@ -5,9 +5,9 @@ ghost use Rattle.serde_json.specs.Data.{number as whole, object};
 ghost use Rattle.serde_json.specs.Find.{of_integer};
 ghost use Rattle.stix_json.specs.DataOf.{data_of, field_data, members_of};
 ghost use Rattle.stix_ids.specs.Kind.{IsKind};
-ghost use Rattle.stix_ids.specs.Identifier.{IsCanonicalTextOf as IsCanonicalIdOf};
+ghost use Rattle.stix_ids.specs.Identifier.{IsCanonicalIdText as IsCanonicalIdOf};
 ghost use Rattle.stix_times.specs.Writing.{IsCanonicalTextOf, IsWhole};
-ghost use Rattle.hunt_report.specs.Sightings.{IsVersionText, text_member};
+ghost use Rattle.hunt_report.specs.Sightings.{IsVersionInstantText, text_member};
 ghost use Rattle.hunt_report.specs.inner.Adding.{AddsText};
 
 use crate::times::{time_text, version_text};
@@ -101,7 +101,7 @@ impl Fields {
         instant: Instant,
     ) -> Result<(), NoMemory>
         requires { IsWhole 1000 instant }
-        ensures { OnOk result (AddsText (IsVersionText instant) name.now
+        ensures { OnOk result (AddsText (IsVersionInstantText instant) name.now
             (map field_data self.old.fields.items) (map field_data self.new.fields.items)) }
     {
         let text = version_text(alloc, instant)?;

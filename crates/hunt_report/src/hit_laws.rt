@@ -9,7 +9,7 @@ ghost use Rattle.pattern_types.specs.declared.pattern.Pattern.{Pattern};
 ghost use Rattle.hunt_feed.specs.declared.hunted.Hunt.{Hunt};
 ghost use Rattle.hunt_feed.specs.Indicators.{IsHuntOf};
 ghost use Rattle.hunt_engine.specs.declared.found.Hit.{Hit};
-ghost use Rattle.hunt_engine.specs.EngineLog.{Row};
+ghost use Rattle.hunt_engine.specs.EngineLog.{ObservationRow};
 ghost use Rattle.hunt_report.specs.Hits.{AnswerRows, AreHits};
 ghost use Rattle.hunt_report.specs.Hunting.{IsHuntable};
 
@@ -21,7 +21,7 @@ use stix_times::laws::millis_are_whole;
 
 /// The answers to the rows of a log, concatenated, are its hits.
 pub fn answers_are_the_hits()
-    ensures { (patterns : List Pattern) (rows : List Row) (hits : List Hit)
+    ensures { (patterns : List Pattern) (rows : List ObservationRow) (hits : List Hit)
         → AnswerRows patterns [] rows hits → AreHits patterns rows hits }
 {
     answers_are_the_listing();

@@ -4,14 +4,15 @@ ghost use Rattle.flow_edges.specs.Faults.{Counted};
 ghost use Rattle.stix_bundles.specs.Objects.{data_in};
 ghost use Rattle.match_stream.specs.MatcherState.{Falls};
 ghost use Rattle.match_run.specs.Reading.{MayFollow};
-ghost use Rattle.hunt_engine.specs.EngineLog.{row_of};
+ghost use Rattle.hunt_engine.specs.EngineLog.{engine_row};
 ghost use Rattle.hunt_engine.specs.Memo.{brackets_of, IsSoundMemo};
 ghost use Rattle.hunt_engine.specs.declared.refusal.EngineRefusal.TheVariants.{Ended};
-ghost use Rattle.hunt_report.specs.Hunting.{patterns_of, IsHuntable, HuntsOver, IsReady};
-ghost use Rattle.hunt_report.specs.Hunting.{SeesBundle, BeginsBundle, StopsInBundle};
+ghost use Rattle.hunt_report.specs.Hunting.{patterns_of, IsHuntable, HuntsOver, IsReadyHunter};
+ghost use Rattle.hunt_report.specs.Hunting.{HunterSeesBundle, BeginsBundle, StopsInBundle};
 ghost use Rattle.hunt_report.specs.inner.Noting.{noted, all_noted, AreBefore};
-ghost use Rattle.hunt_report.specs.inner.HitReporting.{TakesRow, end_of_engine, EndsAtRow};
-ghost use Rattle.hunt_report.specs.inner.HitReporting.{TakesSoFar, EndsAmong, HasCutLines};
+ghost use Rattle.hunt_report.specs.inner.HitReporting.{TakesHuntRow, end_of_engine};
+ghost use Rattle.hunt_report.specs.inner.HitReporting.{EndsAtHuntedRow};
+ghost use Rattle.hunt_report.specs.inner.HitReporting.{TakesSoFar, EndsAmongHits, HasCutHitLines};
 
 use crate::hit_line::add_hits;
 use crate::hit_summary::hit_summary_after;
@@ -53,11 +54,11 @@ impl<'p> Model for Hunter<'p> {
 
     ghost coded = { Prim.hlevel (codes, held.the_row.coded, tree_code) };
 
-    ghost use Rattle.hunt_report.specs.inner.Built.{IsBuilt};
+    ghost use Rattle.hunt_report.specs.inner.Built.{IsBuiltHunter};
 
     ghost view = { λ hunter. record { hunted = hunter.hunted.now; engine = hunter.engine; hit_summaries = hunter.hit_summaries.items } };
 
-    ghost invariant = { IsBuilt };
+    ghost invariant = { IsBuiltHunter };
 }
 
 impl<'p> Hunter<'p> {
@@ -94,13 +95,13 @@ impl<'p> Hunter<'p> {
         pending: &mut Pending,
         output: &mut O,
     ) -> Result<(), SeeEnd<OverLimit>>
-        requires ready { IsReady self.old }
+        requires ready { IsReadyHunter self.old }
         requires follow { MayFollow self.old.engine.last (self.old.engine.rows
             + 1) batch.now.observations }
         requires empty { pending.old ≡ [] }
         ensures sees { OnOk result (TakesSoFar (data_in batch.now.bundle) batch.now.observations
             self.old self.new pending.new (O.written output.old) (O.written output.new)) }
-        ensures end { IfErr result (EndsAmong (data_in batch.now.bundle) batch.now.observations
+        ensures end { IfErr result (EndsAmongHits (data_in batch.now.bundle) batch.now.observations
             self.old pending.new (O.written output.old) (O.written output.new)) }
         ensures causes { Counted (result ≡ Err SeeEnd.WriteFault) (O.faults output.old)
             (O.faults output.new) }
@@ -126,15 +127,15 @@ impl<'p> Hunter<'p> {
         bundle: &Bundle,
         memo: &mut Memo,
     ) -> Result<Items<Hit>, SeeEnd<OverLimit>>
-        requires ready { IsReady self.old }
+        requires ready { IsReadyHunter self.old }
         requires right { IsSoundMemo (data_in bundle.now)
             (brackets_of (patterns_of self.old.hunted)) memo.old }
         requires span { observation.now.first ≤ℤ observation.now.last }
         requires number { observation.now.number ≡ self.old.engine.rows + 1 }
         requires order { ¬ (Falls self.old.engine.last observation.now.last) }
-        ensures row { IfOk result (TakesRow (row_of observation.now (data_in bundle.now)) self.old
+        ensures row { IfOk result (TakesHuntRow (engine_row observation.now (data_in bundle.now)) self.old
             self.new) }
-        ensures end { IfErr result (EndsAtRow (row_of observation.now (data_in bundle.now))
+        ensures end { IfErr result (EndsAtHuntedRow (engine_row observation.now (data_in bundle.now))
             self.old) }
         ensures right { OnOk result (IsSoundMemo (data_in bundle.now)
             (brackets_of (patterns_of self.old.hunted)) memo.new) }
@@ -198,7 +199,7 @@ fn end_of(refusal: EngineRefusal) -> SeeEnd<OverLimit>
 
 /// Whether an end comes in the middle of lines: out of memory, or a failed write.
 fn has_cut_lines(ended: &Result<(), SeeEnd<OverLimit>>) -> bool
-    ensures { IsTrue result ↔ HasCutLines ended.now }
+    ensures { IsTrue result ↔ HasCutHitLines ended.now }
 {
     matches!(ended, Err(SeeEnd::NoMemory | SeeEnd::WriteFault))
 }
@@ -206,13 +207,13 @@ fn has_cut_lines(ended: &Result<(), SeeEnd<OverLimit>>) -> bool
 impl<'p> Watcher for Hunter<'p> {
     type Stop = OverLimit;
 
-    ghost ready = { IsReady };
+    ghost ready = { IsReadyHunter };
 
     ghost seen = { λ hunter. hunter.engine.rows };
 
     ghost last = { λ hunter. hunter.engine.last };
 
-    ghost sees = { SeesBundle };
+    ghost sees = { HunterSeesBundle };
 
     ghost stops = { StopsInBundle };
 

@@ -5,7 +5,7 @@ ghost use Rattle.stix_json.specs.DataOf.{data_of};
 ghost use Rattle.stix_json.specs.Ordered.{IsOrdered};
 ghost use Rattle.stix_objects.specs.Breaks.{AreBreaksOf};
 ghost use Rattle.hunt_report.specs.declared.seen.TheConstants.{MAX_COUNT as most};
-ghost use Rattle.hunt_report.specs.Sightings.{IsSeen, IsSightingOf, IsSightingText};
+ghost use Rattle.hunt_report.specs.Sightings.{IsSightingInput, IsSightingOf, IsSightingText};
 
 use crate::fields::Fields;
 use crate::moment::modified_at;
@@ -20,7 +20,7 @@ use stix_times::laws::{one_instant, written_reads_back};
 
 /// The sighting of an indicator, made at a moment. It breaks no rule of its type.
 pub fn sighting(alloc: Global, moment: Instant, seen: &SightingInput<'_>) -> Result<Json, NoMemory>
-    requires { IsSeen seen.now }
+    requires { IsSightingInput seen.now }
     ensures sighting { IfOk result (λ json. IsSightingOf moment seen.now (data_of json)) }
     ensures unbroken { IfOk result (λ json. AreBreaksOf (data_of json) []) }
     ensures ordered { IfOk result (λ json. IsOrdered (data_of json)) }
@@ -33,7 +33,7 @@ pub fn sighting(alloc: Global, moment: Instant, seen: &SightingInput<'_>) -> Res
 
 /// The sighting, with a shorter contract.
 fn object_of(alloc: Global, moment: Instant, seen: &SightingInput<'_>) -> Result<Json, NoMemory>
-    requires { IsSeen seen.now }
+    requires { IsSightingInput seen.now }
     ensures { IfOk result (λ json. IsSightingOf moment seen.now (data_of json)) }
 {
     let modified = modified_at(seen.created, moment);
@@ -68,7 +68,7 @@ pub fn sighting_text(
     moment: Instant,
     seen: &SightingInput<'_>,
 ) -> Result<Text, NoMemory>
-    requires { IsSeen seen.now }
+    requires { IsSightingInput seen.now }
     ensures { IfOk result (IsSightingText moment seen.now) }
 {
     let sighting = sighting(alloc, moment, seen)?;

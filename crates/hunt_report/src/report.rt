@@ -8,12 +8,12 @@ ghost use Rattle.flow_edges.specs.Flow.{written_with, WritesPrefix};
 ghost use Rattle.match_run.specs.Buffered.{IsBuffered};
 ghost use Rattle.match_run.specs.declared.cut_short.CutShort.TheVariants as cut;
 ghost use Rattle.hunt_engine.specs.declared.found.Hit.{Hit};
-ghost use Rattle.hunt_engine.specs.EngineLog.{Row};
+ghost use Rattle.hunt_engine.specs.EngineLog.{ObservationRow};
 ghost use Rattle.hunt_report.specs.Hunting.{IsHuntable, HuntsOver};
 ghost use Rattle.hunt_report.specs.HitSummaries.{IsReport, IsReportText, begun_by};
-ghost use Rattle.hunt_report.specs.inner.Reporting.{IsTextOf, ReportsSoFar, ReportsPart};
+ghost use Rattle.hunt_report.specs.inner.Reporting.{IsTextOfSighting, ReportsSoFar, ReportsPart};
 ghost use Rattle.hunt_report.specs.inner.Reporting.{AddsHitSummary, BreaksAtHitSummary, is_begun};
-ghost use Rattle.hunt_report.specs.inner.Reporting.{mark_of, end_of, IsHitSummaryInOrder};
+ghost use Rattle.hunt_report.specs.inner.Reporting.{mark_of, report_end, IsHitSummaryInOrder};
 
 use crate::sighting_laws::one_text_more;
 use crate::{HitSummary, Hunter, SightingInput, sighting_text};
@@ -35,12 +35,12 @@ pub fn write_report<O: Sink>(
 ) -> Result<(), CutShort>
     requires { All IsHuntable hunter.now.hunted }
     // The whole report of the rows that the hunter took.
-    ensures ok { (rows : List Row) (hits : List Hit) → HuntsOver hunter.now rows hits
+    ensures ok { (rows : List ObservationRow) (hits : List Hit) → HuntsOver hunter.now rows hits
         → OnOk result ((text : List ℕ)
         × IsReport moment rows hits hunter.now.hunted text
         × (O.written output.new ≡ written_with text (O.written output.old))) }
     // Some prefix of it.
-    ensures err { (rows : List Row) (hits : List Hit) → HuntsOver hunter.now rows hits
+    ensures err { (rows : List ObservationRow) (hits : List Hit) → HuntsOver hunter.now rows hits
         → OnErr result ((text : List ℕ)
         × IsReportText moment rows hits hunter.now.hunted text
         × WritesPrefix text (O.written output.old) (O.written output.new)) }
@@ -133,7 +133,7 @@ fn text_of(
 ) -> Result<Text, NoMemory>
     requires huntable { IsHuntable indicator.now }
     requires order { hit_summary.first ≤ℤ hit_summary.last }
-    ensures { IfOk result (IsTextOf moment indicator.now hit_summary) }
+    ensures { IfOk result (IsTextOfSighting moment indicator.now hit_summary) }
 {
     let seen = SightingInput {
         indicator: &indicator.id,
@@ -178,7 +178,7 @@ fn mark_of(begun: bool) -> &'static str
 
 /// The text after the sightings, if there are any.
 fn end_of(begun: bool) -> &'static str
-    ensures { result.now ≡ end_of begun }
+    ensures { result.now ≡ report_end begun }
 {
     if begun { "]}\n" } else { "" }
 }

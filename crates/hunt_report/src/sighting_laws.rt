@@ -4,7 +4,7 @@
 ghost use Rattle.std.specs.Prelude.{◌≡◌, ℕ, List, [], ◌∷◌, ◌++◌, map, codes};
 ghost use Rattle.serde_json.specs.Data.{Data};
 ghost use Rattle.serde_json.specs.Written.{compact_text};
-ghost use Rattle.hunt_report.specs.Envelope.{opened, envelope_text, envelope_data};
+ghost use Rattle.hunt_report.specs.Envelope.{opened, sightings_text, sightings_data};
 
 /// One more text in an envelope: the first one as it is, each other one after a comma.
 pub fn one_text_more()
@@ -16,5 +16,5 @@ pub fn one_text_more()
 /// The envelope of the texts of some objects is the text of the object whose `objects` they are.
 pub fn envelope_is_an_object()
     ensures { (objects : List Data)
-        → envelope_text (map compact_text objects) ≡ compact_text (envelope_data objects) }
+        → sightings_text (map compact_text objects) ≡ compact_text (sightings_data objects) }
 {}

@@ -7,7 +7,7 @@ ghost use Rattle.flow_edges.specs.Flow.{written_with, WritesPrefix};
 ghost use Rattle.stix_ids.specs.Kind.{IsKind};
 ghost use Rattle.match_run.specs.Buffered.{IsBuffered};
 ghost use Rattle.match_run.specs.declared.cut_short.CutShort.TheVariants as cut;
-ghost use Rattle.hunt_report.specs.Lines.{skipped_line, skipped_text};
+ghost use Rattle.hunt_report.specs.Lines.{skipped_line, skipped_lines};
 
 use flow_edges::Sink;
 use flow_values::NoMemory;
@@ -26,8 +26,8 @@ pub fn write_skipped<O: Sink>(
 ) -> Result<(), CutShort>
     requires { All (λ s. IsKind s.id.kind) skipped.now }
     ensures ok { OnOk result (O.written output.new
-        ≡ written_with (skipped_text skipped.now) (O.written output.old)) }
-    ensures err { OnErr result (WritesPrefix (skipped_text skipped.now) (O.written output.old)
+        ≡ written_with (skipped_lines skipped.now) (O.written output.old)) }
+    ensures err { OnErr result (WritesPrefix (skipped_lines skipped.now) (O.written output.old)
         (O.written output.new)) }
     ensures causes { Counted (result ≡ Err CutShort.WriteFault) (O.faults output.old)
         (O.faults output.new) }

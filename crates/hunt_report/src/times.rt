@@ -2,7 +2,7 @@
 
 ghost use Rattle.std.specs.Prelude.{◌≡◌, IfOk};
 ghost use Rattle.stix_times.specs.Writing.{IsCanonicalTextOf, IsTextOfDigits, IsWhole};
-ghost use Rattle.hunt_report.specs.Sightings.{IsVersionText};
+ghost use Rattle.hunt_report.specs.Sightings.{IsVersionInstantText};
 
 use flow_values::{NoMemory, Text};
 use std::alloc::Global;
@@ -23,7 +23,7 @@ pub(crate) fn time_text(alloc: Global, instant: Instant) -> Result<Text, NoMemor
 /// six.
 pub(crate) fn version_text(alloc: Global, instant: Instant) -> Result<Text, NoMemory>
     requires { IsWhole 1000 instant }
-    ensures { IfOk result (IsVersionText instant) }
+    ensures { IfOk result (IsVersionInstantText instant) }
 {
     if nanos(instant) % NANOS_PER_MILLI == 0 {
         millis_text(alloc, instant)

@@ -1,4 +1,4 @@
--- What fits a bounds.
+-- What span_fits a bounds.
 use Rattle.std.proofs.Common.{◌≡◌, ℕ, ◌*◌, min, ℤ, pos, ◌+ℤ◌, ◌<ℤ◌, ◌≤ℤ◌, refl, sym, arith}
 use Rattle.std.specs.Prelude.{Bool, true, false, ◌&&◌, int_lt, int_le, Option, Some, None}
 use Rattle.std.specs.Int.{int_min, int_max}
@@ -7,7 +7,7 @@ use Rattle.std.proofs.lemmas.Int.{ints, clamps}
 use Rattle.match_bindings.specs.declared.span.Span.{Span}
 use Rattle.match_bindings.specs.declared.bounds.Bounds.{Bounds}
 use Rattle.match_bindings.specs.Span.{later_by}
-use Rattle.match_bindings.specs.inner.Candidates.{joined_span, lies_within, lies_between, in_seconds, from_start, before_stop, fits}
+use Rattle.match_bindings.specs.inner.Candidates.{joined_span, lies_within, lies_between, is_in_seconds, is_from_start, is_before_stop, span_fits}
 use Rattle.match_bindings.specs.Bounds.{least_seconds, latest_start, earliest_stop, within, between}
 use Rattle.match_bindings.proofs.IsBindingLemmas.{lt_true, true_lt, le_true, true_le}
 
@@ -35,7 +35,7 @@ stop_left l m y h = omega (arith, ints, clamps)
 stop_right : (l m y : ℤ) → int_max l m <ℤ y → m <ℤ y
 stop_right l m y h = omega (arith, ints, clamps)
 
-seconds_parts : (w : Option ℕ) (a b : Span) → in_seconds w (joined_span a b) ≡ true → (in_seconds w a ≡ true) × (in_seconds w b ≡ true)
+seconds_parts : (w : Option ℕ) (a b : Span) → is_in_seconds w (joined_span a b) ≡ true → (is_in_seconds w a ≡ true) × (is_in_seconds w b ≡ true)
 seconds_parts None a b h = (refl, refl)
 seconds_parts (Some n) a b h =
     let e = lt_true (int_max a.latest b.latest) (later_by n (int_min a.earliest b.earliest)) h in (
@@ -43,23 +43,23 @@ seconds_parts (Some n) a b h =
       true_lt b.latest (later_by n b.earliest) (within_right a.latest b.latest a.earliest b.earliest (1_000_000_000 * n) e),
     )
 
-start_parts : (w : Option ℤ) (a b : Span) → from_start w (joined_span a b) ≡ true → (from_start w a ≡ true) × (from_start w b ≡ true)
+start_parts : (w : Option ℤ) (a b : Span) → is_from_start w (joined_span a b) ≡ true → (is_from_start w a ≡ true) × (is_from_start w b ≡ true)
 start_parts None a b h = (refl, refl)
 start_parts (Some x) a b h =
     let e = le_true x (int_min a.earliest b.earliest) h in
     (true_le x a.earliest (start_left x a.earliest b.earliest e), true_le x b.earliest (start_right x a.earliest b.earliest e))
 
-stop_parts : (w : Option ℤ) (a b : Span) → before_stop w (joined_span a b) ≡ true → (before_stop w a ≡ true) × (before_stop w b ≡ true)
+stop_parts : (w : Option ℤ) (a b : Span) → is_before_stop w (joined_span a b) ≡ true → (is_before_stop w a ≡ true) × (is_before_stop w b ≡ true)
 stop_parts None a b h = (refl, refl)
 stop_parts (Some y) a b h =
     let e = lt_true (int_max a.latest b.latest) y h in
     (true_lt a.latest y (stop_left a.latest b.latest y e), true_lt b.latest y (stop_right a.latest b.latest y e))
 
--- what fits together fits alone
-pub fits_parts : (w : Bounds) (a b : Span) → fits w (joined_span a b) ≡ true → (fits w a ≡ true) × (fits w b ≡ true)
+-- what span_fits together span_fits alone
+pub fits_parts : (w : Bounds) (a b : Span) → span_fits w (joined_span a b) ≡ true → (span_fits w a ≡ true) × (span_fits w b ≡ true)
 fits_parts w a b h =
-    let parts = and_parts (in_seconds w.seconds (joined_span a b)) (from_start w.start (joined_span a b) && before_stop w.stop (joined_span a b)) h in
-    let rest = and_parts (from_start w.start (joined_span a b)) (before_stop w.stop (joined_span a b)) parts.1 in
+    let parts = and_parts (is_in_seconds w.seconds (joined_span a b)) (is_from_start w.start (joined_span a b) && is_before_stop w.stop (joined_span a b)) h in
+    let rest = and_parts (is_from_start w.start (joined_span a b)) (is_before_stop w.stop (joined_span a b)) parts.1 in
     let one = seconds_parts w.seconds a b parts.0 in
     let two = start_parts w.start a b rest.0 in
     let three = stop_parts w.stop a b rest.1 in
@@ -75,7 +75,7 @@ min_right l e m n h = omega (arith, ints)
 min_both : (l e : ℤ) (m n : ℕ) → l <ℤ (e +ℤ pos (1_000_000_000 * m)) → l <ℤ (e +ℤ pos (1_000_000_000 * n)) → l <ℤ (e +ℤ pos (1_000_000_000 * min m n))
 min_both l e m n h k = omega (arith, ints)
 
-seconds_narrowed : (w : Option ℕ) (n : ℕ) (s : Span) → in_seconds (least_seconds w n) s ≡ (in_seconds w s && lies_within n s)
+seconds_narrowed : (w : Option ℕ) (n : ℕ) (s : Span) → is_in_seconds (least_seconds w n) s ≡ (is_in_seconds w s && lies_within n s)
 seconds_narrowed None n s = refl
 seconds_narrowed (Some m) n s = both_ways (lies_within (min m n) s) (lies_within m s && lies_within n s)
     (λ h. let e = lt_true s.latest (later_by (min m n) s.earliest) h in
@@ -93,7 +93,7 @@ max_right x y e h = omega (arith, ints, clamps)
 max_both : (x y e : ℤ) → y ≤ℤ e → x ≤ℤ e → int_max y x ≤ℤ e
 max_both x y e h k = omega (arith, ints, clamps)
 
-start_narrowed : (w : Option ℤ) (x : ℤ) (s : Span) → from_start (latest_start w x) s ≡ (from_start w s && int_le x s.earliest)
+start_narrowed : (w : Option ℤ) (x : ℤ) (s : Span) → is_from_start (latest_start w x) s ≡ (is_from_start w s && int_le x s.earliest)
 start_narrowed None x s = refl
 start_narrowed (Some y) x s = both_ways (int_le (int_max y x) s.earliest) (int_le y s.earliest && int_le x s.earliest)
     (λ h. let e = le_true (int_max y x) s.earliest h in
@@ -110,7 +110,7 @@ least_right x y l h = omega (arith, ints, clamps)
 least_both : (x y l : ℤ) → l <ℤ y → l <ℤ x → l <ℤ int_min y x
 least_both x y l h k = omega (arith, ints, clamps)
 
-stop_narrowed : (w : Option ℤ) (x : ℤ) (s : Span) → before_stop (earliest_stop w x) s ≡ (before_stop w s && int_lt s.latest x)
+stop_narrowed : (w : Option ℤ) (x : ℤ) (s : Span) → is_before_stop (earliest_stop w x) s ≡ (is_before_stop w s && int_lt s.latest x)
 stop_narrowed None x s = refl
 stop_narrowed (Some y) x s = both_ways (int_lt s.latest (int_min y x)) (int_lt s.latest y && int_lt s.latest x)
     (λ h. let e = lt_true s.latest (int_min y x) h in
@@ -124,10 +124,10 @@ within_bits false true r = refl
 within_bits false false r = refl
 
 -- the bounds of the part of a Within asks for its seconds too
-pub fits_within : (w : Bounds) (n : ℕ) (s : Span) → fits (within w n) s ≡ (lies_within n s && fits w s)
+pub fits_within : (w : Bounds) (n : ℕ) (s : Span) → span_fits (within w n) s ≡ (lies_within n s && span_fits w s)
 fits_within w n s =
     let one = seconds_narrowed w.seconds n s in
-    rw one (within_bits (in_seconds w.seconds s) (lies_within n s) (from_start w.start s && before_stop w.stop s))
+    rw one (within_bits (is_in_seconds w.seconds s) (lies_within n s) (is_from_start w.start s && is_before_stop w.stop s))
 
 between_bits : (p q r u v : Bool) → (p && ((q && u) && (r && v))) ≡ ((u && v) && (p && (q && r)))
 between_bits p q r false v = false_right p q r v where
@@ -145,8 +145,8 @@ between_bits false q r true true = refl
 between_bits false q r true false = refl
 
 -- that of a Between asks for its start and stop
-pub fits_between : (w : Bounds) (start stop : ℤ) (s : Span) → fits (between w start stop) s ≡ (lies_between start stop s && fits w s)
+pub fits_between : (w : Bounds) (start stop : ℤ) (s : Span) → span_fits (between w start stop) s ≡ (lies_between start stop s && span_fits w s)
 fits_between w start stop s =
     let one = start_narrowed w.start start s in
     let two = stop_narrowed w.stop stop s in
-    rw (one, two) (between_bits (in_seconds w.seconds s) (from_start w.start s) (before_stop w.stop s) (int_le start s.earliest) (int_lt s.latest stop))
+    rw (one, two) (between_bits (is_in_seconds w.seconds s) (is_from_start w.start s) (is_before_stop w.stop s) (int_le start s.earliest) (int_lt s.latest stop))

@@ -9,10 +9,10 @@ use Rattle.match_bindings.specs.NumberedPattern.{NumberedPattern, Leaf, Both, Th
 use Rattle.match_bindings.specs.BindTree.{BindTree, One, Pair, First, Second, Empty, Single, More, disjoint}
 use Rattle.match_bindings.specs.Log.{Observed}
 use Rattle.match_bindings.specs.Test.{is_binding, are_repeats}
-use Rattle.match_bindings.specs.Once.{bit, same, count, Exactly}
+use Rattle.match_bindings.specs.Once.{bit, is_same_tree, count, Exactly}
 use Rattle.match_bindings.proofs.PairsLemmas.{pairs}
 use Rattle.match_bindings.specs.Bounds.{within, between}
-use Rattle.match_bindings.specs.inner.Candidates.{span_of, joined_span, fits, lies_within, lies_between, SpannedTree, hold, spanned_with, joined_tree, admits, may_join, joined_spanned, join_row, joins, one_if, ones, repeats_of, candidates}
+use Rattle.match_bindings.specs.inner.Candidates.{span_of, joined_span, span_fits, lies_within, lies_between, SpannedTree, spanned_binding, spanned_with, joined_bindings, admits, may_join_spans, joined_spanned, span_join_row, span_joins, one_if, ones, repeats_of, candidates}
 use Rattle.match_bindings.proofs.ListLemmas.{map_append, map_map, map_agree, filter_map}
 use Rattle.match_bindings.proofs.OnceLemmas.{Joins, count_append, count_pairs, count_others, count_under, count_not_under}
 use Rattle.match_bindings.proofs.BoundsLemmas.{fits_parts, fits_within, fits_between}
@@ -22,13 +22,13 @@ exactly_same f g xs h e x = e x ∙ ap bit (h x)
 
 -- the spanned_trees are those trees that pass and fit, each once, with their spans
 abbrev pub AreAll : Observed → Bounds → (BindTree → Bool) → List SpannedTree → Type 0
-AreAll o w f spanned_trees = (xs : List BindTree) × (spanned_trees ≡ map (hold o) xs) × Exactly (λ x. f x && fits w (span_of o x)) xs
+AreAll o w f spanned_trees = (xs : List BindTree) × (spanned_trees ≡ map (spanned_binding o) xs) × Exactly (λ x. f x && span_fits w (span_of o x)) xs
 
 -- ---- leaves
 
 -- whether an observation is candidates at a leaf
 abbrev here : Observed → Bounds → ℕ → ℕ → Bool
-here o w k i = o.holds k i && fits w (span_of o (One i))
+here o w k i = o.holds k i && span_fits w (span_of o (One i))
 
 abbrev one_trees : Observed → Bounds → ℕ → ℕ → List BindTree
 one_trees o w k zero = []
@@ -38,19 +38,19 @@ map_cond : {A B : Type 0} (f : A → B) (b : Bool) (x : A) → cond b (f x ∷ [
 map_cond f true x = refl
 map_cond f false x = refl
 
-ones_are : (o : Observed) (w : Bounds) (k n : ℕ) → ones o w k n ≡ map (hold o) (one_trees o w k n)
+ones_are : (o : Observed) (w : Bounds) (k n : ℕ) → ones o w k n ≡ map (spanned_binding o) (one_trees o w k n)
 ones_are o w k zero = refl
 ones_are o w k (suc n) =
-    ap (λ z. z ++ one_if (o.holds k (suc n)) w (hold o (One (suc n)))) (ones_are o w k n)
-    ∙ ap (λ z. map (hold o) (one_trees o w k n) ++ z) (map_cond (hold o) (here o w k (suc n)) (One (suc n)))
-    ∙ sym (map_append (hold o) (one_trees o w k n) (cond (here o w k (suc n)) (One (suc n) ∷ []) []))
+    ap (λ z. z ++ one_if (o.holds k (suc n)) w (spanned_binding o (One (suc n)))) (ones_are o w k n)
+    ∙ ap (λ z. map (spanned_binding o) (one_trees o w k n) ++ z) (map_cond (spanned_binding o) (here o w k (suc n)) (One (suc n)))
+    ∙ sym (map_append (spanned_binding o) (one_trees o w k n) (cond (here o w k (suc n)) (One (suc n) ∷ []) []))
 
-count_cond : (x y : BindTree) (b : Bool) → count x (cond b (y ∷ []) []) ≡ bit (b && same x y)
+count_cond : (x y : BindTree) (b : Bool) → count x (cond b (y ∷ []) []) ≡ bit (b && is_same_tree x y)
 count_cond x y true = omega arith
 count_cond x y false = refl
 
 count_more : (o : Observed) (w : Bounds) (k n : ℕ) (x : BindTree) →
-    count x (one_trees o w k (suc n)) ≡ count x (one_trees o w k n) + bit (here o w k (suc n) && same x (One (suc n)))
+    count x (one_trees o w k (suc n)) ≡ count x (one_trees o w k n) + bit (here o w k (suc n) && is_same_tree x (One (suc n)))
 count_more o w k n x =
     count_append x (one_trees o w k n) (cond (here o w k (suc n)) (One (suc n) ∷ []) [])
     ∙ ap (λ m. count x (one_trees o w k n) + m) (count_cond x (One (suc n)) (here o w k (suc n)))
@@ -64,7 +64,7 @@ and_yes true = refl
 and_yes false = refl
 
 -- a tree of another kind isn't there
-no_others : (o : Observed) (w : Bounds) (k n : ℕ) (x : BindTree) → ((i : ℕ) → same x (One i) ≡ false) → count x (one_trees o w k n) ≡ 0
+no_others : (o : Observed) (w : Bounds) (k n : ℕ) (x : BindTree) → ((i : ℕ) → is_same_tree x (One i) ≡ false) → count x (one_trees o w k n) ≡ 0
 no_others o w k zero x h = refl
 no_others o w k (suc n) x h =
     count_more o w k n x ∙ (let isnt = h (suc n) in let none = and_no (here o w k (suc n)) in rw (isnt, none) (omega (arith, no_others o w k n x h)))
@@ -95,7 +95,7 @@ inside o w k (suc n) i a b = count_more o w k n (One i) ∙ by_test (λ b. insid
       let none = and_no (here o w k (suc n)) in
       rw (e, none, rest) (omega arith)
 
--- leaves hold only for observations 1 to n
+-- leaves spanned_binding only for observations 1 to n
 pub record Rows (o : Observed) (n : ℕ) : Type 0 where
   pub from : (k i : ℕ) → o.holds k i ≡ true → 0 < i
   pub upto : (k i : ℕ) → o.holds k i ≡ true → i ≤ n
@@ -117,7 +117,7 @@ one_listed o w k n rows i = by_test (o.holds k i) refl where
   by_test true h = inside o w k n i (rows.from k i h) (rows.upto k i h)
   by_test false h = rw (h, outside h n) refl
 
-leaf_found : (o : Observed) (n : ℕ) → Rows o n → (w : Bounds) (k : ℕ) → Exactly (λ x. is_binding o (Leaf k) x && fits w (span_of o x)) (one_trees o w k n)
+leaf_found : (o : Observed) (n : ℕ) → Rows o n → (w : Bounds) (k : ℕ) → Exactly (λ x. is_binding o (Leaf k) x && span_fits w (span_of o x)) (one_trees o w k n)
 leaf_found o n rows w k (One i) = one_listed o w k n rows i
 leaf_found o n rows w k (Pair a b) = no_others o w k n (Pair a b) (λ i. refl)
 leaf_found o n rows w k (First a) = no_others o w k n (First a) (λ i. refl)
@@ -126,33 +126,33 @@ leaf_found o n rows w k Empty = no_others o w k n Empty (λ i. refl)
 leaf_found o n rows w k (Single a) = no_others o w k n (Single a) (λ i. refl)
 leaf_found o n rows w k (More m a) = no_others o w k n (More m a) (λ i. refl)
 
--- ---- joins
+-- ---- span_joins
 
--- each of the trees is joined as mk joins it
+-- each of the trees is joined as mk span_joins it
 abbrev AreMade : Join → (BindTree → BindTree → BindTree) → List BindTree → Type 0
 AreMade j mk [] = Unit {0}
-AreMade j mk (x ∷ xs) = ((b : BindTree) → joined_tree j x b ≡ mk x b) × AreMade j mk xs
+AreMade j mk (x ∷ xs) = ((b : BindTree) → joined_bindings j x b ≡ mk x b) × AreMade j mk xs
 
 record Makes (o : Observed) (mk : BindTree → BindTree → BindTree) : Type 0 where
   makes : (a b : BindTree) → joined_span (span_of o a) (span_of o b) ≡ span_of o (mk a b)
 
-row_is : (o : Observed) (j : Join) (w : Bounds) (mk : BindTree → BindTree → BindTree) → Makes o mk → (x : BindTree) → ((b : BindTree) → joined_tree j x b ≡ mk x b) → (ys : List BindTree) →
-    join_row j w (hold o x) (map (hold o) ys) ≡ map (hold o) (map (mk x) (filter (λ y. may_join j w (hold o x) (hold o y)) ys))
+row_is : (o : Observed) (j : Join) (w : Bounds) (mk : BindTree → BindTree → BindTree) → Makes o mk → (x : BindTree) → ((b : BindTree) → joined_bindings j x b ≡ mk x b) → (ys : List BindTree) →
+    span_join_row j w (spanned_binding o x) (map (spanned_binding o) ys) ≡ map (spanned_binding o) (map (mk x) (filter (λ y. may_join_spans j w (spanned_binding o x) (spanned_binding o y)) ys))
 row_is o j w mk k x made ys =
-    ap (map (joined_spanned j (hold o x))) (filter_map (hold o) (may_join j w (hold o x)) ys)
-    ∙ map_map (hold o) (joined_spanned j (hold o x)) (filter (λ y. may_join j w (hold o x) (hold o y)) ys)
-    ∙ map_agree (λ y. joined_spanned j (hold o x) (hold o y)) (λ y. hold o (mk x y)) each (filter (λ y. may_join j w (hold o x) (hold o y)) ys)
-    ∙ sym (map_map (mk x) (hold o) (filter (λ y. may_join j w (hold o x) (hold o y)) ys)) where
-      each : (y : BindTree) → joined_spanned j (hold o x) (hold o y) ≡ hold o (mk x y)
+    ap (map (joined_spanned j (spanned_binding o x))) (filter_map (spanned_binding o) (may_join_spans j w (spanned_binding o x)) ys)
+    ∙ map_map (spanned_binding o) (joined_spanned j (spanned_binding o x)) (filter (λ y. may_join_spans j w (spanned_binding o x) (spanned_binding o y)) ys)
+    ∙ map_agree (λ y. joined_spanned j (spanned_binding o x) (spanned_binding o y)) (λ y. spanned_binding o (mk x y)) each (filter (λ y. may_join_spans j w (spanned_binding o x) (spanned_binding o y)) ys)
+    ∙ sym (map_map (mk x) (spanned_binding o) (filter (λ y. may_join_spans j w (spanned_binding o x) (spanned_binding o y)) ys)) where
+      each : (y : BindTree) → joined_spanned j (spanned_binding o x) (spanned_binding o y) ≡ spanned_binding o (mk x y)
       each y = let t = made y in let s = k.makes x y in λ i. record { tree = t i; span = s i }
 
 joins_are : (o : Observed) (j : Join) (w : Bounds) (mk : BindTree → BindTree → BindTree) → Makes o mk → (xs ys : List BindTree) → AreMade j mk xs →
-    joins j w (map (hold o) xs) (map (hold o) ys) ≡ map (hold o) (pairs mk (λ a b. may_join j w (hold o a) (hold o b)) xs ys)
+    span_joins j w (map (spanned_binding o) xs) (map (spanned_binding o) ys) ≡ map (spanned_binding o) (pairs mk (λ a b. may_join_spans j w (spanned_binding o a) (spanned_binding o b)) xs ys)
 joins_are o j w mk k [] ys made = refl
 joins_are o j w mk k (x ∷ xs) ys made =
-    ap (λ z. z ++ joins j w (map (hold o) xs) (map (hold o) ys)) (row_is o j w mk k x made.0 ys)
-    ∙ ap (λ z. map (hold o) (map (mk x) (filter (λ y. may_join j w (hold o x) (hold o y)) ys)) ++ z) (joins_are o j w mk k xs ys made.1)
-    ∙ sym (map_append (hold o) (map (mk x) (filter (λ y. may_join j w (hold o x) (hold o y)) ys)) (pairs mk (λ a b. may_join j w (hold o a) (hold o b)) xs ys))
+    ap (λ z. z ++ span_joins j w (map (spanned_binding o) xs) (map (spanned_binding o) ys)) (row_is o j w mk k x made.0 ys)
+    ∙ ap (λ z. map (spanned_binding o) (map (mk x) (filter (λ y. may_join_spans j w (spanned_binding o x) (spanned_binding o y)) ys)) ++ z) (joins_are o j w mk k xs ys made.1)
+    ∙ sym (map_append (spanned_binding o) (map (mk x) (filter (λ y. may_join_spans j w (spanned_binding o x) (spanned_binding o y)) ys)) (pairs mk (λ a b. may_join_spans j w (spanned_binding o a) (spanned_binding o b)) xs ys))
 
 fit_bits : (f g a d x y t : Bool) → (t ≡ true → (x ≡ true) × (y ≡ true)) →
     bit ((a && t) && d) * (bit (f && x) * bit (g && y)) ≡ bit (((f && g) && (a && d)) && t)
@@ -169,18 +169,18 @@ fit_bits f g a d x y true h =
       bits true false a d = omega arith
       bits false g a d = omega arith
 
--- a pair stands there once where both sides do and it fits
+-- a pair stands there once where both sides do and it span_fits
 pair_found : (o : Observed) (j : Join) (w : Bounds) (mk : BindTree → BindTree → BindTree) → Joins mk → (f g : BindTree → Bool) (xs ys : List BindTree) →
-    Exactly (λ x. f x && fits w (span_of o x)) xs → Exactly (λ y. g y && fits w (span_of o y)) ys → (a b : BindTree) →
-    count (mk a b) (pairs mk (λ a b. may_join j w (hold o a) (hold o b)) xs ys)
-    ≡ bit (((f a && g b) && (admits j (span_of o a) (span_of o b) && disjoint a b)) && fits w (joined_span (span_of o a) (span_of o b)))
+    Exactly (λ x. f x && span_fits w (span_of o x)) xs → Exactly (λ y. g y && span_fits w (span_of o y)) ys → (a b : BindTree) →
+    count (mk a b) (pairs mk (λ a b. may_join_spans j w (spanned_binding o a) (spanned_binding o b)) xs ys)
+    ≡ bit (((f a && g b) && (admits j (span_of o a) (span_of o b) && disjoint a b)) && span_fits w (joined_span (span_of o a) (span_of o b)))
 pair_found o j w mk tells f g xs ys hx hy a b =
-    count_pairs mk tells (λ a b. may_join j w (hold o a) (hold o b)) a b xs ys
+    count_pairs mk tells (λ a b. may_join_spans j w (spanned_binding o a) (spanned_binding o b)) a b xs ys
     ∙ (let e = hx a in let e' = hy b in rw (e, e') refl)
-    ∙ fit_bits (f a) (g b) (admits j (span_of o a) (span_of o b)) (disjoint a b) (fits w (span_of o a)) (fits w (span_of o b))
-    (fits w (joined_span (span_of o a) (span_of o b))) (λ h. fits_parts w (span_of o a) (span_of o b) h)
+    ∙ fit_bits (f a) (g b) (admits j (span_of o a) (span_of o b)) (disjoint a b) (span_fits w (span_of o a)) (span_fits w (span_of o b))
+    (span_fits w (joined_span (span_of o a) (span_of o b))) (λ h. fits_parts w (span_of o a) (span_of o b) h)
 
-all_made : (j : Join) (mk : BindTree → BindTree → BindTree) → ((a b : BindTree) → joined_tree j a b ≡ mk a b) → (xs : List BindTree) → AreMade j mk xs
+all_made : (j : Join) (mk : BindTree → BindTree → BindTree) → ((a b : BindTree) → joined_bindings j a b ≡ mk a b) → (xs : List BindTree) → AreMade j mk xs
 all_made j mk h [] = tt
 all_made j mk h (x ∷ xs) = (h x, all_made j mk h xs)
 
@@ -190,13 +190,13 @@ pair_joins = record { tells = λ a b c d. refl }
 pub more_joins : Joins More
 more_joins = record { tells = λ a b c d. refl }
 
-no_pairs : (o : Observed) (j : Join) (w : Bounds) (xs ys : List BindTree) (x : BindTree) → ((a b : BindTree) → same x (Pair a b) ≡ false) →
-    count x (pairs Pair (λ a b. may_join j w (hold o a) (hold o b)) xs ys) ≡ 0
-no_pairs o j w xs ys x h = count_others Pair (λ a b. may_join j w (hold o a) (hold o b)) x h xs ys
+no_pairs : (o : Observed) (j : Join) (w : Bounds) (xs ys : List BindTree) (x : BindTree) → ((a b : BindTree) → is_same_tree x (Pair a b) ≡ false) →
+    count x (pairs Pair (λ a b. may_join_spans j w (spanned_binding o a) (spanned_binding o b)) xs ys) ≡ 0
+no_pairs o j w xs ys x h = count_others Pair (λ a b. may_join_spans j w (spanned_binding o a) (spanned_binding o b)) x h xs ys
 
 both_found : (o : Observed) (w : Bounds) (p q : NumberedPattern) (xs ys : List BindTree) →
-    Exactly (λ x. is_binding o p x && fits w (span_of o x)) xs → Exactly (λ y. is_binding o q y && fits w (span_of o y)) ys →
-    Exactly (λ x. is_binding o (Both p q) x && fits w (span_of o x)) (pairs Pair (λ a b. may_join join.Both w (hold o a) (hold o b)) xs ys)
+    Exactly (λ x. is_binding o p x && span_fits w (span_of o x)) xs → Exactly (λ y. is_binding o q y && span_fits w (span_of o y)) ys →
+    Exactly (λ x. is_binding o (Both p q) x && span_fits w (span_of o x)) (pairs Pair (λ a b. may_join_spans join.Both w (spanned_binding o a) (spanned_binding o b)) xs ys)
 both_found o w p q xs ys hx hy (Pair a b) = pair_found o join.Both w Pair pair_joins (is_binding o p) (is_binding o q) xs ys hx hy a b
 both_found o w p q xs ys hx hy (One i) = no_pairs o join.Both w xs ys (One i) (λ a b. refl)
 both_found o w p q xs ys hx hy (First a) = no_pairs o join.Both w xs ys (First a) (λ a b. refl)
@@ -206,8 +206,8 @@ both_found o w p q xs ys hx hy (Single a) = no_pairs o join.Both w xs ys (Single
 both_found o w p q xs ys hx hy (More m a) = no_pairs o join.Both w xs ys (More m a) (λ a b. refl)
 
 then_found : (o : Observed) (w : Bounds) (p q : NumberedPattern) (xs ys : List BindTree) →
-    Exactly (λ x. is_binding o p x && fits w (span_of o x)) xs → Exactly (λ y. is_binding o q y && fits w (span_of o y)) ys →
-    Exactly (λ x. is_binding o (Then p q) x && fits w (span_of o x)) (pairs Pair (λ a b. may_join join.Then w (hold o a) (hold o b)) xs ys)
+    Exactly (λ x. is_binding o p x && span_fits w (span_of o x)) xs → Exactly (λ y. is_binding o q y && span_fits w (span_of o y)) ys →
+    Exactly (λ x. is_binding o (Then p q) x && span_fits w (span_of o x)) (pairs Pair (λ a b. may_join_spans join.Then w (spanned_binding o a) (spanned_binding o b)) xs ys)
 then_found o w p q xs ys hx hy (Pair a b) = pair_found o join.Then w Pair pair_joins (is_binding o p) (is_binding o q) xs ys hx hy a b
 then_found o w p q xs ys hx hy (One i) = no_pairs o join.Then w xs ys (One i) (λ a b. refl)
 then_found o w p q xs ys hx hy (First a) = no_pairs o join.Then w xs ys (First a) (λ a b. refl)
@@ -216,22 +216,22 @@ then_found o w p q xs ys hx hy Empty = no_pairs o join.Then w xs ys Empty (λ a 
 then_found o w p q xs ys hx hy (Single a) = no_pairs o join.Then w xs ys (Single a) (λ a b. refl)
 then_found o w p q xs ys hx hy (More m a) = no_pairs o join.Then w xs ys (More m a) (λ a b. refl)
 
-joined_found : (o : Observed) (j : Join) (w : Bounds) (us vs : List SpannedTree) (xs ys : List BindTree) → ((a b : BindTree) → joined_tree j a b ≡ Pair a b) →
-    us ≡ map (hold o) xs → vs ≡ map (hold o) ys → joins j w us vs ≡ map (hold o) (pairs Pair (λ a b. may_join j w (hold o a) (hold o b)) xs ys)
+joined_found : (o : Observed) (j : Join) (w : Bounds) (us vs : List SpannedTree) (xs ys : List BindTree) → ((a b : BindTree) → joined_bindings j a b ≡ Pair a b) →
+    us ≡ map (spanned_binding o) xs → vs ≡ map (spanned_binding o) ys → span_joins j w us vs ≡ map (spanned_binding o) (pairs Pair (λ a b. may_join_spans j w (spanned_binding o a) (spanned_binding o b)) xs ys)
 joined_found o j w us vs xs ys made e e' =
-    ap (λ z. joins j w z vs) e ∙ ap (λ z. joins j w (map (hold o) xs) z) e'
+    ap (λ z. span_joins j w z vs) e ∙ ap (λ z. span_joins j w (map (spanned_binding o) xs) z) e'
     ∙ joins_are o j w Pair (record { makes = λ a b. refl }) xs ys (all_made j Pair made xs)
 
 -- ---- the sides of an OR
 
 either_found : (o : Observed) (w : Bounds) (p q : NumberedPattern) (xs ys : List BindTree) →
-    Exactly (λ x. is_binding o p x && fits w (span_of o x)) xs → Exactly (λ y. is_binding o q y && fits w (span_of o y)) ys →
-    Exactly (λ x. is_binding o (Either p q) x && fits w (span_of o x)) (map First xs ++ map Second ys)
+    Exactly (λ x. is_binding o p x && span_fits w (span_of o x)) xs → Exactly (λ y. is_binding o q y && span_fits w (span_of o y)) ys →
+    Exactly (λ x. is_binding o (Either p q) x && span_fits w (span_of o x)) (map First xs ++ map Second ys)
 either_found o w p q xs ys hx hy x = count_append x (map First xs) (map Second ys) ∙ each x where
-  none : (x : BindTree) → ((b : BindTree) → same x (First b) ≡ false) → ((b : BindTree) → same x (Second b) ≡ false) → count x (map First xs) + count x (map Second ys) ≡ 0
+  none : (x : BindTree) → ((b : BindTree) → is_same_tree x (First b) ≡ false) → ((b : BindTree) → is_same_tree x (Second b) ≡ false) → count x (map First xs) + count x (map Second ys) ≡ 0
   none x h k = omega (arith, count_not_under First x h xs, count_not_under Second x k ys)
 
-  each : (x : BindTree) → count x (map First xs) + count x (map Second ys) ≡ bit (is_binding o (Either p q) x && fits w (span_of o x))
+  each : (x : BindTree) → count x (map First xs) + count x (map Second ys) ≡ bit (is_binding o (Either p q) x && span_fits w (span_of o x))
   each (First a) = omega (arith, count_under First (λ a b. refl) a xs, hx a, count_not_under Second (First a) (λ b. refl) ys)
   each (Second a) = omega (arith, count_under Second (λ a b. refl) a ys, hy a, count_not_under First (Second a) (λ b. refl) xs)
   each (One i) = none (One i) (λ b. refl) (λ b. refl)
@@ -240,9 +240,9 @@ either_found o w p q xs ys hx hy x = count_append x (map First xs) (map Second y
   each (Single a) = none (Single a) (λ b. refl) (λ b. refl)
   each (More m a) = none (More m a) (λ b. refl) (λ b. refl)
 
-under_is : (o : Observed) (mk : BindTree → BindTree) → ((x : BindTree) → spanned_with mk (hold o x) ≡ hold o (mk x)) → (xs : List BindTree) →
-    map (spanned_with mk) (map (hold o) xs) ≡ map (hold o) (map mk xs)
-under_is o mk h xs = map_map (hold o) (spanned_with mk) xs ∙ map_agree (λ x. spanned_with mk (hold o x)) (λ x. hold o (mk x)) h xs ∙ sym (map_map mk (hold o) xs)
+under_is : (o : Observed) (mk : BindTree → BindTree) → ((x : BindTree) → spanned_with mk (spanned_binding o x) ≡ spanned_binding o (mk x)) → (xs : List BindTree) →
+    map (spanned_with mk) (map (spanned_binding o) xs) ≡ map (spanned_binding o) (map mk xs)
+under_is o mk h xs = map_map (spanned_binding o) (spanned_with mk) xs ∙ map_agree (λ x. spanned_with mk (spanned_binding o x)) (λ x. spanned_binding o (mk x)) h xs ∙ sym (map_map mk (spanned_binding o) xs)
 
 -- ---- repeats
 
@@ -269,26 +269,26 @@ single_chains (x ∷ xs) = ((λ b. refl), single_chains xs)
 abbrev sets_of : Observed → Bounds → List BindTree → ℕ → List BindTree
 sets_of o w parts zero = []
 sets_of o w parts (suc zero) = map Single parts
-sets_of o w parts (suc (suc n)) = pairs More (λ a b. may_join join.Repeats w (hold o a) (hold o b)) (sets_of o w parts (suc n)) parts
+sets_of o w parts (suc (suc n)) = pairs More (λ a b. may_join_spans join.Repeats w (spanned_binding o a) (spanned_binding o b)) (sets_of o w parts (suc n)) parts
 
 sets_chains : (o : Observed) (w : Bounds) (parts : List BindTree) (n : ℕ) → AreChains (sets_of o w parts n)
 sets_chains o w parts zero = tt
 sets_chains o w parts (suc zero) = single_chains parts
-sets_chains o w parts (suc (suc n)) = pairs_chains (λ a b. may_join join.Repeats w (hold o a) (hold o b)) (sets_of o w parts (suc n)) parts
+sets_chains o w parts (suc (suc n)) = pairs_chains (λ a b. may_join_spans join.Repeats w (spanned_binding o a) (spanned_binding o b)) (sets_of o w parts (suc n)) parts
 
-repeats_are : (o : Observed) (w : Bounds) (parts : List BindTree) (n : ℕ) → repeats_of w (map (hold o) parts) n ≡ map (hold o) (sets_of o w parts n)
+repeats_are : (o : Observed) (w : Bounds) (parts : List BindTree) (n : ℕ) → repeats_of w (map (spanned_binding o) parts) n ≡ map (spanned_binding o) (sets_of o w parts n)
 repeats_are o w parts zero = refl
 repeats_are o w parts (suc zero) = under_is o Single (λ x. refl) parts
 repeats_are o w parts (suc (suc n)) =
-    ap (λ z. joins join.Repeats w z (map (hold o) parts)) (repeats_are o w parts (suc n))
+    ap (λ z. span_joins join.Repeats w z (map (spanned_binding o) parts)) (repeats_are o w parts (suc n))
     ∙ joins_are o join.Repeats w More (record { makes = λ a b. refl }) (sets_of o w parts (suc n)) parts (sets_chains o w parts (suc n))
 
-no_more : (o : Observed) (w : Bounds) (xs ys : List BindTree) (x : BindTree) → ((a b : BindTree) → same x (More a b) ≡ false) →
-    count x (pairs More (λ a b. may_join join.Repeats w (hold o a) (hold o b)) xs ys) ≡ 0
-no_more o w xs ys x h = count_others More (λ a b. may_join join.Repeats w (hold o a) (hold o b)) x h xs ys
+no_more : (o : Observed) (w : Bounds) (xs ys : List BindTree) (x : BindTree) → ((a b : BindTree) → is_same_tree x (More a b) ≡ false) →
+    count x (pairs More (λ a b. may_join_spans join.Repeats w (spanned_binding o a) (spanned_binding o b)) xs ys) ≡ 0
+no_more o w xs ys x h = count_others More (λ a b. may_join_spans join.Repeats w (spanned_binding o a) (spanned_binding o b)) x h xs ys
 
-sets_found : (o : Observed) (w : Bounds) (f : BindTree → Bool) (parts : List BindTree) → Exactly (λ x. f x && fits w (span_of o x)) parts → (n : ℕ) →
-    Exactly (λ x. are_repeats f n x && fits w (span_of o x)) (sets_of o w parts n)
+sets_found : (o : Observed) (w : Bounds) (f : BindTree → Bool) (parts : List BindTree) → Exactly (λ x. f x && span_fits w (span_of o x)) parts → (n : ℕ) →
+    Exactly (λ x. are_repeats f n x && span_fits w (span_of o x)) (sets_of o w parts n)
 sets_found o w f parts h zero x = refl
 sets_found o w f parts h (suc zero) (Single a) = count_under Single (λ a b. refl) a parts ∙ h a
 sets_found o w f parts h (suc zero) (One i) = count_not_under Single (One i) (λ b. refl) parts
@@ -316,13 +316,13 @@ pub all_found : (o : Observed) (n : ℕ) → Rows o n → (w : Bounds) (p : Numb
 all_found o n rows w (Leaf k) = (one_trees o w k n, ones_are o w k n, leaf_found o n rows w k)
 all_found o n rows w (Both p q) =
     let left = all_found o n rows w p in let right = all_found o n rows w q in (
-      pairs Pair (λ a b. may_join join.Both w (hold o a) (hold o b)) left.0 right.0,
+      pairs Pair (λ a b. may_join_spans join.Both w (spanned_binding o a) (spanned_binding o b)) left.0 right.0,
       joined_found o join.Both w (candidates o n w p) (candidates o n w q) left.0 right.0 (λ a b. refl) left.1 right.1,
       both_found o w p q left.0 right.0 left.2 right.2,
     )
 all_found o n rows w (Then p q) =
     let left = all_found o n rows w p in let right = all_found o n rows w q in (
-      pairs Pair (λ a b. may_join join.Then w (hold o a) (hold o b)) left.0 right.0,
+      pairs Pair (λ a b. may_join_spans join.Then w (spanned_binding o a) (spanned_binding o b)) left.0 right.0,
       joined_found o join.Then w (candidates o n w p) (candidates o n w q) left.0 right.0 (λ a b. refl) left.1 right.1,
       then_found o w p q left.0 right.0 left.2 right.2,
     )
@@ -330,26 +330,26 @@ all_found o n rows w (Either p q) =
     let left = all_found o n rows w p in let right = all_found o n rows w q in (
       map First left.0 ++ map Second right.0,
       ap (λ z. map (spanned_with First) z ++ map (spanned_with Second) (candidates o n w q)) left.1
-          ∙ ap (λ z. map (spanned_with First) (map (hold o) left.0) ++ map (spanned_with Second) z) right.1
-          ∙ ap (λ z. z ++ map (spanned_with Second) (map (hold o) right.0)) (under_is o First (λ x. refl) left.0)
-          ∙ ap (λ z. map (hold o) (map First left.0) ++ z) (under_is o Second (λ x. refl) right.0)
-          ∙ sym (map_append (hold o) (map First left.0) (map Second right.0)),
+          ∙ ap (λ z. map (spanned_with First) (map (spanned_binding o) left.0) ++ map (spanned_with Second) z) right.1
+          ∙ ap (λ z. z ++ map (spanned_with Second) (map (spanned_binding o) right.0)) (under_is o First (λ x. refl) left.0)
+          ∙ ap (λ z. map (spanned_binding o) (map First left.0) ++ z) (under_is o Second (λ x. refl) right.0)
+          ∙ sym (map_append (spanned_binding o) (map First left.0) (map Second right.0)),
       either_found o w p q left.0 right.0 left.2 right.2,
     )
 all_found o n rows w (Within p x) =
     let part = all_found o n rows (within w x) p in (
       part.0,
       part.1,
-      exactly_same (λ y. is_binding o p y && fits (within w x) (span_of o y)) (λ y. is_binding o (Within p x) y && fits w (span_of o y)) part.0
-          (λ y. ap (λ z. is_binding o p y && z) (fits_within w x (span_of o y)) ∙ and_and (is_binding o p y) (lies_within x (span_of o y)) (fits w (span_of o y))) part.2,
+      exactly_same (λ y. is_binding o p y && span_fits (within w x) (span_of o y)) (λ y. is_binding o (Within p x) y && span_fits w (span_of o y)) part.0
+          (λ y. ap (λ z. is_binding o p y && z) (fits_within w x (span_of o y)) ∙ and_and (is_binding o p y) (lies_within x (span_of o y)) (span_fits w (span_of o y))) part.2,
     )
 all_found o n rows w (Between p start stop) =
     let part = all_found o n rows (between w start stop) p in (
       part.0,
       part.1,
-      exactly_same (λ y. is_binding o p y && fits (between w start stop) (span_of o y)) (λ y. is_binding o (Between p start stop) y && fits w (span_of o y)) part.0
+      exactly_same (λ y. is_binding o p y && span_fits (between w start stop) (span_of o y)) (λ y. is_binding o (Between p start stop) y && span_fits w (span_of o y)) part.0
           (λ y. ap (λ z. is_binding o p y && z) (fits_between w start stop (span_of o y))
-          ∙ and_and (is_binding o p y) (lies_between start stop (span_of o y)) (fits w (span_of o y))) part.2,
+          ∙ and_and (is_binding o p y) (lies_between start stop (span_of o y)) (span_fits w (span_of o y))) part.2,
     )
 all_found o n rows w (Repeats p j) =
     let part = all_found o n rows w p in (

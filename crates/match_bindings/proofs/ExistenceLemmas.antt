@@ -7,15 +7,15 @@ use Rattle.match_bindings.specs.BindTree.{BindTree}
 use Rattle.match_bindings.specs.Log.{Observed, observed_in}
 use Rattle.match_bindings.specs.Bounds.{no_bounds}
 use Rattle.match_bindings.specs.Test.{is_binding}
-use Rattle.match_bindings.specs.Once.{bit, same, count, Exactly}
+use Rattle.match_bindings.specs.Once.{bit, is_same_tree, count, Exactly}
 use Rattle.match_bindings.specs.Flat.{comes_before}
 use Rattle.match_bindings.specs.Listing.{IsListing}
-use Rattle.match_bindings.specs.inner.Candidates.{hold, trees_of, span_of, fits, candidates}
+use Rattle.match_bindings.specs.inner.Candidates.{spanned_binding, trees_of, span_of, span_fits, candidates}
 use Rattle.match_bindings.proofs.CandidatesLemmas.{exactly_same, all_found}
 use Rattle.match_bindings.proofs.LongerLogLemmas.{rows_of}
 use Rattle.match_bindings.proofs.FlatLemmas.{before_trans, never_before_itself, Sorted, once_each, ascends_from, exactly_listed}
 
-trees_held : (o : Observed) (xs : List BindTree) → trees_of (map (hold o) xs) ≡ xs
+trees_held : (o : Observed) (xs : List BindTree) → trees_of (map (spanned_binding o) xs) ≡ xs
 trees_held o [] = refl
 trees_held o (x ∷ xs) = ap (λ ys. x ∷ ys) (trees_held o xs)
 
@@ -29,7 +29,7 @@ all_bindings log p =
     let o = observed_in log in
     let all = all_found o (length log) (rows_of log) no_bounds p in
     subst (λ (xs : List BindTree). Exactly (is_binding o p) xs) (sym (ap trees_of all.1 ∙ trees_held o all.0))
-    (exactly_same (λ x. is_binding o p x && fits no_bounds (span_of o x)) (is_binding o p) all.0 (λ x. and_yes (is_binding o p x)) all.2)
+    (exactly_same (λ x. is_binding o p x && span_fits no_bounds (span_of o x)) (is_binding o p) all.0 (λ x. and_yes (is_binding o p x)) all.2)
 
 -- ---- sorting
 
@@ -42,17 +42,17 @@ abbrev sorted : List BindTree → List BindTree
 sorted [] = []
 sorted (x ∷ xs) = put x (sorted xs)
 
-put_count : (z x : BindTree) (ys : List BindTree) → count z (put x ys) ≡ bit (same z x) + count z ys
+put_count : (z x : BindTree) (ys : List BindTree) → count z (put x ys) ≡ bit (is_same_tree z x) + count z ys
 put_count z x [] = refl
 put_count z x (y ∷ ys) = by (comes_before y x) (put_count z x ys) where
-  by : (b : Bool) → count z (put x ys) ≡ bit (same z x) + count z ys →
-      count z (cond b (y ∷ put x ys) (x ∷ y ∷ ys)) ≡ bit (same z x) + (bit (same z y) + count z ys)
+  by : (b : Bool) → count z (put x ys) ≡ bit (is_same_tree z x) + count z ys →
+      count z (cond b (y ∷ put x ys) (x ∷ y ∷ ys)) ≡ bit (is_same_tree z x) + (bit (is_same_tree z y) + count z ys)
   by true ih = omega (arith, ih)
   by false ih = refl
 
 sorted_count : (z : BindTree) (xs : List BindTree) → count z (sorted xs) ≡ count z xs
 sorted_count z [] = refl
-sorted_count z (x ∷ xs) = put_count z x (sorted xs) ∙ ap (λ n. bit (same z x) + n) (sorted_count z xs)
+sorted_count z (x ∷ xs) = put_count z x (sorted xs) ∙ ap (λ n. bit (is_same_tree z x) + n) (sorted_count z xs)
 
 one_way : (x y : BindTree) → comes_before y x ≡ true → comes_before x y ≡ false
 one_way x y h = by (comes_before x y) refl where

@@ -13,7 +13,7 @@ use Rattle.match_bindings.specs.BindTree.{BindTree, One, Pair, First, Second, Si
 use Rattle.match_bindings.specs.Log.{Observed}
 use Rattle.match_bindings.specs.Binding.{AreRepeats, IsBinding}
 use Rattle.match_bindings.specs.Test.{is_binding}
-use Rattle.match_bindings.specs.Once.{bit, same, count, Exactly}
+use Rattle.match_bindings.specs.Once.{bit, is_same_tree, count, Exactly}
 use Rattle.match_bindings.specs.Flat.{flat, rank, comes_before, Ascends}
 use Rattle.match_bindings.specs.Listing.{IsListing}
 use Rattle.match_bindings.proofs.OnceLemmas.{same_is, same_self}
@@ -115,11 +115,11 @@ never_before_itself x = ap is_lt (tied_itself nat_list_cmp_total (rank x))
 -- the first of an ascending list comes before each other one
 pub first_before : (x : BindTree) (xs : List BindTree) → Ascends (x ∷ xs) → (y : BindTree) → 0 < count y xs → comes_before x y ≡ true
 first_before x [] ascends y h = absurd (omega arith)
-first_before x (z ∷ zs) ascends y h = by_test (same y z) refl (λ k. first_before z zs ascends.1 y k) where
-  by_test : (b : Bool) → same y z ≡ b → (0 < count y zs → comes_before z y ≡ true) → comes_before x y ≡ true
+first_before x (z ∷ zs) ascends y h = by_test (is_same_tree y z) refl (λ k. first_before z zs ascends.1 y k) where
+  by_test : (b : Bool) → is_same_tree y z ≡ b → (0 < count y zs → comes_before z y ≡ true) → comes_before x y ≡ true
   by_test true e ih = let one : y ≡ z = same_is y z e in ap (comes_before x) one ∙ ascends.0
   by_test false e ih =
-      let h' : 0 < bit (same y z) + count y zs = h in
+      let h' : 0 < bit (is_same_tree y z) + count y zs = h in
       let h'' : 0 < bit false + count y zs = rw e at h' in
       before_trans x z y ascends.0 (ih (omega arith))
 
@@ -127,34 +127,34 @@ pub tail_ascends : (x : BindTree) (xs : List BindTree) → Ascends (x ∷ xs) �
 tail_ascends x [] ascends = tt
 tail_ascends x (y ∷ xs) ascends = ascends.1
 
--- ascending lists with the same counts are one
+-- ascending lists with the is_same_tree counts are one
 same_lists : (xs ys : List BindTree) → Ascends xs → Ascends ys → ((x : BindTree) → count x xs ≡ count x ys) → xs ≡ ys
 same_lists [] [] hx hy h = refl
 same_lists [] (y ∷ ys) hx hy h =
-    let e : 0 ≡ bit (same y y) + count y ys = h y in
+    let e : 0 ≡ bit (is_same_tree y y) + count y ys = h y in
     let e' : 0 ≡ 1 + count y ys = rw (same_self y) at e in
     absurd (omega arith)
 same_lists (x ∷ xs) [] hx hy h =
-    let e : bit (same x x) + count x xs ≡ 0 = h x in
+    let e : bit (is_same_tree x x) + count x xs ≡ 0 = h x in
     let e' : 1 + count x xs ≡ 0 = rw (same_self x) at e in
     absurd (omega arith)
-same_lists (x ∷ xs) (y ∷ ys) hx hy h = by_test (same x y) (same y x) refl refl (λ k. same_lists xs ys (tail_ascends x xs hx) (tail_ascends y ys hy) k) where
-  by_test : (s t : Bool) → same x y ≡ s → same y x ≡ t → (((z : BindTree) → count z xs ≡ count z ys) → xs ≡ ys) → (x ∷ xs) ≡ (y ∷ ys)
+same_lists (x ∷ xs) (y ∷ ys) hx hy h = by_test (is_same_tree x y) (is_same_tree y x) refl refl (λ k. same_lists xs ys (tail_ascends x xs hx) (tail_ascends y ys hy) k) where
+  by_test : (s t : Bool) → is_same_tree x y ≡ s → is_same_tree y x ≡ t → (((z : BindTree) → count z xs ≡ count z ys) → xs ≡ ys) → (x ∷ xs) ≡ (y ∷ ys)
   by_test true t e f ih =
       let one : x ≡ y = same_is x y e in
       let rest : xs ≡ ys = ih (λ z.
-      let k : bit (same z x) + count z xs ≡ bit (same z y) + count z ys = h z in
-      let b : bit (same z x) ≡ bit (same z y) = ap (λ w. bit (same z w)) one in
+      let k : bit (is_same_tree z x) + count z xs ≡ bit (is_same_tree z y) + count z ys = h z in
+      let b : bit (is_same_tree z x) ≡ bit (is_same_tree z y) = ap (λ w. bit (is_same_tree z w)) one in
       omega arith) in
       cc
   by_test false true e f ih =
       let one : y ≡ x = same_is y x f in
-      let twice : same x y ≡ true = ap (same x) one ∙ same_self x in
+      let twice : is_same_tree x y ≡ true = ap (is_same_tree x) one ∙ same_self x in
       absurd (cc)
   by_test false false e f ih =
-      let k : bit (same x x) + count x xs ≡ bit (same x y) + count x ys = h x in
+      let k : bit (is_same_tree x x) + count x xs ≡ bit (is_same_tree x y) + count x ys = h x in
       let k1 : 1 + count x xs ≡ bit false + count x ys = rw (same_self x, e) at k in
-      let l : bit (same y x) + count y xs ≡ bit (same y y) + count y ys = h y in
+      let l : bit (is_same_tree y x) + count y xs ≡ bit (is_same_tree y y) + count y ys = h y in
       let l1 : bit false + count y xs ≡ 1 + count y ys = rw (same_self y, f) at l in
       let k2 : 1 + count x xs ≡ 0 + count x ys = k1 in
       let l2 : 0 + count y xs ≡ 1 + count y ys = l1 in
@@ -191,11 +191,11 @@ bit_some false h = absurd (omega arith)
 pub once_each : (f : BindTree → Bool) (xs : List BindTree) → ((x : BindTree) → count x xs ≤ bit (f x)) → Once f xs
 once_each f [] h = tt
 once_each f (x ∷ xs) h =
-    let me : same x x ≡ true = same_self x in
-    let here : bit (same x x) + count x xs ≤ bit (f x) = h x in
+    let me : is_same_tree x x ≡ true = same_self x in
+    let here : bit (is_same_tree x x) + count x xs ≤ bit (f x) = h x in
     let here' : 1 + count x xs ≤ bit (f x) = rw me at here in
     let most = bit_most (f x) in
-    (bit_some (f x) (omega arith), omega arith, once_each f xs (λ y. let there : bit (same y x) + count y xs ≤ bit (f y) = h y in omega arith))
+    (bit_some (f x) (omega arith), omega arith, once_each f xs (λ y. let there : bit (is_same_tree y x) + count y xs ≤ bit (f y) = h y in omega arith))
 
 abbrev pub Sorted : List BindTree → Type 0
 Sorted [] = Unit {0}
@@ -224,8 +224,8 @@ ascends_from o p (x ∷ y ∷ xs) once up = (by_test (comes_before x y) refl, as
   by_test false e =
       let level : rank x ≡ rank y = level_lists (rank x) (rank y) e up.0 in
       let one : x ≡ y = flats_tell o p x y (binding_to o p x once.0) (binding_to o p y once.2.0) (same_rank x y level) in
-      let twice : same x y ≡ true = ap (same x) (sym one) ∙ same_self x in
-      let none : bit (same x y) + count x xs ≡ 0 = once.1 in
+      let twice : is_same_tree x y ≡ true = ap (is_same_tree x) (sym one) ∙ same_self x in
+      let none : bit (is_same_tree x y) + count x xs ≡ 0 = once.1 in
       let none' : 1 + count x xs ≡ 0 = rw twice at none in
       absurd (omega arith)
 

@@ -4,7 +4,7 @@ use Rattle.std.specs.Prelude.{true, slice_get}
 use Rattle.match_bindings.specs.declared.log_entry.LogEntry.{LogEntry}
 use Rattle.match_bindings.specs.NumberedPattern.{NumberedPattern, Leaf, Both, Then, Either, Within, Between, Repeats}
 use Rattle.match_bindings.specs.BindTree.{BindTree, One, Pair, First, Second, Single, More}
-use Rattle.match_bindings.specs.Log.{numbered, first_time, last_time, truth, Observed, observed_in}
+use Rattle.match_bindings.specs.Log.{numbered_row, first_time, last_time, truth, Observed, observed_in}
 use Rattle.match_bindings.specs.Span.{earliest, latest, later_by}
 use Rattle.match_bindings.specs.Binding.{AreRepeats, IsBinding}
 use Rattle.match_bindings.proofs.CandidatesLemmas.{Rows}
@@ -17,11 +17,11 @@ inside (r ∷ log) k (suc i) h = let deeper : i < length log = inside log k i h 
 -- leaves hold only for the observations of the log
 pub rows_of : (log : List LogEntry) → Rows (observed_in log) (length log)
 rows_of log = record { from = from; upto = upto } where
-  from : (k i : ℕ) → truth (numbered log i) k ≡ true → 0 < i
+  from : (k i : ℕ) → truth (numbered_row log i) k ≡ true → 0 < i
   from k zero h = absurd (cc)
   from k (suc i) h = omega arith
 
-  upto : (k i : ℕ) → truth (numbered log i) k ≡ true → i ≤ length log
+  upto : (k i : ℕ) → truth (numbered_row log i) k ≡ true → i ≤ length log
   upto k zero h = absurd (cc)
   upto k (suc i) h = let at : i < length log = inside log k i h in omega arith
 
@@ -30,7 +30,7 @@ get_stays [] more i h = absurd (omega arith)
 get_stays (r ∷ log) more zero h = refl
 get_stays (r ∷ log) more (suc i) h = get_stays log more i (omega arith)
 
-row_stays : (log more : List LogEntry) (k i : ℕ) → truth (numbered log i) k ≡ true → numbered (log ++ more) i ≡ numbered log i
+row_stays : (log more : List LogEntry) (k i : ℕ) → truth (numbered_row log i) k ≡ true → numbered_row (log ++ more) i ≡ numbered_row log i
 row_stays log more k zero h = absurd (cc)
 row_stays log more k (suc i) h = get_stays log more i (inside log k i h)
 

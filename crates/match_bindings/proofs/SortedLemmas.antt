@@ -7,17 +7,17 @@ use Rattle.std.proofs.lemmas.List.{get_or-map, length-map}
 use Rattle.std.proofs.lemmas.List.Sorted.{sum_by-IsPermutation}
 use Rattle.std.proofs.lemmas.List.Sums.{sum_by-cons}
 use Rattle.match_bindings.specs.BindTree.{BindTree}
-use Rattle.match_bindings.specs.Once.{count, bit, same}
+use Rattle.match_bindings.specs.Once.{count, bit, is_same_tree}
 
-count_is_sum : (x : BindTree) (xs : List BindTree) → count x xs ≡ sum_by (λ y. bit (same x y)) xs
+count_is_sum : (x : BindTree) (xs : List BindTree) → count x xs ≡ sum_by (λ y. bit (is_same_tree x y)) xs
 count_is_sum x [] = refl
-count_is_sum x (y ∷ xs) = ap (λ n. bit (same x y) + n) (count_is_sum x xs) ∙ sym (sum_by-cons (λ y. bit (same x y)) y xs)
+count_is_sum x (y ∷ xs) = ap (λ n. bit (is_same_tree x y) + n) (count_is_sum x xs) ∙ sym (sum_by-cons (λ y. bit (is_same_tree x y)) y xs)
 
--- a list in another order has the same counts
+-- a list in another order has the is_same_tree counts
 pub count_permuted : (x : BindTree) (xs ys : List BindTree) → IsPermutation xs ys → count x ys ≡ count x xs
-count_permuted x xs ys h = count_is_sum x ys ∙ sum_by-IsPermutation (λ y. bit (same x y)) xs ys h ∙ sym (count_is_sum x xs)
+count_permuted x xs ys h = count_is_sum x ys ∙ sum_by-IsPermutation (λ y. bit (is_same_tree x y)) xs ys h ∙ sym (count_is_sum x xs)
 
--- what is sorted by a test is sorted by the same test of what f gives
+-- what is sorted by a test is sorted by the is_same_tree test of what f gives
 pub sorted_map : {X Y : Type 0} (f : X → Y) (lt : X → X → Bool) (lt' : Y → Y → Bool) → ((a b : X) → lt' (f a) (f b) ≡ lt a b) →
     (xs : List X) → IsSortedBy lt xs → IsSortedBy lt' (map f xs)
 sorted_map f lt lt' h [] up k d low high = absurd (omega arith)

@@ -14,10 +14,10 @@ IsInOrder [] = ⊤
 IsInOrder (row ∷ []) = row.first ≤ℤ row.last
 IsInOrder (row ∷ next ∷ rows) = (row.first ≤ℤ row.last) × (row.last ≤ℤ next.last) × IsInOrder (next ∷ rows)
 
--- the row of a number; rows are numbered from 1
-abbrev pub numbered : List LogEntry → ℕ → Option LogEntry
-numbered log zero = None
-numbered log (suc i) = slice_get log i
+-- the row of a number; rows are numbered_row from 1
+abbrev pub numbered_row : List LogEntry → ℕ → Option LogEntry
+numbered_row log zero = None
+numbered_row log (suc i) = slice_get log i
 
 abbrev pub first_time : Option LogEntry → ℤ
 first_time None = pos 0
@@ -41,7 +41,7 @@ pub record Observed : Type 0 where
 
 abbrev pub observed_in : List LogEntry → Observed
 observed_in log = record {
-  first = λ i. first_time (numbered log i);
-  last = λ i. last_time (numbered log i);
-  holds = λ k i. truth (numbered log i) k;
+  first = λ i. first_time (numbered_row log i);
+  last = λ i. last_time (numbered_row log i);
+  holds = λ k i. truth (numbered_row log i) k;
 }

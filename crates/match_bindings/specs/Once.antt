@@ -7,19 +7,19 @@ bit true = 1
 bit false = 0
 
 -- whether two trees are equal
-abbrev pub same : BindTree → BindTree → Bool
-same (One m) (One n) = nat_eq m n
-same (Pair a b) (Pair c d) = same a c && same b d
-same (First a) (First b) = same a b
-same (Second a) (Second b) = same a b
-same Empty Empty = true
-same (Single a) (Single b) = same a b
-same (More m a) (More n b) = same m n && same a b
-same _ _ = false
+abbrev pub is_same_tree : BindTree → BindTree → Bool
+is_same_tree (One m) (One n) = nat_eq m n
+is_same_tree (Pair a b) (Pair c d) = is_same_tree a c && is_same_tree b d
+is_same_tree (First a) (First b) = is_same_tree a b
+is_same_tree (Second a) (Second b) = is_same_tree a b
+is_same_tree Empty Empty = true
+is_same_tree (Single a) (Single b) = is_same_tree a b
+is_same_tree (More m a) (More n b) = is_same_tree m n && is_same_tree a b
+is_same_tree _ _ = false
 
 abbrev pub count : BindTree → List BindTree → ℕ
 count x [] = 0
-count x (y ∷ ys) = bit (same x y) + count x ys
+count x (y ∷ ys) = bit (is_same_tree x y) + count x ys
 
 -- each tree that passes occurs in the list once, and no other
 abbrev pub Exactly : (BindTree → Bool) → List BindTree → Type 0

@@ -1,6 +1,6 @@
 ghost use Rattle.std.specs.Prelude.{◌≡◌};
 ghost use Rattle.match_bindings.specs.Bounds.{no_bounds, within, between};
-ghost use Rattle.match_bindings.specs.inner.Candidates.{fits};
+ghost use Rattle.match_bindings.specs.inner.Candidates.{span_fits};
 
 use crate::span::Span;
 use stix_times::Instant;
@@ -30,7 +30,7 @@ impl Bounds {
 
     /// Whether a span respects all limits.
     pub(crate) fn fits(&self, span: &Span) -> bool
-        ensures { result ≡ fits self.now span.now }
+        ensures { result ≡ span_fits self.now span.now }
     {
         let in_seconds = match self.seconds {
             Some(seconds) => span.is_within(seconds),

@@ -6,7 +6,8 @@ ghost use Rattle.pattern_types.specs.Leaves.{leaves};
 ghost use Rattle.match_bindings.specs.NumberedPattern.{numbered_from};
 ghost use Rattle.match_bindings.specs.BindTree.{First, Second, Single};
 ghost use Rattle.match_bindings.specs.Log.{observed_in};
-ghost use Rattle.match_bindings.specs.inner.Candidates.{spanned_trees, spanned_with, ones, joins};
+ghost use Rattle.match_bindings.specs.inner.Candidates.{spanned_trees, spanned_with, ones};
+ghost use Rattle.match_bindings.specs.inner.Candidates.{span_joins};
 ghost use Rattle.match_bindings.specs.inner.Candidates.{repeats_of, candidates};
 
 use crate::bounds::Bounds;
@@ -68,7 +69,7 @@ fn joined_sides(
 ) -> Result<Vec<SpannedBind>, NoMemory>
     requires { leaf + (leaves left.now + leaves right.now) < 2 ^ 32 }
     ensures { IfOk result (λ out. spanned_trees out.items
-        ≡ joins join bounds.now (candidates (observed_in log.now) (length log.now) bounds.now
+        ≡ span_joins join bounds.now (candidates (observed_in log.now) (length log.now) bounds.now
         (numbered_from leaf left.now))
         (candidates (observed_in log.now) (length log.now) bounds.now
         (numbered_from (leaf + leaves left.now) right.now))) }

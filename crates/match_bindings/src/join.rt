@@ -2,8 +2,10 @@
 
 ghost use Rattle.std.specs.Prelude.{◌≡◌, ◌++◌, IfOk, OnOk, map};
 ghost use Rattle.match_bindings.specs.BindTree.{Pair, Single, tree_of, many_of, add_part};
-ghost use Rattle.match_bindings.specs.inner.Candidates.{spanned_tree, spanned_trees, joined_tree};
-ghost use Rattle.match_bindings.specs.inner.Candidates.{admits, may_join, join_row, joins};
+ghost use Rattle.match_bindings.specs.inner.Candidates.{spanned_tree, spanned_trees};
+ghost use Rattle.match_bindings.specs.inner.Candidates.{joined_bindings};
+ghost use Rattle.match_bindings.specs.inner.Candidates.{admits, may_join_spans, span_join_row};
+ghost use Rattle.match_bindings.specs.inner.Candidates.{span_joins};
 ghost use Rattle.match_bindings.specs.inner.Kinds.{chain_of};
 
 use crate::Bind;
@@ -41,7 +43,7 @@ impl Join {
     /// The joined binding.
     fn bind(self, alloc: Global, first: &Bind, second: &Bind) -> Result<Bind, NoMemory>
         ensures { IfOk result (λ bind. tree_of bind
-            ≡ joined_tree self (tree_of first.now) (tree_of second.now)) }
+            ≡ joined_bindings self (tree_of first.now) (tree_of second.now)) }
     {
         match self {
             Join::Both | Join::Then => with_sides(alloc, first, second),
@@ -51,7 +53,7 @@ impl Join {
 
     /// Whether two bindings join within the limits.
     fn may_join(self, bounds: &Bounds, first: &SpannedBind, second: &SpannedBind) -> bool
-        ensures { result ≡ may_join self bounds.now (spanned_tree first.now)
+        ensures { result ≡ may_join_spans self bounds.now (spanned_tree first.now)
             (spanned_tree second.now) }
     {
         self.admits(&first.span, &second.span)
@@ -69,7 +71,7 @@ impl Join {
         out: &mut Vec<SpannedBind>,
     ) -> Result<(), NoMemory>
         ensures { OnOk result (spanned_trees out.new.items ≡ spanned_trees out.old.items
-            ++ join_row self bounds.now (spanned_tree first.now) (spanned_trees seconds.now)) }
+            ++ span_join_row self bounds.now (spanned_tree first.now) (spanned_trees seconds.now)) }
     {
         for second in seconds {
             if self.may_join(bounds, first, second) {
@@ -91,7 +93,7 @@ impl Join {
         seconds: &[SpannedBind],
     ) -> Result<Vec<SpannedBind>, NoMemory>
         ensures { IfOk result (λ out. spanned_trees out.items
-            ≡ joins self bounds.now (spanned_trees firsts.now) (spanned_trees seconds.now)) }
+            ≡ span_joins self bounds.now (spanned_trees firsts.now) (spanned_trees seconds.now)) }
     {
         let mut out = Vec::new(alloc);
         for first in firsts {

@@ -7,7 +7,7 @@ use Rattle.std.proofs.lemmas.Str.{chars-nil, chars-append, chars_past_char, enco
 use Rattle.std.proofs.lemmas.List.Prefix.{front_rest}
 use Rattle.std.proofs.lemmas.Bool.Decides.{eqb_tells}
 use Rattle.match_comparisons.specs.Like.{any_run, any_one, IsLike}
-use Rattle.match_comparisons.specs.inner.Segments.{Lacks, OccursAfter}
+use Rattle.match_comparisons.specs.inner.Segments.{LacksCharacter, OccursAfter}
 use Rattle.match_comparisons.proofs.IsLikeLemmas.{like_first, run_splits, like_splits}
 use Rattle.match_comparisons.proofs.SegmentsLemmas.{lacks_head, lacks_tail}
 
@@ -45,23 +45,23 @@ bytes_around bs front back c small utf8 split =
     let one : encode_utf8_all (c ∷ back) ≡ c ∷ encode_utf8_all back = ap (λ own. own ++ encode_utf8_all back) (encode_ascii c small) in
     sym (encodes-chars bs utf8) ∙ ap encode_utf8_all split ∙ encodes-append front (c ∷ back) ∙ ap (λ end. encode_utf8_all front ++ end) one
 
-pub lacks_chars : (bs : List ℕ) (c : ℕ) → c < 128 → IsUtf8 bs → Lacks bs c → Lacks (chars bs) c
+pub lacks_chars : (bs : List ℕ) (c : ℕ) → c < 128 → IsUtf8 bs → LacksCharacter bs c → LacksCharacter (chars bs) c
 lacks_chars bs c small utf8 lacks front back split =
     lacks (encode_utf8_all front) (encode_utf8_all back) (bytes_around bs front back c small utf8 split)
 
-pub lacks_within : (bs : List ℕ) (most : ℕ) → IsUtf8 bs → OccursAfter bs any_run most → length bs ≤ most → Lacks (chars bs) any_run
+pub lacks_within : (bs : List ℕ) (most : ℕ) → IsUtf8 bs → OccursAfter bs any_run most → length bs ≤ most → LacksCharacter (chars bs) any_run
 lacks_within bs most utf8 behind within =
     lacks_chars bs any_run (omega arith) utf8 (λ front back split. omega (arith, behind front back split, within, ap length split, length-append front (any_run ∷ back)))
 
 -- one that a search for it finds nowhere
-pub lacks_where_not_found : (bs : List ℕ) (c : ℕ) (found : Bool) → ((k : ℕ) → k < length bs → get_or bs k 0 ≡ c → found ≡ true) → found ≡ false → Lacks bs c
+pub lacks_where_not_found : (bs : List ℕ) (c : ℕ) (found : Bool) → ((k : ℕ) → k < length bs → get_or bs k 0 ≡ c → found ≡ true) → found ≡ false → LacksCharacter bs c
 lacks_where_not_found bs c found finds none front back split =
     let inside : length front < length bs = omega (arith, ap length split, length-append front (c ∷ back)) in
     let yes = finds (length front) inside (rw split (get_or-append_seam front c back 0)) in
     cc (yes, none)
 
 -- a segment has at most as many bytes as what it fits
-like_weighs : (front segment : List ℕ) → Lacks segment any_run → IsLike front segment → length (encode_utf8_all segment) ≤ length (encode_utf8_all front)
+like_weighs : (front segment : List ℕ) → LacksCharacter segment any_run → IsLike front segment → length (encode_utf8_all segment) ≤ length (encode_utf8_all front)
 like_weighs front [] lacks like = omega arith
 like_weighs front (character ∷ segment) lacks like =
     let first = like_first character front segment (lacks_head any_run character _ segment refl lacks) like in
@@ -77,13 +77,13 @@ record FirstSegment (pattern : List ℕ) : Type 0 where
   segment : List ℕ
   rest : List ℕ
   split : pattern ≡ segment ++ rest
-  lacks : Lacks segment any_run
+  lacks : LacksCharacter segment any_run
   ends : (rest ≡ []) ⊎ ((behind : List ℕ) × (rest ≡ any_run ∷ behind))
 
-lacks_none : Lacks [] any_run
+lacks_none : LacksCharacter [] any_run
 lacks_none front back is = absurd (omega (arith, ap length is, length-append front (any_run ∷ back)))
 
-lacks_more : (character : ℕ) (list : List ℕ) → character ≢ any_run → Lacks list any_run → Lacks (character ∷ list) any_run
+lacks_more : (character : ℕ) (list : List ℕ) → character ≢ any_run → LacksCharacter list any_run → LacksCharacter (character ∷ list) any_run
 lacks_more character list differs lacks [] back is = differs cc
 lacks_more character list differs lacks (x ∷ front) back is = lacks front back cc
 

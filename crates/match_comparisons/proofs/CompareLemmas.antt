@@ -7,38 +7,38 @@ use Rattle.std.proofs.lemmas.List.{length-append, drop_at}
 use Rattle.std.proofs.lemmas.Bool.{false≢true}
 use Rattle.std.proofs.lemmas.Option.{none-some, same_Some}
 use Rattle.hex.specs.Hex.{decode_of}
-use Rattle.stix_times.specs.Reading.{IsTextOf}
+use Rattle.stix_times.specs.Reading.{IsTextOfInstant}
 use Rattle.match_comparisons.specs.Selection.{EndsIn}
 use Rattle.match_comparisons.specs.Tests.{IsBytesOf, BytesCompare}
-use Rattle.match_comparisons.specs.inner.Bytes.{Represents}
+use Rattle.match_comparisons.specs.inner.Bytes.{EncodesBytes}
 
 -- how the instants that a text names compare with another
 abbrev pub TimeCompares : List ℕ → ℤ → Ordering → Type 0
-TimeCompares text instant order = (i : ℤ) × IsTextOf text i × (order ≡ int_cmp i instant)
+TimeCompares text instant order = (i : ℤ) × IsTextOfInstant text i × (order ≡ int_cmp i instant)
 
-pub named_compares : (text : List ℕ) (named instant : ℤ) (answer : Ordering) → IsTextOf text named → ((i : ℤ) → IsTextOf text i → i ≡ named)
+pub named_compares : (text : List ℕ) (named instant : ℤ) (answer : Ordering) → IsTextOfInstant text named → ((i : ℤ) → IsTextOfInstant text i → i ≡ named)
     → answer ≡ int_cmp named instant → (order : Ordering) → TimeCompares text instant order ↔ (Some answer ≡ Some order)
 named_compares text named instant answer names only is order = (
   λ h. ap Some (is ∙ sym (h.2 ∙ ap (λ (i : ℤ). int_cmp i instant) (only h.0 h.1))),
   λ e. (named, names, sym (same_Some answer order e) ∙ is),
 )
 
-pub unnamed_compares : (text : List ℕ) (instant : ℤ) → ((i : ℤ) → ¬ IsTextOf text i)
+pub unnamed_compares : (text : List ℕ) (instant : ℤ) → ((i : ℤ) → ¬ IsTextOfInstant text i)
     → (order : Ordering) → TimeCompares text instant order ↔ (◌≡◌ {A = Option Ordering} None (Some order))
 unnamed_compares text instant never order = (λ h. absurd (never h.0 h.1), λ e. absurd (none-some order e))
 
 pub text_compares : (value : Option (List ℕ)) (text : List ℕ) (instant : ℤ) (answer : Option Ordering) → Some text ≡ value
     → ((order : Ordering) → TimeCompares text instant order ↔ (answer ≡ Some order)) → (order : Ordering)
-    → ((t : List ℕ) × (i : ℤ) × (value ≡ Some t) × IsTextOf t i × (order ≡ int_cmp i instant)) ↔ (answer ≡ Some order)
+    → ((t : List ℕ) × (i : ℤ) × (value ≡ Some t) × IsTextOfInstant t i × (order ≡ int_cmp i instant)) ↔ (answer ≡ Some order)
 text_compares value text instant answer is exact order = (
   λ h.
       let same : h.0 ≡ text = same_Some h.0 text (sym h.2 ∙ sym is) in
-      (exact order).0 (h.1, subst (λ (t : List ℕ). IsTextOf t h.1) same h.3, h.4),
+      (exact order).0 (h.1, subst (λ (t : List ℕ). IsTextOfInstant t h.1) same h.3, h.4),
   λ e. let g = (exact order).1 e in (text, g.0, sym is, g.1, g.2),
 )
 
 -- how the bytes that a value stands for compare with others
-pub bytes_compare : (last : Option (List ℕ)) (value : Data) (own : Option (List ℕ)) (bytes : List ℕ) (answer : Option Ordering) → Represents last value own
+pub bytes_compare : (last : Option (List ℕ)) (value : Data) (own : Option (List ℕ)) (bytes : List ℕ) (answer : Option Ordering) → EncodesBytes last value own
     → answer ≡ option_map (λ (decoded : List ℕ). slice_cmp nat_cmp decoded bytes) own → (order : Ordering) → BytesCompare last value bytes order ↔ (answer ≡ Some order)
 bytes_compare last value None bytes answer stands is order = (
   λ h. let never = (stands h.1).0 (h.0, h.2, h.3) in absurd (none-some h.1 never),

@@ -8,7 +8,7 @@ use Rattle.stix_json.specs.DataOf.{data_of}
 use Rattle.stix_bundles.specs.Objects.{data_in}
 use Rattle.pattern_types.specs.declared.path.Step.{Step}
 use Rattle.match_comparisons.specs.declared.frame.Frame.{Frame}
-use Rattle.match_comparisons.specs.inner.Frames.{Fits, weight_of, weight}
+use Rattle.match_comparisons.specs.inner.Frames.{HasFrameSpace, weight_of, weight}
 use Rattle.match_comparisons.proofs.LeftLemmas.{with_values}
 
 ordered_rest : (d : Data) (ds : List Data) → All IsOrdered (d ∷ ds) → All IsOrdered ds
@@ -18,12 +18,12 @@ pub ordered_others : (row : List Json) (first : Json) (others : List Json) → r
 ordered_others row first others is all = ordered_rest (data_of first) (data_in others) (subst (λ (r : List Json). All IsOrdered (data_in r)) is all)
 
 pub fits_others : (frame : Frame) (frames : List Frame) (first : Json) (others : Bor (List Json)) → frame.values.now ≡ first ∷ others.now
-    → Fits (frame ∷ frames) → Fits (with_values frame others ∷ frames)
+    → HasFrameSpace (frame ∷ frames) → HasFrameSpace (with_values frame others ∷ frames)
 fits_others frame frames first others row fits = (fits.0, ordered_others frame.values.now first others.now row fits.1, fits.2)
 
 pub fits_below : (frame : Frame) (frames : List Frame) (first : Json) (others : Bor (List Json)) (step : Step) (steps : List Step) (below : Frame)
     → frame.values.now ≡ first ∷ others.now → frame.steps.now ≡ step ∷ steps → below.steps.now ≡ steps → All IsOrdered (data_in below.values.now)
-    → Fits (frame ∷ frames) → Fits (below ∷ with_values frame others ∷ frames)
+    → HasFrameSpace (frame ∷ frames) → HasFrameSpace (below ∷ with_values frame others ∷ frames)
 fits_below frame frames first others step steps below row more same ordered fits =
     let total : length frame.steps.now ≡ suc (length steps) = ap length more in
     let own : length below.steps.now ≡ length steps = ap length same in

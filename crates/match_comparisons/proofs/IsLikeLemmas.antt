@@ -3,8 +3,8 @@
 use Rattle.std.proofs.Common.{◌≡◌, ◌≢◌, ℕ, inl, inr, List, [], ◌∷◌, ◌++◌, refl, sym, ap, ◌∙◌, arith, append_assoc}
 use Rattle.std.specs.List.{concat}
 use Rattle.std.proofs.lemmas.Bool.Decides.{eqb_tells}
-use Rattle.match_comparisons.specs.Like.{any_run, any_one, Fits, AllFit, IsLike}
-use Rattle.match_comparisons.specs.inner.Segments.{Leaves}
+use Rattle.match_comparisons.specs.Like.{any_run, any_one, FitsCharacter, AllFit, IsLike}
+use Rattle.match_comparisons.specs.inner.Segments.{LeavesAfterPrefix}
 
 -- the character is no `%`, and it is `_` or x itself
 pub record Meets (character x : ℕ) : Type 0 where
@@ -12,7 +12,7 @@ pub record Meets (character x : ℕ) : Type 0 where
   pub itself : character ≢ any_one → character ≡ x
 
 -- a segment at a character other than `%` is one character, which meets it
-single_of : (segment : List ℕ) (character : ℕ) → character ≢ any_run → Fits segment character → (x : ℕ) × (segment ≡ x ∷ []) × Meets character x
+single_of : (segment : List ℕ) (character : ℕ) → character ≢ any_run → FitsCharacter segment character → (x : ℕ) × (segment ≡ x ∷ []) × Meets character x
 single_of [] character no_run fits =
     absurd (elim (eqb_tells character any_one) [
       | inl is ↦ omega (arith, fits.one is.1)
@@ -26,13 +26,13 @@ single_of (x ∷ y ∷ segment) character no_run fits =
       | inr is ↦ cc (fits.itself no_run is.1)
     ])
 
-fits_single : (character x : ℕ) → Meets character x → Fits (x ∷ []) character
+fits_single : (character x : ℕ) → Meets character x → FitsCharacter (x ∷ []) character
 fits_single character x meets = record {
   one = λ _. refl;
   itself = λ _ not_one. cc (meets.itself not_one);
 }
 
-fits_run : (segment : List ℕ) → Fits segment any_run
+fits_run : (segment : List ℕ) → FitsCharacter segment any_run
 fits_run segment = record { one = λ is. absurd (omega arith); itself = λ no_run. absurd (no_run refl) }
 
 -- the empty pattern is for the empty text alone
@@ -113,7 +113,7 @@ fit_joined (segment ∷ left) right [] back fit_front fit_back = absurd fit_fron
 fit_joined (segment ∷ left) right (character ∷ front) back fit_front fit_back =
     (fit_front.0, fit_joined left right front back fit_front.1 fit_back)
 
-pub like_joined : (text left pattern back : List ℕ) → Leaves text pattern left → IsLike left back → IsLike text (pattern ++ back)
+pub like_joined : (text left pattern back : List ℕ) → LeavesAfterPrefix text pattern left → IsLike left back → IsLike text (pattern ++ back)
 unfolding IsLike
 like_joined text left pattern back leaves like = record {
   segments = leaves.2.segments ++ like.segments;
@@ -121,7 +121,7 @@ like_joined text left pattern back leaves like = record {
   fit = fit_joined leaves.2.segments like.segments pattern back leaves.2.fit like.fit;
 }
 
-cut_of : (segments : List (List ℕ)) (pattern back : List ℕ) → AllFit segments (pattern ++ back) → (left : List ℕ) × Leaves (concat segments) pattern left × IsLike left back
+cut_of : (segments : List (List ℕ)) (pattern back : List ℕ) → AllFit segments (pattern ++ back) → (left : List ℕ) × LeavesAfterPrefix (concat segments) pattern left × IsLike left back
 unfolding IsLike
 cut_of segments [] back fit =
     (concat segments, ([], refl, empty_pattern), record { segments = segments; whole = refl; fit = fit })
@@ -142,7 +142,7 @@ cut_of (segment ∷ segments) (character ∷ pattern) back fit =
       cut.2,
     )
 
-pub like_splits : (text pattern back : List ℕ) → IsLike text (pattern ++ back) → (left : List ℕ) × Leaves text pattern left × IsLike left back
+pub like_splits : (text pattern back : List ℕ) → IsLike text (pattern ++ back) → (left : List ℕ) × LeavesAfterPrefix text pattern left × IsLike left back
 unfolding IsLike
 like_splits text pattern back like =
     let cut = cut_of like.segments pattern back like.fit in

@@ -9,8 +9,8 @@ use Rattle.pattern_types.specs.declared.path.Path.{Path}
 use Rattle.pattern_types.specs.declared.path.Step.{Step}
 use Rattle.match_comparisons.specs.declared.frame.Frame.{Frame}
 use Rattle.match_comparisons.specs.Selection.{StepSelects, last_name, Joined, StepsSelect, IsRoot, Selects}
-use Rattle.match_comparisons.specs.Remaining.{Follows}
-use Rattle.match_comparisons.specs.inner.Frames.{last_of, FrameSelects, LeftIn}
+use Rattle.match_comparisons.specs.Remaining.{FollowsTaken}
+use Rattle.match_comparisons.specs.inner.Frames.{frame_property, FrameSelects, LeftIn}
 use Rattle.match_comparisons.proofs.ReferenceLemmas.{OneMeaning}
 use Rattle.match_comparisons.proofs.OneSelectionLemmas.{one_step, one_found, one_root}
 
@@ -21,11 +21,11 @@ with_values frame values = record { last = frame.last; steps = frame.steps; valu
 -- no step leads on from the first value
 pub left_given : (objects : List Data) (frame : Frame) (frames : List Frame) (first : Json) (others : Bor (List Json))
     → frame.values.now ≡ first ∷ others.now → frame.steps.now ≡ []
-    → (values : List Data) → LeftIn objects (frame ∷ frames) values ↔ Follows (data_of first ∷ []) (LeftIn objects (with_values frame others ∷ frames)) values
+    → (values : List Data) → LeftIn objects (frame ∷ frames) values ↔ FollowsTaken (data_of first ∷ []) (LeftIn objects (with_values frame others ∷ frames)) values
 left_given objects frame frames first others row no_steps values =
     let d = data_of first in
-    let Chosen : List Data → List Json → Type 0 = λ own r. Joined (StepsSelect objects (last_of frame) frame.steps.now) (data_in r) own in
-    let Ends : List Data → List Step → Type 0 = λ own steps. StepsSelect objects (last_of frame) steps d own in (
+    let Chosen : List Data → List Json → Type 0 = λ own r. Joined (StepsSelect objects (frame_property frame) frame.steps.now) (data_in r) own in
+    let Ends : List Data → List Step → Type 0 = λ own steps. StepsSelect objects (frame_property frame) steps d own in (
       λ left.
           let chosen = subst (Chosen left.0) row left.2 in
           let one : chosen.0 ≡ d ∷ [] = subst (Ends chosen.0) no_steps chosen.2 in
@@ -40,26 +40,26 @@ left_given objects frame frames first others row no_steps values =
 
 -- a step leads on from the first value to those of another frame
 pub left_below : OneMeaning → (objects : List Data) (frame : Frame) (frames : List Frame) (first : Json) (others : Bor (List Json)) (step : Step) (steps : List Step) (below : Frame)
-    → frame.values.now ≡ first ∷ others.now → frame.steps.now ≡ step ∷ steps → last_of below ≡ last_name (last_of frame) step → below.steps.now ≡ steps
-    → StepSelects objects (last_of frame) step (data_of first) (data_in below.values.now)
+    → frame.values.now ≡ first ∷ others.now → frame.steps.now ≡ step ∷ steps → frame_property below ≡ last_name (frame_property frame) step → below.steps.now ≡ steps
+    → StepSelects objects (frame_property frame) step (data_of first) (data_in below.values.now)
     → (values : List Data) → LeftIn objects (frame ∷ frames) values ↔ LeftIn objects (below ∷ with_values frame others ∷ frames) values
 left_below one objects frame frames first others step steps below row more last same selected values =
     let d = data_of first in
     let next = data_in below.values.now in
-    let Chosen : List Data → List Json → Type 0 = λ own r. Joined (StepsSelect objects (last_of frame) frame.steps.now) (data_in r) own in
-    let Leads : List Data → List Step → Type 0 = λ own ss. StepsSelect objects (last_of frame) ss d own in
+    let Chosen : List Data → List Json → Type 0 = λ own r. Joined (StepsSelect objects (frame_property frame) frame.steps.now) (data_in r) own in
+    let Leads : List Data → List Step → Type 0 = λ own ss. StepsSelect objects (frame_property frame) ss d own in
     let On : Option (List ℕ) → List Step → List Data → List Data → Type 0 = λ name ss ds own. Joined (StepsSelect objects name ss) ds own in (
       λ left.
           let chosen = subst (Chosen left.0) row left.2 in
           let leads = subst (Leads chosen.0) more chosen.2 in
-          let own = subst (λ (ds : List Data). On (last_name (last_of frame) step) steps ds chosen.0) (one_step one objects (last_of frame) step d leads.0 next leads.1 selected) leads.2 in
-          let own_below = subst (λ (ss : List Step). On (last_of below) ss next chosen.0) (sym same) (subst (λ (n : Option (List ℕ)). On n steps next chosen.0) (sym last) own) in
+          let own = subst (λ (ds : List Data). On (last_name (frame_property frame) step) steps ds chosen.0) (one_step one objects (frame_property frame) step d leads.0 next leads.1 selected) leads.2 in
+          let own_below = subst (λ (ss : List Step). On (frame_property below) ss next chosen.0) (sym same) (subst (λ (n : Option (List ℕ)). On n steps next chosen.0) (sym last) own) in
           let is : values ≡ chosen.0 ++ (chosen.1 ++ left.1) =
           left.4 ∙ ap (λ (o : List Data). o ++ left.1) chosen.4 ∙ append_assoc chosen.0 chosen.1 left.1 in
           (chosen.0, chosen.1 ++ left.1, own_below, (chosen.1, left.1, chosen.3, left.3, refl), is),
       λ left.
           let rest = left.3 in
-          let own = subst (λ (n : Option (List ℕ)). On n steps next left.0) last (subst (λ (ss : List Step). On (last_of below) ss next left.0) same left.2) in
+          let own = subst (λ (n : Option (List ℕ)). On n steps next left.0) last (subst (λ (ss : List Step). On (frame_property below) ss next left.0) same left.2) in
           let leads : Leads left.0 (step ∷ steps) = (next, selected, own) in
           let chosen : Chosen (left.0 ++ rest.0) (first ∷ others.now) = (left.0, rest.0, subst (Leads left.0) (sym more) leads, rest.2, refl) in
           let is : values ≡ (left.0 ++ rest.0) ++ rest.1 =
@@ -97,7 +97,7 @@ selects_from objects at path found exact values = (
 
 -- a walk begins with what its path selects
 pub left_at_root : (objects : List Data) (at : ℕ) (path : Path) (found : Option Data) (frame : Frame) → FindsExactly (IsRoot objects at path.kind) found
-    → last_of frame ≡ None → frame.steps.now ≡ path.steps → data_in frame.values.now ≡ option_to_list found
+    → frame_property frame ≡ None → frame.steps.now ≡ path.steps → data_in frame.values.now ≡ option_to_list found
     → (values : List Data) → LeftIn objects (frame ∷ []) values ↔ Selects objects at path values
 left_at_root objects at path found frame exact last steps row values =
     let Chooses : Option (List ℕ) → List Step → List Data → Type 0 = λ name ss ds. Joined (StepsSelect objects name ss) ds values in

@@ -7,12 +7,12 @@ use Rattle.pattern_types.specs.declared.check.Check.{Check}
 use Rattle.pattern_types.specs.declared.check.Check.TheVariants.{Exists}
 use Rattle.pattern_types.specs.declared.leaf.Test.{Test}
 use Rattle.match_comparisons.specs.Selection.{Reaches, IsRoot}
-use Rattle.match_comparisons.specs.Tests.{NegatedIf, Meets, IsAbsence, TestHolds, last_of}
+use Rattle.match_comparisons.specs.Tests.{NegatedIf, MeetsCheck, IsAbsence, TestHolds, last_property}
 
 -- the steps reach a value that meets the check, or where it is negated one that doesn't
 abbrev pub ReachesMet : List Data → Test → Bool → Data → Type 0
 ReachesMet objects test negated root = (value : Data) × Reaches objects None test.path.steps root value
-    × NegatedIf negated (Meets (last_of test.path) value test.check)
+    × NegatedIf negated (MeetsCheck (last_property test.path) value test.check)
 
 one_root : (objects : List Data) (root : ℕ) (kind : List ℕ) (first second : Data) → IsRoot objects root kind first → IsRoot objects root kind second → first ≡ second
 one_root objects root kind first second is also = same_Some first second (sym is.there ∙ also.there)
@@ -24,8 +24,8 @@ module _ (objects : List Data) (root : ℕ) (test : Test) where
     from_here other value is reached =
         subst (λ (o : Data). Reaches objects None test.path.steps o value) (one_root objects root test.path.kind other object is is_root) reached
 
-    there_is : (check : Check) → check ≡ Exists → (value : Data) → Meets (last_of test.path) value check
-    there_is check is value = subst (Meets (last_of test.path) value) (sym is) tt
+    there_is : (check : Check) → check ≡ Exists → (value : Data) → MeetsCheck (last_property test.path) value check
+    there_is check is value = subst (MeetsCheck (last_property test.path) value) (sym is) tt
 
     pub none_met : (found : Bool) → IsAbsence test → IsTrue found ↔ ReachesMet objects test false object → IsTrue (not found) ↔ TestHolds objects root test
     none_met true absent exact =

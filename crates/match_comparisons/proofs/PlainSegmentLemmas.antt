@@ -7,13 +7,13 @@ use Rattle.std.proofs.lemmas.Bool.{cases_lt}
 use Rattle.std.proofs.lemmas.List.Prefix.{front_rest}
 use Rattle.std.proofs.lemmas.Str.{chars-append, encodes-chars, encodes-append, length-le-encodes, IsUtf8-append, IsUtf8-drop, IsUtf8-take, IsCharBoundary-from_drop}
 use Rattle.match_comparisons.specs.Like.{any_run, any_one}
-use Rattle.match_comparisons.specs.inner.Segments.{Lacks, Leaves, LeavesMost}
+use Rattle.match_comparisons.specs.inner.Segments.{LacksCharacter, LeavesAfterPrefix, LeavesMost}
 use Rattle.match_comparisons.proofs.IsLikeLemmas.{run_takes, run_splits}
 use Rattle.match_comparisons.proofs.SegmentsLemmas.{like_itself, like_only, longer_end}
 
-module _ (text segment : List ℕ) (text_utf8 : IsUtf8 text) (segment_utf8 : IsUtf8 segment) (lacks : Lacks (chars segment) any_run) (plain : Lacks (chars segment) any_one) where
+module _ (text segment : List ℕ) (text_utf8 : IsUtf8 text) (segment_utf8 : IsUtf8 segment) (lacks : LacksCharacter (chars segment) any_run) (plain : LacksCharacter (chars segment) any_one) where
   -- where the segment fits, its bytes stand
-  stands : (other : List ℕ) → Leaves (chars text) (any_run ∷ chars segment) other → (before : List ℕ) × (text ≡ before ++ (segment ++ encode_utf8_all other))
+  stands : (other : List ℕ) → LeavesAfterPrefix (chars text) (any_run ∷ chars segment) other → (before : List ℕ) × (text ≡ before ++ (segment ++ encode_utf8_all other))
   stands other leaves =
       let cut = run_splits leaves.0 (chars segment) leaves.2 in
       let at : cut.1 ≡ chars segment = like_only cut.1 (chars segment) lacks plain cut.3 in
@@ -21,7 +21,7 @@ module _ (text segment : List ℕ) (text_utf8 : IsUtf8 text) (segment_utf8 : IsU
       let bytes : encode_utf8_all (chars segment ++ other) ≡ segment ++ encode_utf8_all other = encodes-append (chars segment) other ∙ ap (λ own. own ++ encode_utf8_all other) (encodes-chars segment segment_utf8) in
       (encode_utf8_all cut.0, sym (encodes-chars text text_utf8) ∙ ap encode_utf8_all whole ∙ encodes-append cut.0 (chars segment ++ other) ∙ ap (λ end. encode_utf8_all cut.0 ++ end) bytes)
 
-  pub plain_nowhere : FindsText segment text None → (other : List ℕ) → ¬ Leaves (chars text) (any_run ∷ chars segment) other
+  pub plain_nowhere : FindsText segment text None → (other : List ℕ) → ¬ LeavesAfterPrefix (chars text) (any_run ∷ chars segment) other
   plain_nowhere nowhere other leaves =
       let at = stands other leaves in
       nowhere (length at.0) (omega (arith, ap length at.1, length-append at.0 (segment ++ encode_utf8_all other))) (encode_utf8_all other) (front_rest text at.0 (segment ++ encode_utf8_all other) at.1)
@@ -51,7 +51,7 @@ module _ (text segment : List ℕ) (text_utf8 : IsUtf8 text) (segment_utf8 : IsU
     split =
         ap chars whole ∙ chars-append front (segment ++ left) front_utf8 ∙ ap (λ end. chars front ++ end) (chars-append segment left segment_utf8) ∙ sym (append_assoc (chars front) (chars segment) (chars left))
 
-    no_earlier : (other : List ℕ) → Leaves (chars text) (any_run ∷ chars segment) other → length (encode_utf8_all other) ≤ length left
+    no_earlier : (other : List ℕ) → LeavesAfterPrefix (chars text) (any_run ∷ chars segment) other → length (encode_utf8_all other) ≤ length left
     no_earlier other leaves =
         let at = stands other leaves in
         let lengths : length at.0 + (length segment + length (encode_utf8_all other)) ≡ i + (length segment + length left) = omega (arith, front_length, ap length at.1, ap length whole, length-append at.0 (segment ++ encode_utf8_all other), length-append segment (encode_utf8_all other), length-append front (segment ++ left), length-append segment left) in
@@ -60,7 +60,7 @@ module _ (text segment : List ℕ) (text_utf8 : IsUtf8 text) (segment_utf8 : IsU
           | inr behind ↦ omega (arith, lengths, behind)
         ]
 
-    no_more : (other : List ℕ) → Leaves (chars text) (any_run ∷ chars segment) other → length other ≤ length (chars left)
+    no_more : (other : List ℕ) → LeavesAfterPrefix (chars text) (any_run ∷ chars segment) other → length other ≤ length (chars left)
     no_more other leaves = elim (cases_lt (length (chars left)) (length other)) [
       | inl less ↦
           let longer = longer_end leaves.0 other (chars front ++ chars segment) (chars left) (sym leaves.1 ∙ split) (le_of_lt less) in

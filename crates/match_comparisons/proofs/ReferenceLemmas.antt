@@ -4,17 +4,17 @@ use Rattle.std.proofs.lemmas.Option.{none-some, same_Some}
 use Rattle.serde_json.specs.Data.{Data, null, boolean, number, string, array, object}
 use Rattle.serde_json.specs.Find.{get, as_str}
 use Rattle.flow_values.specs.Answers.{FindsExactly}
-use Rattle.stix_bundles.specs.Lookup.{Means}
+use Rattle.stix_bundles.specs.Lookup.{ResolvesTo}
 use Rattle.match_comparisons.specs.Selection.{IsReference, RefersTo, LeadsTo, by_property, by_reference}
 use Rattle.match_comparisons.specs.inner.PropertyOf.{property_of}
 
 -- a text means one place, or none
 abbrev pub OneMeaning : Type 0
-OneMeaning = (objects : List Data) (text : List ℕ) (first second : Option ℕ) → Means objects text first → Means objects text second → first ≡ second
+OneMeaning = (objects : List Data) (text : List ℕ) (first second : Option ℕ) → ResolvesTo objects text first → ResolvesTo objects text second → first ≡ second
 
 -- what a value means, where it is a text
 abbrev pub ValueMeans : List Data → Data → Option ℕ → Type 0
-ValueMeans objects value place = MatchOption (as_str value) (place ≡ None) (λ text. Means objects text place)
+ValueMeans objects value place = MatchOption (as_str value) (place ≡ None) (λ text. ResolvesTo objects text place)
 
 one_text : (value : Data) (first second : List ℕ) → as_str value ≡ Some first → as_str value ≡ Some second → first ≡ second
 one_text value first second is also = same_Some first second (sym is ∙ also)
@@ -23,13 +23,13 @@ pub one_reference : OneMeaning → (objects : List Data) (last : Option (List �
     → RefersTo objects last value first → RefersTo objects last value second → first ≡ second
 one_reference one objects last value first second is also =
     let text = one_text value is.text also.text is.is_text also.is_text in
-    same_Some first second (one objects also.text (Some first) (Some second) (subst (λ t. Means objects t (Some first)) text is.means) also.means)
+    same_Some first second (one objects also.text (Some first) (Some second) (subst (λ t. ResolvesTo objects t (Some first)) text is.means) also.means)
 
-means_at : (objects : List Data) (value : Data) (place : Option ℕ) (text : List ℕ) → as_str value ≡ Some text → ValueMeans objects value place → Means objects text place
-means_at objects value place text is means = subst (λ (o : Option (List ℕ)). MatchOption o (place ≡ None) (λ t. Means objects t place)) is means
+means_at : (objects : List Data) (value : Data) (place : Option ℕ) (text : List ℕ) → as_str value ≡ Some text → ValueMeans objects value place → ResolvesTo objects text place
+means_at objects value place text is means = subst (λ (o : Option (List ℕ)). MatchOption o (place ≡ None) (λ t. ResolvesTo objects t place)) is means
 
 refers_by : (objects : List Data) (last : Option (List ℕ)) (value : Data) (at : ℕ) (text : Option (List ℕ)) → as_str value ≡ text
-    → IsReference last → MatchOption text (Some at ≡ None) (λ t. Means objects t (Some at)) → RefersTo objects last value at
+    → IsReference last → MatchOption text (Some at ≡ None) (λ t. ResolvesTo objects t (Some at)) → RefersTo objects last value at
 refers_by objects last value at None is named means = absurd (none-some at (sym means))
 refers_by objects last value at (Some text) is named means = record { named = named; text = text; is_text = is; means = means }
 

@@ -4,7 +4,7 @@ use Rattle.std.specs.Prelude.{Contains}
 use Rattle.std.proofs.lemmas.Bool.{false≢true}
 use Rattle.stix_bundles.specs.declared.observation.Observation.{Observation}
 use Rattle.match_comparisons.specs.declared.position_set.PositionSet.{PositionSet}
-use Rattle.match_comparisons.specs.inner.PositionSet.{IsIn, AreOf}
+use Rattle.match_comparisons.specs.inner.PositionSet.{IsInPositions, AreOf}
 use Rattle.match_comparisons.specs.inner.Roots.{IsSomeRoot}
 use Rattle.match_comparisons.proofs.ContainsLemmas.{none_in, in_more}
 
@@ -13,7 +13,7 @@ not_not true twice = refl
 not_not false twice = absurd (twice (λ yes. false≢true yes))
 
 module _ (roots : List ℕ) (seen more : PositionSet) (x : ℕ) (same : AreOf roots seen)
-    (added : (at : ℕ) → IsIn more at ↔ (IsIn seen at ⊎ (at ≡ x))) where
+    (added : (at : ℕ) → IsInPositions more at ↔ (IsInPositions seen at ⊎ (at ≡ x))) where
   pub new_same : AreOf (roots ++ x ∷ []) more
   new_same at = (
     λ is. (in_more roots x at).1 (elim ((added at).0 is) [
@@ -26,11 +26,11 @@ module _ (roots : List ℕ) (seen more : PositionSet) (x : ℕ) (same : AreOf ro
     ]),
   )
 
-  pub old_same : IsIn seen x → AreOf roots more
+  pub old_same : IsInPositions seen x → AreOf roots more
   old_same there at = (
     λ is. elim ((added at).0 is) [
       | inl before ↦ (same at).0 before
-      | inr now ↦ (same at).0 (subst (IsIn seen) (sym now) there)
+      | inr now ↦ (same at).0 (subst (IsInPositions seen) (sym now) there)
     ],
     λ has. (added at).1 (inl ((same at).1 has)),
   )

@@ -12,17 +12,17 @@ use Rattle.match_comparisons.specs.declared.position_set.PositionSet.{PositionSe
 use Rattle.match_comparisons.specs.declared.split.Split.{Split}
 use Rattle.match_comparisons.specs.Tests.{HoldsAt, LeafHolds}
 use Rattle.match_comparisons.specs.Truths.{AreOfBoth}
-use Rattle.match_comparisons.specs.inner.PositionSet.{IsIn, AreOf}
-use Rattle.match_comparisons.specs.inner.Splits.{Splits}
-use Rattle.match_comparisons.specs.inner.Rows.{Adds, AddsToEach}
+use Rattle.match_comparisons.specs.inner.PositionSet.{IsInPositions, AreOf}
+use Rattle.match_comparisons.specs.inner.Splits.{SplitsPositions}
+use Rattle.match_comparisons.specs.inner.Rows.{AppendsTruths, AddsToEach}
 
 -- one of the roots is among the positions at which the bracket holds
 abbrev pub HasSome : PositionSet → List ℕ → Type 0
-HasSome position_set roots = (root : ℕ) × Contains roots root × IsIn position_set root
+HasSome position_set roots = (root : ℕ) × Contains roots root × IsInPositions position_set root
 
 -- a bracket holds for an observation where one of its roots is among those at which it was found to hold
 pub holds_some : (objects : List Data) (leaf : PlainLeaf) (roots asked : List ℕ) (split : Split) (held : PositionSet)
-    → Splits (λ (at : ℕ). HoldsAt objects at leaf) asked split → AreOf split.held.items held
+    → SplitsPositions (λ (at : ℕ). HoldsAt objects at leaf) asked split → AreOf split.held.items held
     → ((at : ℕ) → Contains roots at → Contains asked at) → HasSome held roots ↔ LeafHolds objects roots leaf
 holds_some objects leaf roots asked split held splits same among = (
   λ some. (some.0, some.1, (splits.held some.0 ((same some.0).0 some.2)).1),
@@ -36,7 +36,7 @@ holds_some objects leaf roots asked split held splits same among = (
 module _ (Own : Observation → List Bool → Type 0) where
   -- of one observation more
   pub each_more : (observations : List Observation) (olds news : List (List Bool)) (observation : Observation) (old new : List Bool)
-      → AddsToEach Own observations olds news → Adds (Own observation) old new
+      → AddsToEach Own observations olds news → AppendsTruths (Own observation) old new
       → AddsToEach Own (observations ++ observation ∷ []) (olds ++ old ∷ []) (news ++ new ∷ [])
   each_more [] [] [] observation old new adds one = (one, tt)
   each_more (first ∷ observations) (before ∷ olds) (after ∷ news) observation old new adds one =
@@ -75,7 +75,7 @@ module _ (Left Right : Observation → List Bool → Type 0) where
 -- one row more, of those that a loop goes along
 module _ (Own : Observation → List Bool → Type 0) (observations : List Observation) (olds news : List (List Bool)) (i : ℕ) (observation : Observation) (row new : List Bool) where
   pub row_more : i < length observations → i < length olds → i < length news → observation ≡ get_or observations i observation → row ≡ get_or news i row
-      → drop i news ≡ drop i olds → AddsToEach Own (take i observations) (take i olds) (take i news) → Adds (Own observation) row new
+      → drop i news ≡ drop i olds → AddsToEach Own (take i observations) (take i olds) (take i news) → AppendsTruths (Own observation) row new
       → AddsToEach Own (take (i + 1) observations) (take (i + 1) olds) (take (i + 1) (set news i new)) × (drop (i + 1) (set news i new) ≡ drop (i + 1) olds)
   row_more in_observations in_olds in_news is row_is same adds one =
       let ahead = drop-cons news i row in_news in
@@ -104,7 +104,7 @@ on_ok (Err error) on holds = tt
 
 -- some root holds where some position is left of those at which the bracket was found to hold
 module _ (objects : List Data) (leaf : PlainLeaf) (roots asked : List ℕ) (split : Split)
-    (splits : Splits (λ (at : ℕ). HoldsAt objects at leaf) asked split) (same : (at : ℕ) → Contains asked at ↔ Contains roots at) where
+    (splits : SplitsPositions (λ (at : ℕ). HoldsAt objects at leaf) asked split) (same : (at : ℕ) → Contains asked at ↔ Contains roots at) where
   held_some : (held : List ℕ) → held ≡ split.held.items → LeafHolds objects roots leaf ↔ (1 ≤ length held)
   held_some held is = (
     λ holds. elim (splits.all holds.0 ((same holds.0).1 holds.1)) [

@@ -4,7 +4,7 @@ use Rattle.std.proofs.Math.Seq.{get_or-append_seam}
 use Rattle.std.proofs.lemmas.Bool.{cases_lt}
 use Rattle.memchr.specs.Find.{Passes, Nowhere, is_byte}
 use Rattle.match_comparisons.specs.Like.{any_run}
-use Rattle.match_comparisons.specs.inner.Segments.{Lacks, OccursAfter}
+use Rattle.match_comparisons.specs.inner.Segments.{LacksCharacter, OccursAfter}
 
 -- the byte at which a list is split
 byte_at : (bytes front back : List ℕ) (byte : ℕ) → bytes ≡ front ++ byte ∷ back → get_or bytes (length front) 0 ≡ byte
@@ -44,7 +44,7 @@ module _ (bytes near : List ℕ) (n : ℕ) (near_is : near ≡ take n bytes) whe
         let end : drop at bytes ≡ any_run ∷ drop (at + 1) bytes = rw add-one (drop-cons bytes at 0 run_inside ∙ ap (λ first. first ∷ drop (suc at) bytes) (run_read passes)) in
         sym (take-append-drop at bytes) ∙ ap (λ rest. take at bytes ++ rest) end
 
-    pub no_run_before : Nowhere (Passes (is_byte any_run) near) 0 at → Lacks (take at bytes) any_run
+    pub no_run_before : Nowhere (Passes (is_byte any_run) near) 0 at → LacksCharacter (take at bytes) any_run
     no_run_before nowhere front back split =
         let taken = ap length split ∙ length-append front (any_run ∷ back) in
         let before : length front < at = omega (arith, taken, length-take at bytes) in

@@ -14,8 +14,8 @@ use Rattle.pattern_types.specs.declared.path.Step.{Step}
 use Rattle.match_comparisons.specs.Selection.{StepReaches, last_name, Reaches}
 use Rattle.match_comparisons.specs.declared.search.Search.{Search}
 use Rattle.match_comparisons.specs.declared.memo.SearchMemo.{SearchMemo}
-use Rattle.match_comparisons.specs.inner.VisitSet.{Has}
-use Rattle.match_comparisons.specs.inner.Search.{IsTarget, Finds, SomeFinds, FindsAt, AreLast, IsSoundMemo}
+use Rattle.match_comparisons.specs.inner.VisitSet.{HasVisit}
+use Rattle.match_comparisons.specs.inner.Search.{IsTarget, Finds, SomeFinds, FindsAt, AreLastSteps, IsSoundSearchMemo}
 
 -- the steps reach a value that the fact holds of
 abbrev pub From : List Data → (Data → Type 0) → Option (List ℕ) → List Step → Data → Type 0
@@ -45,7 +45,7 @@ at_object objects P steps at meant is = (
 )
 
 -- the last steps without the first of them
-pub last_rest : (search : Search) (step : Step) (rest : List Step) → AreLast search (step ∷ rest) → AreLast search rest
+pub last_rest : (search : Search) (step : Step) (rest : List Step) → AreLastSteps search (step ∷ rest) → AreLastSteps search rest
 last_rest search step rest last = (last.0 ++ step ∷ [], last.1 ∙ sym (append_assoc last.0 (step ∷ []) rest))
 
 same_end : (all front steps : List Step) (n : ℕ) → all ≡ front ++ steps → length steps ≡ n → drop (length all - n) all ≡ steps
@@ -53,18 +53,18 @@ same_end all front steps n is count =
     let total : length all ≡ length front + length steps = ap length is ∙ length-append front steps in
     ap (drop (length all - n)) is ∙ drop_at front steps (length all - n) (omega arith)
 
-same_last : (search : Search) (steps others : List Step) → AreLast search steps → AreLast search others → length steps ≡ length others → steps ≡ others
+same_last : (search : Search) (steps others : List Step) → AreLastSteps search steps → AreLastSteps search others → length steps ≡ length others → steps ≡ others
 same_last search steps others last also count =
     sym (same_end search.steps.now last.0 steps (length others) last.1 count) ∙ same_end search.steps.now also.0 others (length others) also.1 refl
 
 -- one finding more
-pub one_more : (search : Search) (old new : SearchMemo) (step : Step) (rest : List Step) (at : ℕ) (found : Bool) → IsSoundMemo search old
-    → AreLast search (step ∷ rest) → IsTrue found ↔ FindsAt search (step ∷ rest) at
-    → ((count place : ℕ) → Has new.positive count place → (Has old.positive count place ⊎ ((found ≡ true) × (count ≡ length rest) × (place ≡ at))))
-    → ((count place : ℕ) → Has new.negative count place → (Has old.negative count place ⊎ ((found ≡ false) × (count ≡ length rest) × (place ≡ at))))
-    → IsSoundMemo search new
+pub one_more : (search : Search) (old new : SearchMemo) (step : Step) (rest : List Step) (at : ℕ) (found : Bool) → IsSoundSearchMemo search old
+    → AreLastSteps search (step ∷ rest) → IsTrue found ↔ FindsAt search (step ∷ rest) at
+    → ((count place : ℕ) → HasVisit new.positive count place → (HasVisit old.positive count place ⊎ ((found ≡ true) × (count ≡ length rest) × (place ≡ at))))
+    → ((count place : ℕ) → HasVisit new.negative count place → (HasVisit old.negative count place ⊎ ((found ≡ false) × (count ≡ length rest) × (place ≡ at))))
+    → IsSoundSearchMemo search new
 one_more search old new step rest at found right last exact lives dies =
-    let here = λ (other : Step) (others : List Step) (also : AreLast search (other ∷ others)) (count : length others ≡ length rest).
+    let here = λ (other : Step) (others : List Step) (also : AreLastSteps search (other ∷ others)) (count : length others ≡ length rest).
     same_last search (other ∷ others) (step ∷ rest) also last (ap suc count) in record {
       negative = λ other others place also has finds. elim (dies (length others) place has) [
         | inl before ↦ right.negative other others place also before finds
@@ -81,8 +81,8 @@ one_more search old new step rest at found right last exact lives dies =
     }
 
 -- an answer that is known is right
-pub known_right : (search : Search) (memo : SearchMemo) (step : Step) (rest : List Step) (at : ℕ) (found : Bool) → IsSoundMemo search memo
-    → AreLast search (step ∷ rest) → (found ≡ true → Has memo.positive (length rest) at) → (found ≡ false → Has memo.negative (length rest) at)
+pub known_right : (search : Search) (memo : SearchMemo) (step : Step) (rest : List Step) (at : ℕ) (found : Bool) → IsSoundSearchMemo search memo
+    → AreLastSteps search (step ∷ rest) → (found ≡ true → HasVisit memo.positive (length rest) at) → (found ≡ false → HasVisit memo.negative (length rest) at)
     → IsTrue found ↔ FindsAt search (step ∷ rest) at
 known_right search memo step rest at true right last positive negative = (λ yes. right.positive step rest at last (positive refl), λ finds. refl)
 known_right search memo step rest at false right last positive negative =

@@ -4,26 +4,26 @@ use Rattle.std.proofs.Common.{◌≡◌, ◌≢◌, ℕ, ◌≤◌, ◌↔◌, L
 use Rattle.std.proofs.lemmas.List.{nil_from_length}
 use Rattle.std.proofs.lemmas.List.Prefix.{front_rest}
 use Rattle.match_comparisons.specs.Like.{any_run, any_one, IsLike}
-use Rattle.match_comparisons.specs.inner.Segments.{Lacks, Leaves, LeavesMost}
+use Rattle.match_comparisons.specs.inner.Segments.{LacksCharacter, LeavesAfterPrefix, LeavesMost}
 use Rattle.match_comparisons.proofs.IsLikeLemmas.{Meets, empty_pattern, empty_pattern_only, like_step, like_first, run_takes, run_takes_more, run_splits, like_joined, like_splits}
 
 -- where a character stands nowhere in a list, nor does it in a part
-pub lacks_head : (x character : ℕ) (list rest : List ℕ) → list ≡ character ∷ rest → Lacks list x → character ≢ x
+pub lacks_head : (x character : ℕ) (list rest : List ℕ) → list ≡ character ∷ rest → LacksCharacter list x → character ≢ x
 lacks_head x character list rest split lacks is = lacks [] rest (split ∙ ap (λ one. one ∷ rest) is)
 
-pub lacks_tail : (x character : ℕ) (list rest : List ℕ) → list ≡ character ∷ rest → Lacks list x → Lacks rest x
+pub lacks_tail : (x character : ℕ) (list rest : List ℕ) → list ≡ character ∷ rest → LacksCharacter list x → LacksCharacter rest x
 lacks_tail x character list rest split lacks front back is =
     lacks (character ∷ front) back (split ∙ ap (λ end. character ∷ end) is)
 
-pub lacks_last : (x character : ℕ) (list front : List ℕ) → list ≡ front ++ character ∷ [] → Lacks list x → character ≢ x
+pub lacks_last : (x character : ℕ) (list front : List ℕ) → list ≡ front ++ character ∷ [] → LacksCharacter list x → character ≢ x
 lacks_last x character list front split lacks is = lacks front [] (split ∙ ap (λ one. front ++ one ∷ []) is)
 
-pub lacks_front : (x : ℕ) (list front more : List ℕ) → list ≡ front ++ more → Lacks list x → Lacks front x
+pub lacks_front : (x : ℕ) (list front more : List ℕ) → list ≡ front ++ more → LacksCharacter list x → LacksCharacter front x
 lacks_front x list front more split lacks before back is =
     lacks before (back ++ more) (split ∙ ap (λ part. part ++ more) is ∙ append_assoc before (x ∷ back) more)
 
 -- a segment fits as many characters as it has
-pub like_length : (front segment : List ℕ) → Lacks segment any_run → IsLike front segment → length front ≡ length segment
+pub like_length : (front segment : List ℕ) → LacksCharacter segment any_run → IsLike front segment → length front ≡ length segment
 like_length front [] lacks like = ap length (empty_pattern_only front like)
 like_length front (character ∷ segment) lacks like =
     let first = like_first character front segment (lacks_head any_run character _ segment refl lacks) like in
@@ -31,7 +31,7 @@ like_length front (character ∷ segment) lacks like =
     omega (arith, ap length first.2, rest)
 
 -- and one without `_` itself
-pub like_itself : (segment : List ℕ) → Lacks segment any_run → IsLike segment segment
+pub like_itself : (segment : List ℕ) → LacksCharacter segment any_run → IsLike segment segment
 like_itself [] lacks = empty_pattern
 like_itself (character ∷ segment) lacks =
     let meets : Meets character character = record {
@@ -40,7 +40,7 @@ like_itself (character ∷ segment) lacks =
     } in
     like_step character character segment segment meets (like_itself segment (lacks_tail any_run character _ segment refl lacks))
 
-pub like_only : (front segment : List ℕ) → Lacks segment any_run → Lacks segment any_one → IsLike front segment → front ≡ segment
+pub like_only : (front segment : List ℕ) → LacksCharacter segment any_run → LacksCharacter segment any_one → IsLike front segment → front ≡ segment
 like_only front [] lacks plain like = empty_pattern_only front like
 like_only front (character ∷ segment) lacks plain like =
     let first = like_first character front segment (lacks_head any_run character _ segment refl lacks) like in
@@ -62,7 +62,7 @@ longer_end (x ∷ front) left (y ∷ front2) left2 same more =
     let rest : front ++ left ≡ front2 ++ left2 = cc in longer_end front left front2 left2 rest more
 
 -- the segment before the first `%`
-pub first_segment : (text segment more left : List ℕ) → Lacks segment any_run → Leaves text segment left → IsLike text (segment ++ any_run ∷ more) ↔ IsLike left (any_run ∷ more)
+pub first_segment : (text segment more left : List ℕ) → LacksCharacter segment any_run → LeavesAfterPrefix text segment left → IsLike text (segment ++ any_run ∷ more) ↔ IsLike left (any_run ∷ more)
 first_segment text segment more left lacks leaves = (
   λ like.
       let cut = like_splits text segment (any_run ∷ more) like in
@@ -73,7 +73,7 @@ first_segment text segment more left lacks leaves = (
   λ like. like_joined text left segment (any_run ∷ more) leaves like,
 )
 
-pub no_first_segment : (text segment more : List ℕ) → ((left : List ℕ) → ¬ Leaves text segment left) → ¬ (IsLike text (segment ++ more))
+pub no_first_segment : (text segment more : List ℕ) → ((left : List ℕ) → ¬ LeavesAfterPrefix text segment left) → ¬ (IsLike text (segment ++ more))
 no_first_segment text segment more none like =
     let cut = like_splits text segment more like in none cut.0 cut.1
 
@@ -89,28 +89,28 @@ segment_between text segment more left most = (
   λ like. like_joined text left (any_run ∷ segment) (any_run ∷ more) most.leaves like,
 )
 
-pub no_segment_between : (text segment more : List ℕ) → ((left : List ℕ) → ¬ Leaves text (any_run ∷ segment) left) → ¬ (IsLike text (any_run ∷ segment ++ more))
+pub no_segment_between : (text segment more : List ℕ) → ((left : List ℕ) → ¬ LeavesAfterPrefix text (any_run ∷ segment) left) → ¬ (IsLike text (any_run ∷ segment ++ more))
 no_segment_between text segment more none like =
     let cut = like_splits text (any_run ∷ segment) more like in none cut.0 cut.1
 
 -- where the segment is the whole pattern
-pub whole_segment : (text segment left : List ℕ) → left ≡ [] → Leaves text segment left → IsLike text segment
+pub whole_segment : (text segment left : List ℕ) → left ≡ [] → LeavesAfterPrefix text segment left → IsLike text segment
 whole_segment text segment left ends leaves =
     let same : text ≡ leaves.0 = leaves.1 ∙ ap (λ rest. leaves.0 ++ rest) ends ∙ append-nil leaves.0 in
     rw same leaves.2
 
-pub whole_segment_only : (text segment left : List ℕ) → Lacks segment any_run → Leaves text segment left → IsLike text segment → left ≡ []
+pub whole_segment_only : (text segment left : List ℕ) → LacksCharacter segment any_run → LeavesAfterPrefix text segment left → IsLike text segment → left ≡ []
 whole_segment_only text segment left lacks leaves like =
     nil_from_length left (omega (arith, like_length text segment lacks like, like_length leaves.0 segment lacks leaves.2, ap length leaves.1, length-append leaves.0 left))
 
-pub no_whole_segment : (text segment : List ℕ) → ((left : List ℕ) → ¬ Leaves text segment left) → ¬ (IsLike text segment)
+pub no_whole_segment : (text segment : List ℕ) → ((left : List ℕ) → ¬ LeavesAfterPrefix text segment left) → ¬ (IsLike text segment)
 no_whole_segment text segment none like = none [] (text, sym (append-nil text), like)
 
 -- a segment that is laid over the front of a text, character by character
-pub front_done : (text segment : List ℕ) → segment ≡ [] → Leaves text segment text
+pub front_done : (text segment : List ℕ) → segment ≡ [] → LeavesAfterPrefix text segment text
 front_done text segment done = ([], refl, rw done empty_pattern)
 
-pub front_step : (found expected : ℕ) (text segment rest after left : List ℕ) → text ≡ found ∷ rest → segment ≡ expected ∷ after → Meets expected found → Leaves text segment left ↔ Leaves rest after left
+pub front_step : (found expected : ℕ) (text segment rest after left : List ℕ) → text ≡ found ∷ rest → segment ≡ expected ∷ after → Meets expected found → LeavesAfterPrefix text segment left ↔ LeavesAfterPrefix rest after left
 front_step found expected text segment rest after left text_split segment_split meets = (
   λ leaves.
       let first = like_first expected leaves.0 after meets.no_run (rw segment_split at leaves.2) in
@@ -123,21 +123,21 @@ front_step found expected text segment rest after left text_split segment_split 
   ),
 )
 
-pub front_differs : (found expected : ℕ) (text segment rest after left : List ℕ) → text ≡ found ∷ rest → segment ≡ expected ∷ after → expected ≢ any_run → expected ≢ any_one → expected ≢ found → ¬ Leaves text segment left
+pub front_differs : (found expected : ℕ) (text segment rest after left : List ℕ) → text ≡ found ∷ rest → segment ≡ expected ∷ after → expected ≢ any_run → expected ≢ any_one → expected ≢ found → ¬ LeavesAfterPrefix text segment left
 front_differs found expected text segment rest after left text_split segment_split no_run not_one differs leaves =
     let first = like_first expected leaves.0 after no_run (rw segment_split at leaves.2) in
     let whole : text ≡ first.0 ∷ (first.1 ++ left) = leaves.1 ∙ ap (λ front. front ++ left) first.2 in
     let same : first.0 ≡ found = cc (whole, text_split) in
     differs (first.3.itself not_one ∙ same)
 
-pub front_ends : (expected : ℕ) (text segment after left : List ℕ) → text ≡ [] → segment ≡ expected ∷ after → expected ≢ any_run → ¬ Leaves text segment left
+pub front_ends : (expected : ℕ) (text segment after left : List ℕ) → text ≡ [] → segment ≡ expected ∷ after → expected ≢ any_run → ¬ LeavesAfterPrefix text segment left
 front_ends expected text segment after left text_ends segment_split no_run leaves =
     let first = like_first expected leaves.0 after no_run (rw segment_split at leaves.2) in
     let whole : text ≡ first.0 ∷ (first.1 ++ left) = leaves.1 ∙ ap (λ front. front ++ left) first.2 in
     cc (whole, text_ends)
 
 -- a segment that is tried at each character in turn
-pub first_place : (text segment left : List ℕ) → Lacks segment any_run → Leaves text segment left → LeavesMost text segment left
+pub first_place : (text segment left : List ℕ) → LacksCharacter segment any_run → LeavesAfterPrefix text segment left → LeavesMost text segment left
 first_place text segment left lacks leaves = record {
   leaves = (leaves.0, leaves.1, run_takes [] leaves.0 segment leaves.2);
   most = λ other found.
@@ -145,12 +145,12 @@ first_place text segment left lacks leaves = record {
       omega (arith, like_length leaves.0 segment lacks leaves.2, like_length cut.1 segment lacks cut.3, ap length leaves.1, ap length found.1, ap length cut.2, length-append leaves.0 left, length-append found.0 other, length-append cut.0 cut.1);
 }
 
-later_of : (before at : List ℕ) (found : ℕ) (text segment rest left : List ℕ) → text ≡ found ∷ rest → ¬ Leaves text segment left → text ≡ (before ++ at) ++ left → IsLike at segment → Leaves rest (any_run ∷ segment) left
+later_of : (before at : List ℕ) (found : ℕ) (text segment rest left : List ℕ) → text ≡ found ∷ rest → ¬ LeavesAfterPrefix text segment left → text ≡ (before ++ at) ++ left → IsLike at segment → LeavesAfterPrefix rest (any_run ∷ segment) left
 later_of [] at found text segment rest left split none whole like = absurd (none (at, whole, like))
 later_of (x ∷ before) at found text segment rest left split none whole like =
     (before ++ at, cc (split, whole), run_takes before at segment like)
 
-pub later_place : (found : ℕ) (text segment rest left : List ℕ) → text ≡ found ∷ rest → ¬ Leaves text segment left → Leaves text (any_run ∷ segment) left ↔ Leaves rest (any_run ∷ segment) left
+pub later_place : (found : ℕ) (text segment rest left : List ℕ) → text ≡ found ∷ rest → ¬ LeavesAfterPrefix text segment left → LeavesAfterPrefix text (any_run ∷ segment) left ↔ LeavesAfterPrefix rest (any_run ∷ segment) left
 later_place found text segment rest left split none = (
   λ leaves.
       let cut = run_splits leaves.0 segment leaves.2 in
@@ -162,7 +162,7 @@ later_place found text segment rest left split none = (
   ),
 )
 
-pub no_place : (text segment left : List ℕ) → text ≡ [] → ¬ Leaves text segment left → ¬ Leaves text (any_run ∷ segment) left
+pub no_place : (text segment left : List ℕ) → text ≡ [] → ¬ LeavesAfterPrefix text segment left → ¬ LeavesAfterPrefix text (any_run ∷ segment) left
 no_place text segment left ends none leaves =
     let cut = run_splits leaves.0 segment leaves.2 in
     let lengths : (length cut.0 ≡ 0) × (length cut.1 ≡ 0) × (length left ≡ 0) = (
@@ -175,7 +175,7 @@ no_place text segment left ends none leaves =
     none (cut.1, rw (ends, at, over) refl, cut.3)
 
 -- what holds of the places of a text's rest holds of its own where these are the same
-pub places_same : (text rest segment left : List ℕ) → ((other : List ℕ) → Leaves text (any_run ∷ segment) other ↔ Leaves rest (any_run ∷ segment) other) → LeavesMost rest segment left → LeavesMost text segment left
+pub places_same : (text rest segment left : List ℕ) → ((other : List ℕ) → LeavesAfterPrefix text (any_run ∷ segment) other ↔ LeavesAfterPrefix rest (any_run ∷ segment) other) → LeavesMost rest segment left → LeavesMost text segment left
 places_same text rest segment left same most = record {
   leaves = (same left).1 most.leaves;
   most = λ other leaves. most.most other ((same other).0 leaves);

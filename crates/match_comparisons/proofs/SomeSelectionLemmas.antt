@@ -7,8 +7,8 @@ use Rattle.std.proofs.lemmas.Option.{none-some, same_Some}
 use Rattle.serde_json.specs.Data.{Data}
 use Rattle.serde_json.specs.Find.{get, as_str}
 use Rattle.flow_values.specs.Answers.{FindsExactly}
-use Rattle.stix_json.specs.Properties.{text_at}
-use Rattle.stix_bundles.specs.Lookup.{Means}
+use Rattle.stix_json.specs.Properties.{property_text}
+use Rattle.stix_bundles.specs.Lookup.{ResolvesTo}
 use Rattle.pattern_types.specs.declared.path.Path.{Path}
 use Rattle.pattern_types.specs.declared.path.Step.{Step}
 use Rattle.pattern_types.specs.declared.path.Step.TheVariants.{Name, Place, Each}
@@ -19,7 +19,7 @@ use Rattle.match_comparisons.proofs.ReferenceLemmas.{OneMeaning, refers_exactly,
 
 -- each text means a place, or none
 abbrev pub AllMean : List Data → Type 0
-AllMean objects = (text : List ℕ) → (meant : Option ℕ) × Means objects text meant
+AllMean objects = (text : List ℕ) → (meant : Option ℕ) × ResolvesTo objects text meant
 
 decide_end : (suffix name : List ℕ) (answer : Bool) → answer ≡ ends_with nat_eq name suffix → EndsIn suffix name ⊎ (¬ EndsIn suffix name)
 decide_end suffix name true is = inl ((ends_exactly suffix name true is).0 refl)
@@ -39,7 +39,7 @@ decide_reference (Some name) =
     ]
 
 some_place : (objects : List Data) → AllMean objects → (text : Option (List ℕ))
-    → (place : Option ℕ) × MatchOption text (place ≡ None) (λ t. Means objects t place)
+    → (place : Option ℕ) × MatchOption text (place ≡ None) (λ t. ResolvesTo objects t place)
 some_place objects all None = (None, refl)
 some_place objects all (Some text) = all text
 
@@ -82,7 +82,7 @@ some_steps one objects all last (step ∷ steps) value =
     let values = some_joined (StepsSelect objects (last_name last step) steps) (some_steps one objects all (last_name last step) steps) next.0 in
     (values.0, (next.0, next.1, values.1))
 
-root_by : (objects : List Data) (root : ℕ) (kind : List ℕ) (there : Data) → slice_get objects root ≡ Some there → (text : List ℕ) → text_at (codes "type") there ≡ Some text
+root_by : (objects : List Data) (root : ℕ) (kind : List ℕ) (there : Data) → slice_get objects root ≡ Some there → (text : List ℕ) → property_text (codes "type") there ≡ Some text
     → (answer : Bool) → answer ≡ pointwise nat_eq text kind → (found : Option Data) × FindsExactly (IsRoot objects root kind) found
 root_by objects root kind there is text typed true same =
     (Some there, record { there = is; typed = typed ∙ ap Some (same_text text kind same) })
@@ -90,23 +90,23 @@ root_by objects root kind there is text typed false other = (
   None,
   λ found root_is.
       let one = same_Some there found (sym is ∙ root_is.there) in
-      other_text text kind other (same_Some text kind (sym typed ∙ ap (text_at (codes "type")) one ∙ root_is.typed)),
+      other_text text kind other (same_Some text kind (sym typed ∙ ap (property_text (codes "type")) one ∙ root_is.typed)),
 )
 
-root_at : (objects : List Data) (root : ℕ) (kind : List ℕ) (there : Data) → slice_get objects root ≡ Some there → (text : Option (List ℕ)) → text_at (codes "type") there ≡ text
+root_at : (objects : List Data) (root : ℕ) (kind : List ℕ) (there : Data) → slice_get objects root ≡ Some there → (text : Option (List ℕ)) → property_text (codes "type") there ≡ text
     → (found : Option Data) × FindsExactly (IsRoot objects root kind) found
 root_at objects root kind there is None typed = (
   None,
   λ found root_is.
       let one = same_Some there found (sym is ∙ root_is.there) in
-      none-some kind (sym typed ∙ ap (text_at (codes "type")) one ∙ root_is.typed),
+      none-some kind (sym typed ∙ ap (property_text (codes "type")) one ∙ root_is.typed),
 )
 root_at objects root kind there is (Some text) typed = root_by objects root kind there is text typed (pointwise nat_eq text kind) refl
 
 some_root : (objects : List Data) (root : ℕ) (kind : List ℕ) (there : Option Data) → slice_get objects root ≡ there
     → (found : Option Data) × FindsExactly (IsRoot objects root kind) found
 some_root objects root kind None is = (None, λ found root_is. none-some found (sym is ∙ root_is.there))
-some_root objects root kind (Some there) is = root_at objects root kind there is (text_at (codes "type") there) refl
+some_root objects root kind (Some there) is = root_at objects root kind there is (property_text (codes "type") there) refl
 
 from_root : OneMeaning → (objects : List Data) → AllMean objects → (path : Path) (found : Option Data)
     → (values : List Data) × MatchOption found (values ≡ []) (λ root. StepsSelect objects None path.steps root values)

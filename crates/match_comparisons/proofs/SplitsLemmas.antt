@@ -3,12 +3,12 @@ use Rattle.std.proofs.Common.{◌≡◌, ◌↔◌, ◌⊎◌, inl, inr, ℕ, Li
 use Rattle.std.proofs.lemmas.Bool.{false≢true}
 use Rattle.std.specs.Prelude.{Contains}
 use Rattle.match_comparisons.specs.declared.split.Split.{Split}
-use Rattle.match_comparisons.specs.inner.Splits.{Splits, Adds}
+use Rattle.match_comparisons.specs.inner.Splits.{SplitsPositions, AddsToSplit}
 use Rattle.match_comparisons.proofs.ContainsLemmas.{in_more, in_both}
 
 module _ (Fact : ℕ → Type 0) where
-  module _ (asked : List ℕ) (x : ℕ) (old new : Split) (splits : Splits Fact asked old) where
-    one_held : Fact x → new.held.items ≡ old.held.items ++ x ∷ [] → new.failed.items ≡ old.failed.items → Splits Fact (asked ++ x ∷ []) new
+  module _ (asked : List ℕ) (x : ℕ) (old new : Split) (splits : SplitsPositions Fact asked old) where
+    one_held : Fact x → new.held.items ≡ old.held.items ++ x ∷ [] → new.failed.items ≡ old.failed.items → SplitsPositions Fact (asked ++ x ∷ []) new
     one_held holds held failed = record {
       held = λ at has. elim ((in_more old.held.items x at).0 (subst (λ (l : List ℕ). Contains l at) held has)) [
         | inl before ↦ let it = splits.held at before in ((in_more asked x at).1 (inl it.0), it.1)
@@ -26,7 +26,7 @@ module _ (Fact : ℕ → Type 0) where
       ];
     }
 
-    one_failed : (¬ Fact x) → new.held.items ≡ old.held.items → new.failed.items ≡ old.failed.items ++ x ∷ [] → Splits Fact (asked ++ x ∷ []) new
+    one_failed : (¬ Fact x) → new.held.items ≡ old.held.items → new.failed.items ≡ old.failed.items ++ x ∷ [] → SplitsPositions Fact (asked ++ x ∷ []) new
     one_failed fails held failed = record {
       held = λ at has.
           let it = splits.held at (subst (λ (l : List ℕ). Contains l at) held has) in
@@ -44,8 +44,8 @@ module _ (Fact : ℕ → Type 0) where
       ];
     }
 
-  pub one_more : (asked : List ℕ) (x : ℕ) (old new : Split) (holds : Bool) → Splits Fact asked old → IsTrue holds ↔ Fact x → Adds old new x holds
-      → Splits Fact (asked ++ x ∷ []) new
+  pub one_more : (asked : List ℕ) (x : ℕ) (old new : Split) (holds : Bool) → SplitsPositions Fact asked old → IsTrue holds ↔ Fact x → AddsToSplit old new x holds
+      → SplitsPositions Fact (asked ++ x ∷ []) new
   one_more asked x old new true splits exact adds = one_held asked x old new splits (exact.0 refl) adds.0 adds.1
   one_more asked x old new false splits exact adds = one_failed asked x old new splits (λ fact. false≢true (exact.1 fact)) adds.0 adds.1
 
@@ -61,7 +61,7 @@ pub record StillFailed (Some Rest : ℕ → Type 0) (asked held failed : List �
   pub failed_is : (at : ℕ) → Contains failed at → Contains asked at × (Some at ↔ Rest at)
   pub each : (at : ℕ) → Contains asked at → Contains held at ⊎ Contains failed at
 
-module _ (Whole Rest Later Part : ℕ → Type 0) (asked held failed held_new failed_new : List ℕ) (one : Split) (splits : Splits Part held one) where
+module _ (Whole Rest Later Part : ℕ → Type 0) (asked held failed held_new failed_new : List ℕ) (one : Split) (splits : SplitsPositions Part held one) where
   -- an AND goes on with those of which the part holds
   pub all_next : ((at : ℕ) → Rest at ↔ (Part at × Later at)) → StillHeld Whole Rest asked held failed
       → held_new ≡ one.held.items → failed_new ≡ failed ++ one.failed.items → StillHeld Whole Later asked held_new failed_new
@@ -86,7 +86,7 @@ module _ (Whole Rest Later Part : ℕ → Type 0) (asked held failed held_new fa
     ];
   }
 
-module _ (Whole Rest Later Part : ℕ → Type 0) (asked held failed held_new failed_new : List ℕ) (one : Split) (splits : Splits Part failed one) where
+module _ (Whole Rest Later Part : ℕ → Type 0) (asked held failed held_new failed_new : List ℕ) (one : Split) (splits : SplitsPositions Part failed one) where
   -- an OR goes on with those of which the part doesn't hold
   pub some_next : ((at : ℕ) → Rest at ↔ (Part at ⊎ Later at)) → StillFailed Whole Rest asked held failed
       → failed_new ≡ one.failed.items → held_new ≡ held ++ one.held.items → StillFailed Whole Later asked held_new failed_new
@@ -121,14 +121,14 @@ module _ (Whole Rest Later Part : ℕ → Type 0) (asked held failed held_new fa
 
 module _ (Whole Rest : ℕ → Type 0) (asked : List ℕ) (split : Split) where
   -- no part comes any more
-  pub all_over : ((at : ℕ) → Rest at) → StillHeld Whole Rest asked split.held.items split.failed.items → Splits Whole asked split
+  pub all_over : ((at : ℕ) → Rest at) → StillHeld Whole Rest asked split.held.items split.failed.items → SplitsPositions Whole asked split
   all_over over still = record {
     held = λ at has. let it = still.held_is at has in (it.0, it.1.1 (over at));
     failed = still.failed_is;
     all = still.each;
   }
 
-  pub some_over : ((at : ℕ) → ¬ Rest at) → StillFailed Whole Rest asked split.held.items split.failed.items → Splits Whole asked split
+  pub some_over : ((at : ℕ) → ¬ Rest at) → StillFailed Whole Rest asked split.held.items split.failed.items → SplitsPositions Whole asked split
   some_over over still = record {
     held = still.held_is;
     failed = λ at has. let it = still.failed_is at has in (it.0, λ whole. over at (it.1.0 whole));
@@ -136,7 +136,7 @@ module _ (Whole Rest : ℕ → Type 0) (asked : List ℕ) (split : Split) where
   }
 
 -- those of which the fact holds
-pub held_are : (Fact : ℕ → Type 0) (asked held : List ℕ) (split : Split) → Splits Fact asked split → held ≡ split.held.items → (at : ℕ) → Contains held at ↔ (Contains asked at × Fact at)
+pub held_are : (Fact : ℕ → Type 0) (asked held : List ℕ) (split : Split) → SplitsPositions Fact asked split → held ≡ split.held.items → (at : ℕ) → Contains held at ↔ (Contains asked at × Fact at)
 held_are Fact asked held split splits is at = (
   λ has. splits.held at (subst (λ (l : List ℕ). Contains l at) is has),
   λ both. elim (splits.all at both.0) [

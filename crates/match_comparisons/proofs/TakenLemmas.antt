@@ -5,10 +5,10 @@ use Rattle.serde_json.specs.Data.{Data}
 use Rattle.stix_json.specs.declared.value.Json.{Json}
 use Rattle.stix_json.specs.DataOf.{data_of}
 use Rattle.match_comparisons.specs.declared.path_values.PathValues.{PathValues}
-use Rattle.match_comparisons.specs.Remaining.{Left, Gives, Follows, taken_data}
+use Rattle.match_comparisons.specs.Remaining.{Left, Gives, FollowsTaken, taken_data}
 
 pub taken_before : (before after : PathValues) (taken : List (Bor Json)) → Yields Gives before taken after
-    → (values : List Data) → Left before values ↔ Follows (taken_data taken) (Left after) values
+    → (values : List Data) → Left before values ↔ FollowsTaken (taken_data taken) (Left after) values
 taken_before before after [] same values = (
   λ left. (values, refl, subst (λ (w : PathValues). Left w values) same left),
   λ follows. subst (λ (w : PathValues). Left w values) (sym same) (subst (Left after) (sym follows.1) follows.2),

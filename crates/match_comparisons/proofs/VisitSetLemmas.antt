@@ -6,7 +6,7 @@ use Rattle.std.specs.BTreeSet.{contains}
 use Rattle.std.specs.BTreeMap.{is_at}
 use Rattle.std.specs.Ordering.{nat_cmp, ordering_then}
 use Rattle.match_comparisons.specs.declared.visit_set.VisitSet.{VisitSet}
-use Rattle.match_comparisons.specs.inner.VisitSet.{Has}
+use Rattle.match_comparisons.specs.inner.VisitSet.{HasVisit}
 
 -- the order of pairs
 abbrev pub pair_cmp : ℕ × ℕ → ℕ × ℕ → Ordering
@@ -21,8 +21,8 @@ kept new true before is has = is
 kept new false before is has = is ∙ has
 
 pub one_more : (left at : ℕ) (old new : VisitSet)
-    → ((q : ℕ × ℕ) → contains pair_cmp new.pairs q ≡ cond (is_at (pair_cmp (left, at)) q) true (contains pair_cmp old.pairs q)) → Has new left at
-    → (count place : ℕ) → Has new count place ↔ (Has old count place ⊎ ((count ≡ left) × (place ≡ at)))
+    → ((q : ℕ × ℕ) → contains pair_cmp new.pairs q ≡ cond (is_at (pair_cmp (left, at)) q) true (contains pair_cmp old.pairs q)) → HasVisit new left at
+    → (count place : ℕ) → HasVisit new count place ↔ (HasVisit old count place ⊎ ((count ≡ left) × (place ≡ at)))
 one_more left at old new each itself count place =
     let now = contains pair_cmp new.pairs (count, place) in
     let before = contains pair_cmp old.pairs (count, place) in
@@ -36,6 +36,6 @@ one_more left at old new each itself count place =
       ],
       λ some. elim some [
         | inl had ↦ kept now here before is had
-        | inr same ↦ subst (λ (n : ℕ). Has new n place) (sym same.0) (subst (Has new left) (sym same.1) itself)
+        | inr same ↦ subst (λ (n : ℕ). HasVisit new n place) (sym same.0) (subst (HasVisit new left) (sym same.1) itself)
       ],
     )

@@ -13,14 +13,14 @@ any_one = 95
 
 -- a segment of the text fits a character of the pattern: any segment fits `%`, one code point fits
 -- `_`, and any other character fits itself
-pub record Fits (segment : List ℕ) (character : ℕ) : Type 0 where
+pub record FitsCharacter (segment : List ℕ) (character : ℕ) : Type 0 where
   pub one : character ≡ any_one → length segment ≡ 1
   pub itself : character ≢ any_run → character ≢ any_one → segment ≡ character ∷ []
 
 -- as many segments as characters, and each fits its character
 abbrev pub AllFit : List (List ℕ) → List ℕ → Type 0
 AllFit [] [] = Unit {0}
-AllFit (segment ∷ segments) (character ∷ characters) = Fits segment character × AllFit segments characters
+AllFit (segment ∷ segments) (character ∷ characters) = FitsCharacter segment character × AllFit segments characters
 AllFit [] (character ∷ characters) = ⊥
 AllFit (segment ∷ segments) [] = ⊥
 

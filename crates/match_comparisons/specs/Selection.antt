@@ -6,9 +6,9 @@ use Rattle.std.specs.Option.{option_map_or}
 use Rattle.serde_json.specs.Data.{Data}
 use Rattle.serde_json.specs.Find.{get, as_str, as_array}
 use Rattle.flow_values.specs.Answers.{FindsExactly}
-use Rattle.stix_json.specs.Properties.{text_at}
-use Rattle.stix_bundles.specs.Bundle.{listed}
-use Rattle.stix_bundles.specs.Lookup.{Means}
+use Rattle.stix_json.specs.Properties.{property_text}
+use Rattle.stix_bundles.specs.Bundle.{items_in_order}
+use Rattle.stix_bundles.specs.Lookup.{ResolvesTo}
 use Rattle.pattern_types.specs.declared.path.Path.{Path}
 use Rattle.pattern_types.specs.declared.path.Step.{Step}
 use Rattle.pattern_types.specs.declared.path.Step.TheVariants.{Name, Place, Each}
@@ -27,7 +27,7 @@ pub record RefersTo (objects : List Data) (last : Option (List ℕ)) (value : Da
   pub named : IsReference last
   pub text : List ℕ
   pub is_text : as_str value ≡ Some text
-  pub means : Means objects text (Some at)
+  pub means : ResolvesTo objects text (Some at)
 
 -- a name leads to the property of an object, or of the object that a text refers to
 pub data LeadsTo (objects : List Data) (last : Option (List ℕ)) (name : List ℕ) (value : Data) : Data → Type 0 where
@@ -37,7 +37,7 @@ pub data LeadsTo (objects : List Data) (last : Option (List ℕ)) (name : List �
 
 -- the members of a list; anything else has none
 abbrev pub members : Data → List Data
-members value = option_map_or listed (as_array value) []
+members value = option_map_or items_in_order (as_array value) []
 
 -- what one step selects from a value; `last` is the last property name before it
 abbrev pub StepSelects : List Data → Option (List ℕ) → Step → Data → List Data → Type 0
@@ -78,7 +78,7 @@ Reaches objects last (step ∷ steps) value found = (next : Data) × StepReaches
 -- the object at the position, which has the path's type
 pub record IsRoot (objects : List Data) (root : ℕ) (kind : List ℕ) (object : Data) : Type 0 where
   pub there : slice_get objects root ≡ Some object
-  pub typed : text_at (codes "type") object ≡ Some kind
+  pub typed : property_text (codes "type") object ≡ Some kind
 
 -- what a path selects from the object at a position: nothing where that has another type
 abbrev pub Selects : List Data → ℕ → Path → List Data → Type 0

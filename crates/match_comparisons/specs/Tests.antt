@@ -11,7 +11,7 @@ use Rattle.base64.specs.Engines.{standard}
 use Rattle.base64.specs.GeneralPurpose.{encode_of, IsBytes}
 use Rattle.serde_json.specs.Data.{Data, number}
 use Rattle.serde_json.specs.Find.{as_str, as_bool, of_integer}
-use Rattle.stix_times.specs.Reading.{IsTextOf}
+use Rattle.stix_times.specs.Reading.{IsTextOfInstant}
 use Rattle.pattern_types.specs.declared.constant.Constant.{Constant}
 use Rattle.pattern_types.specs.declared.constant.Constant.TheVariants.{Integer, String, Boolean, Hex, Binary, Timestamp}
 use Rattle.pattern_types.specs.declared.check.Check.{Check}
@@ -26,8 +26,8 @@ use Rattle.pattern_types.specs.BlockText.{IsBlockText}
 use Rattle.match_comparisons.specs.Selection.{EndsIn, last_name, IsRoot, IsSelected}
 
 -- the last property name of a path
-abbrev pub last_of : Path → Option (List ℕ)
-last_of path = fold last_name None path.steps
+abbrev pub last_property : Path → Option (List ℕ)
+last_property path = fold last_name None path.steps
 
 -- the bytes that a text encodes, by the name of its property
 abbrev pub IsBytesOf : Option (List ℕ) → List ℕ → List ℕ → Type 0
@@ -47,7 +47,7 @@ abbrev pub Compares : Option (List ℕ) → Data → Constant → Ordering → T
 Compares last value (Integer whole) order = (m : ℤ) × (value ≡ number (of_integer m)) × (order ≡ int_cmp m whole)
 Compares last value (String words) order = (text : List ℕ) × (as_str value ≡ Some text) × (order ≡ slice_cmp nat_cmp text words)
 Compares last value (Boolean truth) order = (b : Bool) × (as_bool value ≡ Some b) × (order ≡ bool_cmp b truth)
-Compares last value (Timestamp instant) order = (text : List ℕ) × (i : ℤ) × (as_str value ≡ Some text) × IsTextOf text i
+Compares last value (Timestamp instant) order = (text : List ℕ) × (i : ℤ) × (as_str value ≡ Some text) × IsTextOfInstant text i
     × (order ≡ int_cmp i instant)
 Compares last value (Hex bytes) order = BytesCompare last value bytes order
 Compares last value (Binary bytes) order = BytesCompare last value bytes order
@@ -57,18 +57,18 @@ abbrev pub IsBlockOf : Data → Block → Type 0
 IsBlockOf value block = (text : List ℕ) × (as_str value ≡ Some text) × IsBlockText text block
 
 -- the value meets the check: one line for each operator
-abbrev pub Meets : Option (List ℕ) → Data → Check → Type 0
-Meets last value (Equal constant) = Compares last value constant order.Equal
-Meets last value (Differ constant) = ¬ (Compares last value constant order.Equal)
-Meets last value (Less constant) = Compares last value constant order.Less
-Meets last value (LessEqual constant) = Compares last value constant order.Less ⊎ Compares last value constant order.Equal
-Meets last value (Greater constant) = Compares last value constant order.Greater
-Meets last value (GreaterEqual constant) = Compares last value constant order.Greater ⊎ Compares last value constant order.Equal
-Meets last value (Among constants) = (constant : Constant) × Contains constants constant × Compares last value constant order.Equal
-Meets last value (Like pattern) = (text : List ℕ) × (as_str value ≡ Some text) × IsLike (chars text) (chars pattern)
-Meets last value (Subset address) = (block : Block) × IsBlockOf value block × IsWithin block address.block
-Meets last value (Superset address) = (block : Block) × IsBlockOf value block × IsWithin address.block block
-Meets last value Exists = ⊤
+abbrev pub MeetsCheck : Option (List ℕ) → Data → Check → Type 0
+MeetsCheck last value (Equal constant) = Compares last value constant order.Equal
+MeetsCheck last value (Differ constant) = ¬ (Compares last value constant order.Equal)
+MeetsCheck last value (Less constant) = Compares last value constant order.Less
+MeetsCheck last value (LessEqual constant) = Compares last value constant order.Less ⊎ Compares last value constant order.Equal
+MeetsCheck last value (Greater constant) = Compares last value constant order.Greater
+MeetsCheck last value (GreaterEqual constant) = Compares last value constant order.Greater ⊎ Compares last value constant order.Equal
+MeetsCheck last value (Among constants) = (constant : Constant) × Contains constants constant × Compares last value constant order.Equal
+MeetsCheck last value (Like pattern) = (text : List ℕ) × (as_str value ≡ Some text) × IsLike (chars text) (chars pattern)
+MeetsCheck last value (Subset address) = (block : Block) × IsBlockOf value block × IsWithin block address.block
+MeetsCheck last value (Superset address) = (block : Block) × IsBlockOf value block × IsWithin address.block block
+MeetsCheck last value Exists = ⊤
 
 -- NOT negates a fact
 abbrev pub NegatedIf : Bool → Type 0 → Type 0
@@ -77,7 +77,7 @@ NegatedIf true Fact = ¬ Fact
 
 -- a negated test negates the answer for each value, whatever its kind
 abbrev pub MeetsTest : Option (List ℕ) → Data → Test → Type 0
-MeetsTest last value test = NegatedIf test.negated (Meets last value test.check)
+MeetsTest last value test = NegatedIf test.negated (MeetsCheck last value test.check)
 
 -- the test is NOT EXISTS
 abbrev pub IsAbsence : Test → Type 0
@@ -85,7 +85,7 @@ IsAbsence test = (test.check ≡ Exists) × IsTrue test.negated
 
 -- the path selects some value that meets the test
 abbrev pub SomeMeets : List Data → ℕ → Test → Type 0
-SomeMeets objects root test = (value : Data) × IsSelected objects root test.path value × MeetsTest (last_of test.path) value test
+SomeMeets objects root test = (value : Data) × IsSelected objects root test.path value × MeetsTest (last_property test.path) value test
 
 -- the object at the position has the path's type, and for NOT EXISTS the path selects nothing, for any other test some
 -- value that meets it

@@ -1,7 +1,7 @@
 //! CIDR blocks, for `ISSUBSET` and `ISSUPERSET` (STIX 2.1, section 9.6.1).
 
 ghost use Rattle.std.specs.Prelude.{◌≡◌, ◌↔◌, Some, IfSome, IsTrue};
-ghost use Rattle.pattern_types.specs.Block.{IsValid, IsWithin};
+ghost use Rattle.pattern_types.specs.Block.{IsValidBlock, IsWithin};
 ghost use Rattle.pattern_types.specs.declared.block.Block.{Block};
 ghost use Rattle.stix_json.specs.DataOf.{data_of};
 ghost use Rattle.match_comparisons.specs.Tests.{IsBlockOf};
@@ -12,7 +12,7 @@ use stix_json::{Json, text_of};
 /// The block that a value spells, if it does.
 fn block_of(value: &Json) -> Option<Block>
     ensures exact { (block : Block) → (result ≡ Some block) ↔ IsBlockOf (data_of value.now) block }
-    ensures valid { IfSome result IsValid }
+    ensures valid { IfSome result IsValidBlock }
 {
     match text_of(value) {
         Some(text) => read_block(text),
@@ -22,7 +22,7 @@ fn block_of(value: &Json) -> Option<Block>
 
 /// Whether a value spells a block that lies in `outer`.
 pub(crate) fn lies_in(value: &Json, outer: &Block) -> bool
-    requires { IsValid outer.now }
+    requires { IsValidBlock outer.now }
     ensures { IsTrue result ↔ ((block : Block) × IsBlockOf (data_of value.now) block
         × IsWithin block outer.now) }
 {
@@ -34,7 +34,7 @@ pub(crate) fn lies_in(value: &Json, outer: &Block) -> bool
 
 /// Whether a value spells a block in which `inner` lies.
 pub(crate) fn holds_block(value: &Json, inner: &Block) -> bool
-    requires { IsValid inner.now }
+    requires { IsValidBlock inner.now }
     ensures { IsTrue result ↔ ((block : Block) × IsBlockOf (data_of value.now) block
         × IsWithin inner.now block) }
 {

@@ -6,7 +6,7 @@ ghost use Rattle.base64.specs.Engines.{standard};
 ghost use Rattle.base64.specs.GeneralPurpose.{encode_of, IsBytes};
 ghost use Rattle.stix_json.specs.DataOf.{data_of};
 ghost use Rattle.match_comparisons.specs.Tests.{IsBytesOf};
-ghost use Rattle.match_comparisons.specs.inner.Bytes.{Represents};
+ghost use Rattle.match_comparisons.specs.inner.Bytes.{EncodesBytes};
 
 use crate::ends_in;
 use base64::DecodeAllocError;
@@ -23,7 +23,7 @@ pub(crate) fn bytes_in(
     last: Option<&str>,
     value: &Json,
 ) -> Result<Option<Items<u8>>, NoMemory>
-    ensures { IfOk result (Represents (option_map (λ name. name.now) last.entry)
+    ensures { IfOk result (EncodesBytes (option_map (λ name. name.now) last.entry)
         (data_of value.now)) }
 {
     match text_of(value) {

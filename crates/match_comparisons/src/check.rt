@@ -5,8 +5,8 @@ ghost use Rattle.std.specs.declared.cmp.Ordering.TheVariants.{Equal};
 ghost use Rattle.stix_json.specs.DataOf.{data_of};
 ghost use Rattle.pattern_types.specs.declared.check.Check.TheVariants.{Among, Like};
 ghost use Rattle.pattern_types.specs.Soundness.{IsSoundCheck};
-ghost use Rattle.match_comparisons.specs.Tests.{Compares, Meets, NegatedIf};
-ghost use Rattle.match_comparisons.specs.inner.Bytes.{Represents};
+ghost use Rattle.match_comparisons.specs.Tests.{Compares, MeetsCheck, NegatedIf};
+ghost use Rattle.match_comparisons.specs.inner.Bytes.{EncodesBytes};
 
 use crate::block::{holds_block, lies_in};
 use crate::bytes::bytes_in;
@@ -29,7 +29,7 @@ pub(crate) fn meets_unless_negated(
 ) -> Result<bool, NoMemory>
     requires { IsSoundCheck check.now }
     ensures { IfOk result (λ met. IsTrue met
-        ↔ NegatedIf negated (Meets (option_map (λ name. name.now) last.entry)
+        ↔ NegatedIf negated (MeetsCheck (option_map (λ name. name.now) last.entry)
         (data_of value.now) check.now)) }
 {
     let met = meets(alloc, last, value, check)?;
@@ -40,7 +40,7 @@ pub(crate) fn meets_unless_negated(
 fn meets(alloc: Global, last: Option<&str>, value: &Json, check: &Check) -> Result<bool, NoMemory>
     requires { IsSoundCheck check.now }
     ensures { IfOk result (λ met. IsTrue met
-        ↔ Meets (option_map (λ name. name.now) last.entry) (data_of value.now) check.now) }
+        ↔ MeetsCheck (option_map (λ name. name.now) last.entry) (data_of value.now) check.now) }
 {
     match check {
         Check::Equal(constant) => compares(alloc, last, value, constant, Ordering::Equal),
@@ -92,7 +92,7 @@ fn compares_so(
     constant: &Constant,
     expected: Ordering,
 ) -> bool
-    ensures { (last : Option (List ℕ)) → Represents last (data_of value.now) own.now
+    ensures { (last : Option (List ℕ)) → EncodesBytes last (data_of value.now) own.now
         → IsTrue result ↔ Compares last (data_of value.now) constant.now expected }
 {
     compared(value, own, constant) == Some(expected)
@@ -125,7 +125,7 @@ fn equals_some(
     constants: &[Constant],
 ) -> Result<bool, NoMemory>
     ensures { IfOk result (λ met. IsTrue met
-        ↔ Meets (option_map (λ name. name.now) last.entry) (data_of value.now)
+        ↔ MeetsCheck (option_map (λ name. name.now) last.entry) (data_of value.now)
         (Among constants.now)) }
 {
     let own = bytes_in(alloc, last, value)?;
@@ -134,8 +134,8 @@ fn equals_some(
 
 /// Whether it does, given the bytes that the value encodes.
 fn is_among(value: &Json, own: &Option<Items<u8>>, constants: &[Constant]) -> bool
-    ensures { (last : Option (List ℕ)) → Represents last (data_of value.now) own.now
-        → IsTrue result ↔ Meets last (data_of value.now) (Among constants.now) }
+    ensures { (last : Option (List ℕ)) → EncodesBytes last (data_of value.now) own.now
+        → IsTrue result ↔ MeetsCheck last (data_of value.now) (Among constants.now) }
 {
     for constant in constants {
         if compares_so(value, own, constant, Ordering::Equal) {
@@ -148,7 +148,7 @@ fn is_among(value: &Json, own: &Option<Items<u8>>, constants: &[Constant]) -> bo
 /// Whether a value is a text that matches the LIKE pattern.
 fn is_like(value: &Json, pattern: &str) -> bool
     ensures { (last : Option (List ℕ)) → IsTrue result
-        ↔ Meets last (data_of value.now) (Like pattern.now) }
+        ↔ MeetsCheck last (data_of value.now) (Like pattern.now) }
 {
     match text_of(value) {
         Some(text) => like(text, pattern),

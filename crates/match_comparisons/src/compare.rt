@@ -4,12 +4,12 @@ ghost use Rattle.std.specs.Prelude.{◌≡◌, ◌↔◌, ℕ, ℤ, List, Option
 ghost use Rattle.std.specs.Cmp.Lexicographic.{slice_cmp};
 ghost use Rattle.std.specs.Ordering.{int_cmp, nat_cmp};
 ghost use Rattle.std.specs.declared.cmp.Ordering.{Ordering};
-ghost use Rattle.stix_times.specs.Reading.{IsTextOf};
+ghost use Rattle.stix_times.specs.Reading.{IsTextOfInstant};
 ghost use Rattle.stix_json.specs.DataOf.{data_of};
 ghost use Rattle.pattern_types.specs.declared.constant.Constant.TheVariants.{Integer, String};
 ghost use Rattle.pattern_types.specs.declared.constant.Constant.TheVariants.{Boolean, Timestamp};
 ghost use Rattle.match_comparisons.specs.Tests.{Compares};
-ghost use Rattle.match_comparisons.specs.inner.Bytes.{Represents};
+ghost use Rattle.match_comparisons.specs.inner.Bytes.{EncodesBytes};
 
 use flow_values::Items;
 use pattern_types::Constant;
@@ -24,7 +24,7 @@ pub(crate) fn compared(
     own: &Option<Items<u8>>,
     constant: &Constant,
 ) -> Option<Ordering>
-    ensures { (last : Option (List ℕ)) → Represents last (data_of value.now) own.now
+    ensures { (last : Option (List ℕ)) → EncodesBytes last (data_of value.now) own.now
         → (order : Ordering) → Compares last (data_of value.now) constant.now order
         ↔ (result ≡ Some order) }
 {
@@ -84,7 +84,7 @@ fn compared_instant(value: &Json, instant: Instant) -> Option<Ordering>
 
 /// The order of the instant that a text spells to another. None where it spells none.
 fn compared_time(text: &str, instant: Instant) -> Option<Ordering>
-    ensures { (order : Ordering) → ((i : ℤ) × IsTextOf text.now i × (order ≡ int_cmp i instant))
+    ensures { (order : Ordering) → ((i : ℤ) × IsTextOfInstant text.now i × (order ≡ int_cmp i instant))
         ↔ (result ≡ Some order) }
 {
     match read(text) {

@@ -6,11 +6,11 @@ ghost use Rattle.std.specs.Borrow.{Bor};
 ghost use Rattle.std.specs.Iterator.{Yields, Drains};
 ghost use Rattle.serde_json.specs.Data.{Data};
 ghost use Rattle.stix_json.specs.declared.value.Json.{Json};
-ghost use Rattle.stix_bundles.specs.Lookup.{Means};
+ghost use Rattle.stix_bundles.specs.Lookup.{ResolvesTo};
 ghost use Rattle.pattern_types.specs.declared.path.Path.{Path};
 ghost use Rattle.match_comparisons.specs.declared.path_values.PathValues.{PathValues};
 ghost use Rattle.match_comparisons.specs.Selection.{RefersTo, LeadsTo, Selects, IsSelected};
-ghost use Rattle.match_comparisons.specs.Remaining.{Left, Gives, taken_data, Follows};
+ghost use Rattle.match_comparisons.specs.Remaining.{Left, Gives, taken_data, FollowsTaken};
 
 use stix_bundles::laws::one_meaning;
 
@@ -20,7 +20,7 @@ pub fn one_selection()
     ensures one { (objects : List Data) (root : ℕ) (path : Path) (first second : List Data)
         → Selects objects root path first → Selects objects root path second → first ≡ second }
     ensures some { (objects : List Data)
-        → ((text : List ℕ) → (meant : Option ℕ) × Means objects text meant)
+        → ((text : List ℕ) → (meant : Option ℕ) × ResolvesTo objects text meant)
         → (root : ℕ) (path : Path) → (values : List Data) × Selects objects root path values }
 {
     one_meaning();
@@ -52,7 +52,7 @@ pub fn taken_first()
     ensures before { (before after : PathValues) (taken : List (Bor Json))
         → Yields Gives before taken after
         → (values : List Data) → Left before values
-        ↔ Follows (taken_data taken) (Left after) values }
+        ↔ FollowsTaken (taken_data taken) (Left after) values }
     ensures whole { (before : PathValues) (taken : List (Bor Json)) → Drains Gives before taken
         → Left before (taken_data taken) }
 {}

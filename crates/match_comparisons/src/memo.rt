@@ -1,5 +1,5 @@
 ghost use Rattle.std.specs.Prelude.{◌≡◌, ◌↔◌, ◌⊎◌, ℕ, Some, true, false, OnOk};
-ghost use Rattle.match_comparisons.specs.inner.VisitSet.{Has};
+ghost use Rattle.match_comparisons.specs.inner.VisitSet.{HasVisit};
 
 use crate::visit_set::VisitSet;
 use flow_values::NoMemory;
@@ -15,8 +15,8 @@ pub(crate) struct SearchMemo {
 impl SearchMemo {
     /// An empty memo.
     pub(crate) fn new(alloc: Global) -> SearchMemo
-        ensures { (left at : ℕ) → (¬ Has result.positive left at)
-            × (¬ Has result.negative left at) }
+        ensures { (left at : ℕ) → (¬ HasVisit result.positive left at)
+            × (¬ HasVisit result.negative left at) }
     {
         SearchMemo {
             positive: VisitSet::new(alloc),
@@ -27,8 +27,8 @@ impl SearchMemo {
     /// Whether the search finds a value from the object at this position with `left` steps left.
     /// None where that isn't known yet.
     pub(crate) fn known(&self, left: usize, at: u32) -> Option<bool>
-        ensures positive { result ≡ Some true → Has self.now.positive left at }
-        ensures negative { result ≡ Some false → Has self.now.negative left at }
+        ensures positive { result ≡ Some true → HasVisit self.now.positive left at }
+        ensures negative { result ≡ Some false → HasVisit self.now.negative left at }
     {
         if self.positive.has(left, at) {
             Some(true)
@@ -41,11 +41,11 @@ impl SearchMemo {
 
     /// Adds a finding.
     pub(crate) fn add(&mut self, left: usize, at: u32, found: bool) -> Result<(), NoMemory>
-        ensures positive { OnOk result ((count place : ℕ) → Has self.new.positive count place
-            → (Has self.old.positive count place
+        ensures positive { OnOk result ((count place : ℕ) → HasVisit self.new.positive count place
+            → (HasVisit self.old.positive count place
             ⊎ ((found ≡ true) × (count ≡ left) × (place ≡ at)))) }
-        ensures negative { OnOk result ((count place : ℕ) → Has self.new.negative count place
-            → (Has self.old.negative count place
+        ensures negative { OnOk result ((count place : ℕ) → HasVisit self.new.negative count place
+            → (HasVisit self.old.negative count place
             ⊎ ((found ≡ false) × (count ≡ left) × (place ≡ at)))) }
     {
         if found {

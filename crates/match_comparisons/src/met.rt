@@ -7,8 +7,8 @@ ghost use Rattle.stix_json.specs.Ordered.{IsOrdered};
 ghost use Rattle.stix_bundles.specs.Objects.{data_in};
 ghost use Rattle.pattern_types.specs.Soundness.{IsSoundTest};
 ghost use Rattle.match_comparisons.specs.Selection.{Reaches};
-ghost use Rattle.match_comparisons.specs.Tests.{TestHolds, NegatedIf, Meets, last_of};
-ghost use Rattle.match_comparisons.specs.inner.Search.{IsSoundMemo, IsSearchOf};
+ghost use Rattle.match_comparisons.specs.Tests.{TestHolds, NegatedIf, MeetsCheck, last_property};
+ghost use Rattle.match_comparisons.specs.inner.Search.{IsSoundSearchMemo, IsSearchOf};
 
 use crate::memo::SearchMemo;
 use crate::root_of;
@@ -43,10 +43,10 @@ pub(crate) fn meets_test(
 ) -> Result<bool, NoMemory>
     requires sound { IsSoundTest test.now }
     requires is { IsSearchOf test.now search.now }
-    requires right { IsSoundMemo search.now memo.old }
+    requires right { IsSoundSearchMemo search.now memo.old }
     ensures holds { IfOk result (λ holds. IsTrue holds
         ↔ TestHolds (data_in search.now.bundle.now) root test.now) }
-    ensures right { OnOk result (IsSoundMemo search.now memo.new) }
+    ensures right { OnOk result (IsSoundSearchMemo search.now memo.new) }
 {
     let Some(object) = root_of(search.bundle, root, test.path.kind.as_str()) else {
         return Ok(false);
@@ -68,13 +68,13 @@ fn is_reached(
 ) -> Result<bool, NoMemory>
     requires sound { IsSoundTest test.now }
     requires is { IsSearchOf test.now search.now }
-    requires right { IsSoundMemo search.now memo.old }
+    requires right { IsSoundSearchMemo search.now memo.old }
     requires ordered { IsOrdered (data_of object.now) }
     ensures found { IfOk result (λ found. IsTrue found
         ↔ ((value : Data) × Reaches (data_in search.now.bundle.now) None test.now.path.steps
         (data_of object.now) value
-        × NegatedIf search.now.negated (Meets (last_of test.now.path) value test.now.check))) }
-    ensures right { OnOk result (IsSoundMemo search.now memo.new) }
+        × NegatedIf search.now.negated (MeetsCheck (last_property test.now.path) value test.now.check))) }
+    ensures right { OnOk result (IsSoundSearchMemo search.now memo.new) }
 {
     finds(search, memo, None, search.steps, object)
 }

@@ -4,9 +4,9 @@ ghost use Rattle.std.specs.Prelude.{◌↔◌, List};
 ghost use Rattle.std.specs.Iterator.{at_most};
 ghost use Rattle.serde_json.specs.Data.{Data};
 ghost use Rattle.stix_bundles.specs.Objects.{data_in};
-ghost use Rattle.pattern_types.specs.Soundness.{IsShort};
+ghost use Rattle.pattern_types.specs.Soundness.{IsShortPath};
 ghost use Rattle.match_comparisons.specs.Selection.{Selects};
-ghost use Rattle.match_comparisons.specs.Remaining.{Left, IsReady, Gives, most_left};
+ghost use Rattle.match_comparisons.specs.Remaining.{Left, IsReadyPathValues, Gives, most_left};
 
 use crate::frame::{Frame, Frames};
 use crate::root::root_of;
@@ -27,7 +27,7 @@ pub struct PathValues<'a> {
 impl<'a> Iterator for PathValues<'a> {
     type Item = &'a Json;
 
-    ghost can_next = { IsReady };
+    ghost can_next = { IsReadyPathValues };
 
     ghost next_gives = { Gives };
 
@@ -40,8 +40,8 @@ impl<'a> Iterator for PathValues<'a> {
 
 /// The values that a path selects, from the object at this position. Takes no memory.
 pub fn values<'a>(bundle: &'a Bundle, root: u32, path: &'a Path) -> PathValues<'a>
-    requires { IsShort path.now }
-    ensures ready { IsReady result }
+    requires { IsShortPath path.now }
+    ensures ready { IsReadyPathValues result }
     ensures all { (values : List Data) → Left result values
         ↔ Selects (data_in bundle.now) root path.now values }
 {

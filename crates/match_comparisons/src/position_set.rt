@@ -1,5 +1,5 @@
 ghost use Rattle.std.specs.Prelude.{◌≡◌, ◌↔◌, ◌⊎◌, ℕ, IsTrue, IfOk, OnOk};
-ghost use Rattle.match_comparisons.specs.inner.PositionSet.{IsIn};
+ghost use Rattle.match_comparisons.specs.inner.PositionSet.{IsInPositions};
 
 use flow_values::NoMemory;
 use std::alloc::Global;
@@ -14,7 +14,7 @@ pub(crate) struct PositionSet {
 impl PositionSet {
     /// The empty set.
     pub(crate) fn new(alloc: Global) -> PositionSet
-        ensures { (at : ℕ) → ¬ IsIn result at }
+        ensures { (at : ℕ) → ¬ IsInPositions result at }
     {
         PositionSet {
             set: BTreeSet::new(alloc),
@@ -23,16 +23,16 @@ impl PositionSet {
 
     /// Whether a position is in the set.
     pub(crate) fn has(&self, at: u32) -> bool
-        ensures { IsTrue result ↔ IsIn self.now at }
+        ensures { IsTrue result ↔ IsInPositions self.now at }
     {
         self.set.contains(&at)
     }
 
     /// Adds a position: whether it is new.
     pub(crate) fn add(&mut self, at: u32) -> Result<bool, NoMemory>
-        ensures new { IfOk result (λ new. IsTrue new ↔ (¬ IsIn self.old at)) }
-        ensures added { OnOk result ((place : ℕ) → IsIn self.new place
-            ↔ (IsIn self.old place ⊎ (place ≡ at))) }
+        ensures new { IfOk result (λ new. IsTrue new ↔ (¬ IsInPositions self.old at)) }
+        ensures added { OnOk result ((place : ℕ) → IsInPositions self.new place
+            ↔ (IsInPositions self.old place ⊎ (place ≡ at))) }
     {
         let new = self.set.insert(at)?;
         Ok(new)

@@ -2,7 +2,7 @@ ghost use Rattle.std.specs.Prelude.{◌≡◌, ◌↔◌, IsTrue, Some, IfSome, 
 ghost use Rattle.flow_values.specs.Answers.{FindsExactly};
 ghost use Rattle.stix_json.specs.DataOf.{data_of};
 ghost use Rattle.stix_json.specs.Ordered.{IsOrdered};
-ghost use Rattle.stix_json.specs.Properties.{text_at};
+ghost use Rattle.stix_json.specs.Properties.{property_text};
 ghost use Rattle.stix_bundles.specs.Objects.{data_in};
 ghost use Rattle.match_comparisons.specs.Selection.{IsRoot};
 
@@ -27,7 +27,7 @@ pub fn root_of<'a>(bundle: &'a Bundle, root: u32, kind: &str) -> Option<&'a Json
 /// Whether an object has this type.
 fn is_typed(object: &Json, kind: &str) -> bool
     requires { IsOrdered (data_of object.now) }
-    ensures { IsTrue result ↔ (text_at (codes "type") (data_of object.now) ≡ Some kind.now) }
+    ensures { IsTrue result ↔ (property_text (codes "type") (data_of object.now) ≡ Some kind.now) }
 {
     match get_ordered(object, "type") {
         Some(value) => text_of(value) == Some(kind),

@@ -3,7 +3,7 @@ ghost use Rattle.stix_bundles.specs.Objects.{data_in};
 ghost use Rattle.pattern_types.specs.PlainLeaf.{plain_leaf};
 ghost use Rattle.pattern_types.specs.PlainPattern.{plain_pattern, a_leaf};
 ghost use Rattle.pattern_types.specs.Soundness.{IsSoundLeaf, IsSoundPattern};
-ghost use Rattle.match_comparisons.specs.inner.PositionSet.{IsIn, AreOf};
+ghost use Rattle.match_comparisons.specs.inner.PositionSet.{IsInPositions, AreOf};
 ghost use Rattle.match_comparisons.specs.inner.Roots.{IsSomeRoot};
 ghost use Rattle.match_comparisons.specs.inner.Rows.{AddsTruths};
 
@@ -83,7 +83,7 @@ fn positions_of(alloc: Global, list: &[u32]) -> Result<PositionSet, NoMemory>
 
 /// Whether one of the roots is in the set.
 fn has_some(position_set: &PositionSet, roots: &[u32]) -> bool
-    ensures { IsTrue result ↔ ((root : ℕ) × Contains roots.now root × IsIn position_set.now root) }
+    ensures { IsTrue result ↔ ((root : ℕ) × Contains roots.now root × IsInPositions position_set.now root) }
 {
     for root in roots {
         if position_set.has(*root) {

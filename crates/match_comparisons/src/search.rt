@@ -11,8 +11,9 @@ ghost use Rattle.stix_json.specs.Ordered.{IsOrdered};
 ghost use Rattle.stix_bundles.specs.Objects.{data_in};
 ghost use Rattle.pattern_types.specs.declared.path.Step.{Step};
 ghost use Rattle.match_comparisons.specs.Tests.{IsAbsence};
-ghost use Rattle.match_comparisons.specs.inner.Search.{name_of, Finds, SomeFinds, FindsAt};
-ghost use Rattle.match_comparisons.specs.inner.Search.{IsSoundMemo, IsSearchState, IsSearchOf};
+ghost use Rattle.match_comparisons.specs.inner.Search.{borrowed_name, Finds, SomeFinds, FindsAt};
+ghost use Rattle.match_comparisons.specs.inner.Search.{IsSoundSearchMemo, IsSearchState};
+ghost use Rattle.match_comparisons.specs.inner.Search.{IsSearchOf};
 
 use crate::check::meets_unless_negated;
 use crate::last::last_name;
@@ -80,9 +81,9 @@ pub(crate) fn finds(
     requires before { IsSearchState search.now steps.now memo.old }
     requires ordered { IsOrdered (data_of value.now) }
     ensures found { IfOk result (λ found. IsTrue found
-        ↔ Finds search.now (name_of last.entry) steps.now (data_of value.now)) }
+        ↔ Finds search.now (borrowed_name last.entry) steps.now (data_of value.now)) }
     // The memo stays sound, so it can serve the next root.
-    ensures right { OnOk result (IsSoundMemo search.now memo.new) }
+    ensures right { OnOk result (IsSoundSearchMemo search.now memo.new) }
 {
     let Some((step, rest)) = steps.split_first() else {
         return meets_unless_negated(
@@ -103,7 +104,7 @@ pub(crate) fn finds(
 /// The position of the referenced object, where the step leads through a reference.
 fn referred(search: &Search<'_>, last: Option<&str>, step: &Step, value: &Json) -> Option<u32>
     ensures { IfSome result (λ at. (rest : List Step)
-        → Finds search.now (name_of last.entry) (step.now ∷ rest) (data_of value.now)
+        → Finds search.now (borrowed_name last.entry) (step.now ∷ rest) (data_of value.now)
         ↔ FindsAt search.now (step.now ∷ rest) at) }
 {
     same_lead();
@@ -125,8 +126,8 @@ fn some_finds(
     requires before { IsSearchState search.now steps.now memo.old }
     requires ordered { All IsOrdered (data_in values.now) }
     ensures found { IfOk result (λ found. IsTrue found
-        ↔ SomeFinds search.now (name_of last.entry) steps.now (data_in values.now)) }
-    ensures right { OnOk result (IsSoundMemo search.now memo.new) }
+        ↔ SomeFinds search.now (borrowed_name last.entry) steps.now (data_in values.now)) }
+    ensures right { OnOk result (IsSoundSearchMemo search.now memo.new) }
 {
     for value in values {
         if finds(search, memo, last, steps, value)? {
@@ -149,7 +150,7 @@ fn finds_at(
     requires { IsSearchState search.now (step.now ∷ rest.now) memo.old }
     ensures found { IfOk result (λ found. IsTrue found
         ↔ FindsAt search.now (step.now ∷ rest.now) at) }
-    ensures right { OnOk result (IsSoundMemo search.now memo.new) }
+    ensures right { OnOk result (IsSoundSearchMemo search.now memo.new) }
 {
     if let Some(found) = memo.known(rest.len(), at) {
         return Ok(found);

@@ -2,14 +2,15 @@
 ghost use Rattle.std.specs.Prelude.{◌↔◌, ◌∷◌, List, ℕ, MatchOption, IsTrue};
 ghost use Rattle.std.specs.Str.{chars};
 ghost use Rattle.match_comparisons.specs.Like.{any_run, IsLike};
-ghost use Rattle.match_comparisons.specs.inner.Segments.{Lacks, Leaves, LeavesMost};
+ghost use Rattle.match_comparisons.specs.inner.Segments.{LacksCharacter, LeavesAfterPrefix};
+ghost use Rattle.match_comparisons.specs.inner.Segments.{LeavesMost};
 
 use crate::characters::{split_first, split_last};
 use crate::wildcards::ANY_ONE;
 
 /// Whether the whole text matches the segment.
 pub(crate) fn is_like_segment(text: &str, segment: &str) -> bool
-    requires { Lacks (chars segment.now) any_run }
+    requires { LacksCharacter (chars segment.now) any_run }
     ensures { IsTrue result ↔ IsLike (chars text.now) (chars segment.now) }
 {
     match strip_front(text, segment) {
@@ -20,10 +21,10 @@ pub(crate) fn is_like_segment(text: &str, segment: &str) -> bool
 
 /// The text after a prefix that matches the segment, if there is one.
 pub(crate) fn strip_front<'a>(whole_text: &'a str, whole_segment: &str) -> Option<&'a str>
-    requires { Lacks (chars whole_segment.now) any_run }
+    requires { LacksCharacter (chars whole_segment.now) any_run }
     ensures { MatchOption result ((left : List ℕ)
-        → ¬ Leaves (chars whole_text.now) (chars whole_segment.now) left)
-        (λ left. Leaves (chars whole_text.now) (chars whole_segment.now) (chars left.now)) }
+        → ¬ LeavesAfterPrefix (chars whole_text.now) (chars whole_segment.now) left)
+        (λ left. LeavesAfterPrefix (chars whole_text.now) (chars whole_segment.now) (chars left.now)) }
 {
     let mut text = whole_text;
     let mut segment = whole_segment;
@@ -40,10 +41,10 @@ pub(crate) fn strip_front<'a>(whole_text: &'a str, whole_segment: &str) -> Optio
 
 /// The text after the first match of the segment, as after a `%`.
 pub(crate) fn after_first_match<'a>(text: &'a str, segment: &str) -> Option<&'a str>
-    requires { Lacks (chars segment.now) any_run }
+    requires { LacksCharacter (chars segment.now) any_run }
     // The first match leaves the most text. None: no match at all.
     ensures { MatchOption result ((left : List ℕ)
-        → ¬ Leaves (chars text.now) (any_run ∷ chars segment.now) left)
+        → ¬ LeavesAfterPrefix (chars text.now) (any_run ∷ chars segment.now) left)
         (λ left. LeavesMost (chars text.now) (chars segment.now) (chars left.now)) }
 {
     if segment.contains(ANY_ONE) {
@@ -55,9 +56,9 @@ pub(crate) fn after_first_match<'a>(text: &'a str, segment: &str) -> Option<&'a 
 
 /// As `after_first_match`, also with `_` in the segment: tries each character in turn.
 fn scan_first_match<'a>(whole_text: &'a str, segment: &str) -> Option<&'a str>
-    requires { Lacks (chars segment.now) any_run }
+    requires { LacksCharacter (chars segment.now) any_run }
     ensures { MatchOption result ((left : List ℕ)
-        → ¬ Leaves (chars whole_text.now) (any_run ∷ chars segment.now) left)
+        → ¬ LeavesAfterPrefix (chars whole_text.now) (any_run ∷ chars segment.now) left)
         (λ left. LeavesMost (chars whole_text.now) (chars segment.now) (chars left.now)) }
 {
     let mut text = whole_text;
@@ -72,7 +73,7 @@ fn scan_first_match<'a>(whole_text: &'a str, segment: &str) -> Option<&'a str>
 
 /// Whether some suffix of the text matches the segment, as after a `%`.
 pub(crate) fn has_end(whole_text: &str, whole_segment: &str) -> bool
-    requires { Lacks (chars whole_segment.now) any_run }
+    requires { LacksCharacter (chars whole_segment.now) any_run }
     ensures { IsTrue result ↔ IsLike (chars whole_text.now) (any_run ∷ chars whole_segment.now) }
 {
     let mut text = whole_text;

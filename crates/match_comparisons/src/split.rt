@@ -4,10 +4,10 @@
 
 ghost use Rattle.std.specs.Prelude.{◌≡◌, ℕ, [], IfOk, OnOk};
 ghost use Rattle.stix_bundles.specs.Objects.{data_in};
-ghost use Rattle.pattern_types.specs.PlainLeaf.{plain_leaf, listed};
+ghost use Rattle.pattern_types.specs.PlainLeaf.{plain_leaf, leaves_of_list};
 ghost use Rattle.pattern_types.specs.Soundness.{IsSoundLeaf, IsSoundTest, AreSoundLeaves};
 ghost use Rattle.match_comparisons.specs.Tests.{TestHolds, HoldsAt, AllHold, SomeHold};
-ghost use Rattle.match_comparisons.specs.inner.Splits.{Splits, Adds};
+ghost use Rattle.match_comparisons.specs.inner.Splits.{SplitsPositions, AddsToSplit};
 
 use crate::memo::SearchMemo;
 use crate::met::meets_test;
@@ -38,7 +38,7 @@ impl Split {
 
     /// Adds a position, by whether the expression holds there.
     fn add(&mut self, at: u32, holds: bool) -> Result<(), NoMemory>
-        ensures { OnOk result (Adds self.old self.new at holds) }
+        ensures { OnOk result (AddsToSplit self.old self.new at holds) }
     {
         if holds {
             self.held.push(at)?;
@@ -59,7 +59,7 @@ pub(crate) fn split_by(
     asked: &[u32],
 ) -> Result<Split, NoMemory>
     requires { IsSoundLeaf (plain_leaf leaf.now) }
-    ensures { IfOk result (Splits (λ (at : ℕ). HoldsAt (data_in bundle.now) at
+    ensures { IfOk result (SplitsPositions (λ (at : ℕ). HoldsAt (data_in bundle.now) at
         (plain_leaf leaf.now)) asked.now) }
 {
     match leaf {
@@ -77,7 +77,7 @@ fn split_by_test(
     asked: &[u32],
 ) -> Result<Split, NoMemory>
     requires { IsSoundTest test.now }
-    ensures { IfOk result (Splits (λ (at : ℕ). TestHolds (data_in bundle.now) at test.now)
+    ensures { IfOk result (SplitsPositions (λ (at : ℕ). TestHolds (data_in bundle.now) at test.now)
         asked.now) }
 {
     let search = Search::new(alloc, bundle, test, asked.len());
@@ -98,8 +98,8 @@ fn split_by_all(
     parts: &[Leaf],
     asked: &[u32],
 ) -> Result<Split, NoMemory>
-    requires { AreSoundLeaves (listed parts.now) }
-    ensures { IfOk result (Splits (λ (at : ℕ). AllHold (data_in bundle.now) at (listed parts.now))
+    requires { AreSoundLeaves (leaves_of_list parts.now) }
+    ensures { IfOk result (SplitsPositions (λ (at : ℕ). AllHold (data_in bundle.now) at (leaves_of_list parts.now))
         asked.now) }
 {
     let mut held = Vec::from_slice(alloc, asked)?;
@@ -120,8 +120,8 @@ fn split_by_some(
     parts: &[Leaf],
     asked: &[u32],
 ) -> Result<Split, NoMemory>
-    requires { AreSoundLeaves (listed parts.now) }
-    ensures { IfOk result (Splits (λ (at : ℕ). SomeHold (data_in bundle.now) at (listed parts.now))
+    requires { AreSoundLeaves (leaves_of_list parts.now) }
+    ensures { IfOk result (SplitsPositions (λ (at : ℕ). SomeHold (data_in bundle.now) at (leaves_of_list parts.now))
         asked.now) }
 {
     let mut held = Vec::new(alloc);

@@ -8,7 +8,7 @@ ghost use Rattle.flow_values.specs.Answers.{FindsExactly};
 ghost use Rattle.stix_json.specs.DataOf.{data_of};
 ghost use Rattle.stix_json.specs.Ordered.{IsOrdered};
 ghost use Rattle.stix_bundles.specs.Objects.{data_in};
-ghost use Rattle.stix_bundles.specs.Lookup.{Means};
+ghost use Rattle.stix_bundles.specs.Lookup.{ResolvesTo};
 ghost use Rattle.match_comparisons.specs.Selection.{RefersTo, LeadsTo, members, StepSelects};
 ghost use Rattle.match_comparisons.specs.Selection.{StepReaches};
 ghost use Rattle.match_comparisons.specs.inner.PropertyOf.{property_of};
@@ -152,7 +152,7 @@ pub fn reference(bundle: &Bundle, last: Option<&str>, value: &Json) -> Option<u3
 /// The position of the object that a text names.
 fn position_of(bundle: &Bundle, value: &Json) -> Option<u32>
     ensures { MatchOption (as_str (data_of value.now)) (result ≡ None)
-        (λ text. Means (data_in bundle.now) text result) }
+        (λ text. ResolvesTo (data_in bundle.now) text result) }
 {
     match value {
         Json::String(text) => find(bundle, text.as_str()),

@@ -1,5 +1,5 @@
 ghost use Rattle.std.specs.Prelude.{◌≡◌, ◌↔◌, ◌⊎◌, ℕ, IsTrue, OnOk};
-ghost use Rattle.match_comparisons.specs.inner.VisitSet.{Has};
+ghost use Rattle.match_comparisons.specs.inner.VisitSet.{HasVisit};
 
 use flow_values::NoMemory;
 use std::alloc::Global;
@@ -15,7 +15,7 @@ pub(crate) struct VisitSet {
 impl VisitSet {
     /// The empty set.
     pub(crate) fn new(alloc: Global) -> VisitSet
-        ensures { (left at : ℕ) → ¬ Has result left at }
+        ensures { (left at : ℕ) → ¬ HasVisit result left at }
     {
         VisitSet {
             pairs: BTreeSet::new(alloc),
@@ -24,15 +24,15 @@ impl VisitSet {
 
     /// Whether the object at this position was visited with `left` steps left.
     pub(crate) fn has(&self, left: usize, at: u32) -> bool
-        ensures { IsTrue result ↔ Has self.now left at }
+        ensures { IsTrue result ↔ HasVisit self.now left at }
     {
         self.pairs.contains(&(left, at))
     }
 
     /// Adds a visit.
     pub(crate) fn add(&mut self, left: usize, at: u32) -> Result<(), NoMemory>
-        ensures { OnOk result ((count place : ℕ) → Has self.new count place
-            ↔ (Has self.old count place ⊎ ((count ≡ left) × (place ≡ at)))) }
+        ensures { OnOk result ((count place : ℕ) → HasVisit self.new count place
+            ↔ (HasVisit self.old count place ⊎ ((count ≡ left) × (place ≡ at)))) }
     {
         self.pairs.insert((left, at))?;
         Ok(())

@@ -4,8 +4,8 @@ ghost use Rattle.std.specs.Prelude.{◌↔◌, ◌<◌, [], ◌∷◌, IfSome, I
 ghost use Rattle.serde_json.specs.Data.{Data};
 ghost use Rattle.stix_json.specs.DataOf.{data_of};
 ghost use Rattle.stix_bundles.specs.Objects.{data_in};
-ghost use Rattle.match_comparisons.specs.Remaining.{Follows};
-ghost use Rattle.match_comparisons.specs.inner.Frames.{LeftIn, Fits, weight};
+ghost use Rattle.match_comparisons.specs.Remaining.{FollowsTaken};
+ghost use Rattle.match_comparisons.specs.inner.Frames.{LeftIn, HasFrameSpace, weight};
 
 use crate::frame::{Frame, Frames};
 use crate::name::name_after;
@@ -16,15 +16,15 @@ use stix_json::Json;
 
 /// The next value of the walk.
 pub(crate) fn next_value<'a>(bundle: &'a Bundle, frames: &mut Frames<'a>) -> Option<&'a Json>
-    requires { Fits (reverse frames.old.items) }
+    requires { HasFrameSpace (reverse frames.old.items) }
     ensures some { IfSome result (λ value. (values : List Data)
         → LeftIn (data_in bundle.now) (reverse frames.old.items) values
-        ↔ Follows (data_of value.now ∷ []) (LeftIn (data_in bundle.now) (reverse frames.new.items))
+        ↔ FollowsTaken (data_of value.now ∷ []) (LeftIn (data_in bundle.now) (reverse frames.new.items))
         values) }
     ensures none { IfNone result ((values : List Data)
         → LeftIn (data_in bundle.now) (reverse frames.old.items) values
         ↔ LeftIn (data_in bundle.now) [] values) }
-    ensures fits { Fits (reverse frames.new.items) }
+    ensures fits { HasFrameSpace (reverse frames.new.items) }
     // The termination measure decreases with each value.
     ensures falls { IfSome result (λ value. weight (reverse frames.new.items)
         < weight (reverse frames.old.items)) }
@@ -40,15 +40,15 @@ pub(crate) fn next_value<'a>(bundle: &'a Bundle, frames: &mut Frames<'a>) -> Opt
 /// Visits the first value of a frame: returns it where no step is left, else pushes a frame with
 /// what the next step selects from it. The frame's other values stay on the stack.
 fn visit<'a>(bundle: &'a Bundle, frame: Frame<'a>, frames: &mut Frames<'a>) -> Option<&'a Json>
-    requires { Fits (frame ∷ reverse frames.old.items) }
+    requires { HasFrameSpace (frame ∷ reverse frames.old.items) }
     ensures some { IfSome result (λ value. (values : List Data)
         → LeftIn (data_in bundle.now) (frame.entry ∷ reverse frames.old.items) values
-        ↔ Follows (data_of value.now ∷ []) (LeftIn (data_in bundle.now) (reverse frames.new.items))
+        ↔ FollowsTaken (data_of value.now ∷ []) (LeftIn (data_in bundle.now) (reverse frames.new.items))
         values) }
     ensures none { IfNone result ((values : List Data)
         → LeftIn (data_in bundle.now) (frame.entry ∷ reverse frames.old.items) values
         ↔ LeftIn (data_in bundle.now) (reverse frames.new.items) values) }
-    ensures fits { Fits (reverse frames.new.items) }
+    ensures fits { HasFrameSpace (reverse frames.new.items) }
     // The termination measure decreases with each visit.
     ensures falls { weight (reverse frames.new.items)
         < weight (frame.entry ∷ reverse frames.old.items) }

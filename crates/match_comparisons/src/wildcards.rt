@@ -2,7 +2,7 @@
 ghost use Rattle.std.specs.Prelude.{◌≡◌, ◌++◌, ◌∷◌, MatchOption};
 ghost use Rattle.std.specs.Str.{chars};
 ghost use Rattle.match_comparisons.specs.Like.{any_run};
-ghost use Rattle.match_comparisons.specs.inner.Segments.{Lacks, OccursAfter};
+ghost use Rattle.match_comparisons.specs.inner.Segments.{LacksCharacter, OccursAfter};
 
 use memchr::memchr;
 
@@ -13,7 +13,7 @@ pub(crate) const ANY_ONE: char = '_';
 pub(crate) fn split_at_run(pattern: &str, most: usize) -> Option<(&str, &str)>
     ensures { MatchOption result (OccursAfter pattern.now any_run most)
         (λ (segment, rest). (chars pattern.now ≡ chars segment.now ++ any_run ∷ chars rest.now)
-        × Lacks (chars segment.now) any_run) }
+        × LacksCharacter (chars segment.now) any_run) }
 {
     let bytes = pattern.as_bytes();
     let near = &bytes[..bytes.len().min(most.saturating_add(1))];

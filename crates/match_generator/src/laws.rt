@@ -2,7 +2,7 @@
 //! at run time.
 
 ghost use Rattle.std.specs.Prelude.{ℕ, ◌*◌, ◌<◌};
-ghost use Rattle.stix_times.specs.Reading.{IsTextOf};
+ghost use Rattle.stix_times.specs.Reading.{IsTextOfInstant};
 ghost use Rattle.stix_times.specs.Writing.{IsCanonicalTextOf};
 ghost use Rattle.match_generator.specs.GeneratedLog.{time_text, instant_after};
 
@@ -14,7 +14,7 @@ pub fn times_are_canonical()
     ensures canonical { (seconds : ℕ) → seconds < 31 * 86_400
         → IsCanonicalTextOf (time_text seconds) (instant_after seconds) }
     ensures reads { (seconds : ℕ) → seconds < 31 * 86_400
-        → IsTextOf (time_text seconds) (instant_after seconds) }
+        → IsTextOfInstant (time_text seconds) (instant_after seconds) }
 {
     written_reads_back();
 }

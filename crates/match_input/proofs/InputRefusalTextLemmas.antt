@@ -1,6 +1,6 @@
 -- The line of a refusal, as its pieces tell it.
 use Rattle.std.proofs.Common.{◌≡◌, ℕ, List, [], ◌∷◌, ◌++◌, codes, append_assoc, refl, sym, ap, ◌∙◌}
-use Rattle.match_input.specs.Texts.{at_path, line_of_text}
+use Rattle.match_input.specs.Texts.{text_at_path, line_of_text}
 use Rattle.match_input.specs.inner.Reason.{broken_words, path_lead}
 
 told : (name object rule tail : List ℕ) → name ++ (codes " object " ++ (object ++ (codes ": " ++ (rule ++ tail)))) ≡ (name ++ broken_words object rule) ++ tail
@@ -10,7 +10,7 @@ told name object rule tail =
     ∙ ap (λ (xs : List ℕ). name ++ xs) (sym (append_assoc (codes " object ") (object ++ (codes ": " ++ rule)) tail))
     ∙ sym (append_assoc name (broken_words object rule) tail)
 
-led : (name path : List ℕ) → name ++ (path_lead path ++ (path ++ codes "\n")) ≡ at_path name path ++ codes "\n"
+led : (name path : List ℕ) → name ++ (path_lead path ++ (path ++ codes "\n")) ≡ text_at_path name path ++ codes "\n"
 led name [] = refl
 led name (c ∷ path) =
     let lead : path_lead (c ∷ path) ≡ codes " at " = refl in
@@ -22,13 +22,13 @@ led name (c ∷ path) =
 pub at_line : (line name path line_bytes name_bytes lead lead_bytes path_bytes : List ℕ)
     → line_bytes ≡ line → name_bytes ≡ name → lead ≡ path_lead path → lead_bytes ≡ lead → path_bytes ≡ path
     → codes "line " ++ (line_bytes ++ (codes " refused: " ++ (name_bytes ++ (lead_bytes ++ (path_bytes ++ codes "\n")))))
-    ≡ line_of_text line (at_path name path)
+    ≡ line_of_text line (text_at_path name path)
 at_line line name path line_bytes name_bytes lead lead_bytes path_bytes line_is name_is lead_is lead_bytes_is path_is =
     rw (line_is, name_is, lead_bytes_is, lead_is, path_is) (ap (λ (xs : List ℕ). codes "line " ++ (line ++ (codes " refused: " ++ xs))) (led name path))
 
 pub broken_line : (line name object rule path : List ℕ)
     → codes "line " ++ (line ++ (codes " refused: " ++ (name ++ (codes " object " ++ (object ++ (codes ": " ++ (rule ++ (path_lead path ++ (path ++ codes "\n")))))))))
-    ≡ line_of_text line (at_path (name ++ broken_words object rule) path)
+    ≡ line_of_text line (text_at_path (name ++ broken_words object rule) path)
 broken_line line name object rule path =
     ap (λ (xs : List ℕ). codes "line " ++ (line ++ (codes " refused: " ++ xs)))
     (told name object rule (path_lead path ++ (path ++ codes "\n")) ∙ led (name ++ broken_words object rule) path)

@@ -16,8 +16,8 @@ use Rattle.stix_bundles.specs.Bundle.{IsBundle, IsBundleRefused}
 use Rattle.stix_bundles.specs.Observations.{NoneEmbeds, IsFirstEmbedding, AreObservations}
 use Rattle.match_input.specs.declared.rule.InputRule.{InputRule}
 use Rattle.match_input.specs.declared.rule.InputRule.TheVariants as rule
-use Rattle.match_input.specs.Line.{IsTextOf, IsInOrder, Decreases, last_after, IsBundleLine, IsNoBundle, IsEmbedded, IsOutOfOrder, IsRefusedFor}
-use Rattle.match_input.specs.Reading.{BundleOf, InputEnd, Refused, IsTooLong, IsRefusedAt, Reads, at_end, at_refusal, one_bundle}
+use Rattle.match_input.specs.Line.{IsTextOfBundle, IsInOrderAfter, Decreases, last_after, IsBundleLine, IsNoBundleLine, IsEmbedded, IsOutOfOrder, IsRefusedInputLine}
+use Rattle.match_input.specs.Reading.{BundleOf, InputEnd, Refused, IsTooLongInputLine, IsInputRefusedAt, ReadsInputLines, at_end, at_refusal, one_bundle}
 
 -- the laws of JSON, of bundles and of their observations
 pub record Laws : Type 0 where
@@ -31,17 +31,17 @@ pub record Laws : Type 0 where
   pub list : (objects : List Data) (number : ℕ) (first second : List Observation) → AreObservations objects number first
       → AreObservations objects number second → first ≡ second
 
-one_text : Laws → (bytes : List ℕ) (first second : List Data) → IsTextOf bytes first → IsTextOf bytes second → first ≡ second
+one_text : Laws → (bytes : List ℕ) (first second : List Data) → IsTextOfBundle bytes first → IsTextOfBundle bytes second → first ≡ second
 one_text laws bytes first second p q =
     let same = laws.same_json bytes p.value q.value p.json q.json in
     laws.bundle (data_of q.value) first second (subst (λ (d : Data). IsBundle d first) same p.bundle) q.bundle
 
-no_text : Laws → (bytes : List ℕ) (objects : List Data) (refusal : BundleRefusal) → IsNoBundle bytes refusal → IsTextOf bytes objects → ⊥
+no_text : Laws → (bytes : List ℕ) (objects : List Data) (refusal : BundleRefusal) → IsNoBundleLine bytes refusal → IsTextOfBundle bytes objects → ⊥
 no_text laws bytes objects refusal p q =
     let same = laws.same_json bytes p.0 q.value p.1 q.json in
     laws.either (data_of q.value) objects refusal q.bundle (subst (λ (d : Data). IsBundleRefused d refusal) same p.2)
 
-one_no_bundle : Laws → (bytes : List ℕ) (first second : BundleRefusal) → IsNoBundle bytes first → IsNoBundle bytes second → first ≡ second
+one_no_bundle : Laws → (bytes : List ℕ) (first second : BundleRefusal) → IsNoBundleLine bytes first → IsNoBundleLine bytes second → first ≡ second
 one_no_bundle laws bytes first second p q =
     let same = laws.same_json bytes p.0 q.0 p.1 q.1 in
     laws.refusal (data_of q.0) first second (subst (λ (d : Data). IsBundleRefused d first) same p.2) q.2
@@ -69,7 +69,7 @@ one_embedded laws bytes a b p q =
     let same = one_text laws bytes p.0 q.0 p.1 q.1 in
     one_first q.0 a b (subst (λ (ds : List Data). IsFirstEmbedding ds a) same p.2) q.2
 
-not_apart : Laws → (bytes : List ℕ) (at : ℕ) (objects : List Data) → IsEmbedded bytes at → IsTextOf bytes objects → NoneEmbeds objects → ⊥
+not_apart : Laws → (bytes : List ℕ) (at : ℕ) (objects : List Data) → IsEmbedded bytes at → IsTextOfBundle bytes objects → NoneEmbeds objects → ⊥
 not_apart laws bytes at objects p text none =
     let same = one_text laws bytes p.0 objects p.1 text in
     none at (subst (λ (ds : List Data). IsFirstEmbedding ds at) same p.2).embeds
@@ -79,7 +79,7 @@ one_behind None observations a b c d p q = absurd p
 one_behind (Some last) [] a b c d p q = absurd p
 one_behind (Some last) (first ∷ observations) a b c d p q = (p.0 ∙ sym q.0, p.1 ∙ sym q.1)
 
-not_behind : (last : Option ℤ) (observations : List Observation) (a b : ℤ) → Decreases last observations a b → IsInOrder last observations → ⊥
+not_behind : (last : Option ℤ) (observations : List Observation) (a b : ℤ) → Decreases last observations a b → IsInOrderAfter last observations → ⊥
 not_behind None observations a b p q = p
 not_behind (Some last) [] a b p q = p
 not_behind (Some last) (first ∷ observations) a b p q =
@@ -88,7 +88,7 @@ not_behind (Some last) (first ∷ observations) a b p q =
     let less = p.2 in
     omega (arith, ints, before, now, less, q)
 
-same_list : Laws → (bytes : List ℕ) (next : ℕ) (first second : List Data) (xs ys : List Observation) → IsTextOf bytes first → IsTextOf bytes second
+same_list : Laws → (bytes : List ℕ) (next : ℕ) (first second : List Data) (xs ys : List Observation) → IsTextOfBundle bytes first → IsTextOfBundle bytes second
     → AreObservations first next xs → AreObservations second next ys → xs ≡ ys
 same_list laws bytes next first second xs ys p q a b =
     let same = one_text laws bytes first second p q in
@@ -99,7 +99,7 @@ one_out_of_order laws last next bytes a b c d p q =
     let same = same_list laws bytes next p.objects q.objects p.observations q.observations p.text q.text p.are q.are in
     one_behind last q.observations a b c d (subst (λ (os : List Observation). Decreases last os a b) same p.behind) q.behind
 
-one_rule : Laws → (last : Option ℤ) (next : ℕ) (bytes : List ℕ) (why other : InputRule) → IsRefusedFor last next bytes why → IsRefusedFor last next bytes other → why ≡ other
+one_rule : Laws → (last : Option ℤ) (next : ℕ) (bytes : List ℕ) (why other : InputRule) → IsRefusedInputLine last next bytes why → IsRefusedInputLine last next bytes other → why ≡ other
 one_rule laws last next bytes (rule.Json r) (rule.Json s) p q = ap rule.Json (laws.json_refusal bytes r s p.0 q.0 p.1 q.1)
 one_rule laws last next bytes (rule.Json r) (rule.Bundle s) p q = absurd (laws.no_json bytes r q.0 p.0 p.1 q.1)
 one_rule laws last next bytes (rule.Json r) (rule.Embedded at) p q = absurd (laws.no_json bytes r q.1.value p.0 p.1 q.1.json)
@@ -124,7 +124,7 @@ one_rule laws last next bytes rule.LineTooLong other p q = absurd p
 one_rule laws last next bytes rule.InputTooLong other p q = absurd p
 
 no_line : Laws → (last : Option ℤ) (next : ℕ) (bytes : List ℕ) (objects : List Data) (observations : List Observation) (why : InputRule)
-    → IsRefusedFor last next bytes why → IsBundleLine last next bytes objects observations → ⊥
+    → IsRefusedInputLine last next bytes why → IsBundleLine last next bytes objects observations → ⊥
 no_line laws last next bytes objects observations rule.LineTooLong p q = p
 no_line laws last next bytes objects observations rule.InputTooLong p q = p
 no_line laws last next bytes objects observations (rule.Json r) p q = laws.no_json bytes r q.text.value p.0 p.1 q.text.json
@@ -134,20 +134,20 @@ no_line laws last next bytes objects observations (rule.OutOfOrder a b) p q =
     let same = same_list laws bytes next p.objects objects p.observations observations p.text q.text p.are q.are in
     not_behind last observations a b (subst (λ (os : List Observation). Decreases last os a b) same p.behind) q.in_order
 
-one_too_long : (refusal : LineRefusal) (line number : ℕ) (why other : InputRule) → IsTooLong refusal line why → IsTooLong refusal number other → (line ≡ number) × (why ≡ other)
+one_too_long : (refusal : LineRefusal) (line number : ℕ) (why other : InputRule) → IsTooLongInputLine refusal line why → IsTooLongInputLine refusal number other → (line ≡ number) × (why ≡ other)
 one_too_long length_refusal.Fault line number why other p q = absurd p
 one_too_long (length_refusal.LineTooLong n) line number why other p q = (p.0 ∙ sym q.0, p.1 ∙ sym q.1)
 one_too_long (length_refusal.InputTooLong n) line number why other p q = (p.0 ∙ sym q.0, p.1 ∙ sym q.1)
 one_too_long length_refusal.NoMemory line number why other p q = absurd p
 
-one_refused_at : Laws → (last : Option ℤ) (next : ℕ) (lines : LineStream) (line number : ℕ) (why other : InputRule) → IsRefusedAt last next lines line why
-    → IsRefusedAt last next lines number other → (line ≡ number) × (why ≡ other)
+one_refused_at : Laws → (last : Option ℤ) (next : ℕ) (lines : LineStream) (line number : ℕ) (why other : InputRule) → IsInputRefusedAt last next lines line why
+    → IsInputRefusedAt last next lines number other → (line ≡ number) × (why ≡ other)
 one_refused_at laws last next ended line number why other p q = absurd p
 one_refused_at laws last next (refused refusal) line number why other p q = one_too_long refusal line number why other p q
 one_refused_at laws last next (line_then n bytes later) line number why other p q = (p.0 ∙ sym q.0, one_rule laws last next bytes why other p.1 q.1)
 
 pub one_reads : Laws → (last : Option ℤ) (next : ℕ) (lines : LineStream) (bundles others : List BundleOf) (end other : InputEnd)
-    → Reads last next lines bundles end → Reads last next lines others other → (bundles ≡ others) × (end ≡ other)
+    → ReadsInputLines last next lines bundles end → ReadsInputLines last next lines others other → (bundles ≡ others) × (end ≡ other)
 one_reads laws last next ended bundles others end other at_end at_end = (refl, refl)
 one_reads laws last next ended bundles others end other at_end (at_refusal q) = absurd q
 one_reads laws last next ended bundles others end other (at_refusal p) at_end = absurd p
@@ -162,17 +162,17 @@ one_reads laws last next (line_then n bytes later) bundles others end other (one
     let objects = one_text laws bytes ds es p.text q.text in
     let observations = same_list laws bytes next ds es xs ys p.text q.text p.are q.are in
     let tail = one_reads laws (last_after last ys) (next + length ys) later more rest end other
-    (subst (λ (os : List Observation). Reads (last_after last os) (next + length os) later more end) observations first) second in
+    (subst (λ (os : List Observation). ReadsInputLines (last_after last os) (next + length os) later more end) observations first) second in
     let same : more ≡ rest = tail.0 in
     (cc, tail.1)
 
 -- where the first line is a bundle, the input is read as that bundle and what comes after it
 pub continues : Laws → (last : Option ℤ) (next number : ℕ) (bytes : List ℕ) (later : LineStream) (objects : List Data) (observations : List Observation)
-    (all : List BundleOf) (end : InputEnd) → IsBundleLine last next bytes objects observations → Reads last next (line_then number bytes later) all end
+    (all : List BundleOf) (end : InputEnd) → IsBundleLine last next bytes objects observations → ReadsInputLines last next (line_then number bytes later) all end
     → (rest : List BundleOf) × (all ≡ record { line = number; objects = objects; observations = observations } ∷ rest)
-    × Reads (last_after last observations) (next + length observations) later rest end
+    × ReadsInputLines (last_after last observations) (next + length observations) later rest end
 continues laws last next number bytes later objects observations all (Refused line why) is (at_refusal p) = absurd (no_line laws last next bytes objects observations why p.1 is)
 continues laws last next number bytes later objects observations all end is (one_bundle {objects = ds} {observations = xs} {bundles = more} p reads) =
     let same = one_text laws bytes ds objects p.text is.text in
     let list = same_list laws bytes next ds objects xs observations p.text is.text p.are is.are in
-    (more, cc, subst (λ (os : List Observation). Reads (last_after last os) (next + length os) later more end) list reads)
+    (more, cc, subst (λ (os : List Observation). ReadsInputLines (last_after last os) (next + length os) later more end) list reads)

@@ -3,7 +3,7 @@ use Rattle.std.proofs.Common.{◌≢◌, ◌⊎◌, inl, inr, ℕ, ◌+◌, ℤ,
 use Rattle.std.specs.Prelude.{⊤}
 use Rattle.std.proofs.lemmas.Int.{by_lt_z}
 use Rattle.serde_json.specs.Data.{Data}
-use Rattle.flow_lines.specs.Lines.{LineStream, ended, refused, line_then, RawLine, raw_lines, content, width, is_blank, unless_blank, unless_refused, lines_from}
+use Rattle.flow_lines.specs.Lines.{LineStream, ended, refused, line_then, RawLine, raw_lines, content, line_width, is_blank_text, unless_blank, unless_refused, lines_from}
 use Rattle.flow_lines.specs.declared.refusal.TheConstants.{MAX_LINE, MAX_INPUT}
 use Rattle.flow_lines.specs.declared.refusal.LineRefusal.{LineRefusal}
 use Rattle.flow_lines.specs.declared.refusal.LineRefusal.TheVariants.{Fault, LineTooLong, InputTooLong, NoMemory}
@@ -21,8 +21,8 @@ use Rattle.match_input.specs.declared.mode.Mode.{Mode}
 use Rattle.match_input.specs.declared.mode.Mode.TheVariants as mode
 use Rattle.match_input.specs.declared.rule.InputRule.{InputRule}
 use Rattle.match_input.specs.declared.rule.InputRule.TheVariants as rule
-use Rattle.match_input.specs.Line.{IsTextOf, IsInOrder, Decreases, last_after, IsBundleLine, IsRefusedFor}
-use Rattle.match_input.specs.Reading.{BundleOf, InputEnd, Whole, Refused, Reads, at_end, at_refusal, one_bundle, lines_in, Reading}
+use Rattle.match_input.specs.Line.{IsTextOfBundle, IsInOrderAfter, Decreases, last_after, IsBundleLine, IsRefusedInputLine}
+use Rattle.match_input.specs.Reading.{BundleOf, InputEnd, Whole, Refused, ReadsInputLines, at_end, at_refusal, one_bundle, lines_in, Reading}
 
 -- what a line rests on
 pub record Laws : Type 0 where
@@ -36,24 +36,24 @@ pub record Laws : Type 0 where
 -- a line that is neither a bundle nor refused
 record IsNeither (last : Option ℤ) (next : ℕ) (bytes : List ℕ) : Type 0 where
   bundle : (objects : List Data) (observations : List Observation) → ¬ IsBundleLine last next bytes objects observations
-  refused : (why : InputRule) → ¬ IsRefusedFor last next bytes why
+  refused : (why : InputRule) → ¬ IsRefusedInputLine last next bytes why
 
-order_told : (last : Option ℤ) (observations : List Observation) → IsInOrder last observations ⊎ ((before now : ℤ) × Decreases last observations before now)
+order_told : (last : Option ℤ) (observations : List Observation) → IsInOrderAfter last observations ⊎ ((before now : ℤ) × Decreases last observations before now)
 order_told None observations = inl tt
 order_told (Some last) [] = inl tt
 order_told (Some last) (first ∷ observations) =
     by_lt_z first.last last (λ behind. inr (last, first.last, (refl, refl, behind))) (λ in_order. inl in_order)
 
-by_order : (last : Option ℤ) (next : ℕ) (bytes : List ℕ) → IsNeither last next bytes → (objects : List Data) → IsTextOf bytes objects → NoneEmbeds objects
+by_order : (last : Option ℤ) (next : ℕ) (bytes : List ℕ) → IsNeither last next bytes → (objects : List Data) → IsTextOfBundle bytes objects → NoneEmbeds objects
     → (observations : List Observation) → AreObservations objects next observations
-    → IsInOrder last observations ⊎ ((before now : ℤ) × Decreases last observations before now) → ⊥
+    → IsInOrderAfter last observations ⊎ ((before now : ℤ) × Decreases last observations before now) → ⊥
 by_order last next bytes neither objects text apart observations are (inl in_order) =
     neither.bundle objects observations (record { text = text; apart = apart; are = are; in_order = in_order })
 by_order last next bytes neither objects text apart observations are (inr (before, now, behind)) =
     neither.refused (rule.OutOfOrder before now)
     (record { objects = objects; text = text; apart = apart; observations = observations; are = are; behind = behind })
 
-by_embedding : Laws → (last : Option ℤ) (next : ℕ) (bytes : List ℕ) → IsNeither last next bytes → (objects : List Data) → IsTextOf bytes objects
+by_embedding : Laws → (last : Option ℤ) (next : ℕ) (bytes : List ℕ) → IsNeither last next bytes → (objects : List Data) → IsTextOfBundle bytes objects
     → NoneEmbeds objects ⊎ ((at : ℕ) × IsFirstEmbedding objects at) → ⊥
 by_embedding laws last next bytes neither objects text (inl apart) =
     laws.observations objects next text.bundle.unbroken (λ observations are.
@@ -99,11 +99,11 @@ blank_told false number bytes lines are = are
 for_length : (number place : ℕ) (lines : List RawLine) → AreForLength (lines_from number place lines)
 for_length number place [] = tt
 for_length number place (l ∷ ls) =
-    let later = lines_from (number + 1) (place + width l) ls in
+    let later = lines_from (number + 1) (place + line_width l) ls in
     let long = nat_lt MAX_LINE (length l.bytes) && nat_le (place + MAX_LINE) MAX_INPUT in
     let past = nat_lt MAX_INPUT (place + length l.bytes + cond l.terminated 1 0) in
     length_told number long past (unless_blank number (content l) later)
-    (blank_told (is_blank (content l)) number (content l) later (for_length (number + 1) (place + width l) ls))
+    (blank_told (is_blank_text (content l)) number (content l) later (for_length (number + 1) (place + line_width l) ls))
 
 whole_told : (past : Bool) (bytes : List ℕ) → AreForLength (cond past (refused (InputTooLong 1)) (line_then 1 bytes ended))
 whole_told true bytes = tt
@@ -113,7 +113,7 @@ in_for_length : (cut : Mode) (bytes : List ℕ) → AreForLength (lines_in cut b
 in_for_length mode.Lines bytes = for_length 1 0 (raw_lines bytes)
 in_for_length mode.Whole bytes = whole_told (nat_lt MAX_WHOLE_INPUT (length bytes)) bytes
 
-some_reads : Laws → (lines : LineStream) → AreForLength lines → (last : Option ℤ) (next : ℕ) → ¬ ((bundles : List BundleOf) (end : InputEnd) → ¬ Reads last next lines bundles end)
+some_reads : Laws → (lines : LineStream) → AreForLength lines → (last : Option ℤ) (next : ℕ) → ¬ ((bundles : List BundleOf) (end : InputEnd) → ¬ ReadsInputLines last next lines bundles end)
 some_reads laws ended are last next = λ fails. fails [] Whole at_end
 some_reads laws (refused Fault) are last next = absurd are
 some_reads laws (refused (LineTooLong number)) are last next = λ fails. fails [] (Refused number rule.LineTooLong) (at_refusal (refl, refl))

@@ -15,10 +15,10 @@ use Rattle.match_input.specs.declared.read_end.ReadEnd.TheVariants.{Input, ReadF
 use Rattle.match_input.specs.declared.stage.Stage.{Stage}
 use Rattle.match_input.specs.declared.stage.Stage.TheVariants.{Lines, Whole, AtEnd, Ended}
 use Rattle.match_input.specs.Line.{IsBundleLine, last_after}
-use Rattle.match_input.specs.Reading.{one_line, IsRefusedAt}
+use Rattle.match_input.specs.Reading.{one_line, IsInputRefusedAt}
 
 -- how far the input is read, how many observations were given, and when the last of them was last observed
-pub record ReaderState : Type 0 where
+pub record InputReaderState : Type 0 where
   pub stage : Stage
   pub observations : ℕ
   pub last : Option ℤ
@@ -28,12 +28,12 @@ abbrev pub first_stage : Mode → Stage
 first_stage mode.Lines = Lines lines_start
 first_stage mode.Whole = Whole
 
-abbrev pub reader_start : Mode → ReaderState
+abbrev pub reader_start : Mode → InputReaderState
 reader_start cut = record { stage = first_stage cut; observations = 0; last = None }
 
 -- the number of the next observation
-abbrev pub next_number : ReaderState → ℕ
-next_number state = state.observations + 1
+abbrev pub next_observation_number : InputReaderState → ℕ
+next_observation_number state = state.observations + 1
 
 -- the input is still open: no line was refused
 abbrev pub IsOpen : Stage → Type 0
@@ -77,10 +77,10 @@ pub record StopsAt (before : LinesState) (line : ℕ) (left left_after : Option 
   pub accounts : ContinuesAccounting before at left left_after
 
 -- how much was read where a line is refused
-abbrev pub TakesLittle : Stage → ℕ → Option (List ℕ) → Option (List ℕ) → Type 0
-TakesLittle (Lines before) line left left_after = StopsAt before line left left_after
-TakesLittle Whole line left left_after = TakesAtMost (MAX_WHOLE_INPUT + MAX_READ) left left_after
-TakesLittle _ line left left_after = ⊥
+abbrev pub TakesLittleAhead : Stage → ℕ → Option (List ℕ) → Option (List ℕ) → Type 0
+TakesLittleAhead (Lines before) line left left_after = StopsAt before line left left_after
+TakesLittleAhead Whole line left left_after = TakesAtMost (MAX_WHOLE_INPUT + MAX_READ) left left_after
+TakesLittleAhead _ line left left_after = ⊥
 
 -- a read failed: the remaining lines are unchanged, no byte is lost, and the buffer holds no whole
 -- line
@@ -89,10 +89,10 @@ pub record KeepsBytes (before : LinesState) (left left_after : Option (List ℕ)
   pub keeps : KeepsLines before at left left_after
   pub accounts : ContinuesAccounting before at left left_after
 
-abbrev pub BreaksOff : Stage → Option (List ℕ) → Option (List ℕ) → Type 0
-BreaksOff (Lines before) left left_after = KeepsBytes before left left_after
-BreaksOff Whole left left_after = TakesAtMost (MAX_WHOLE_INPUT + MAX_READ) left left_after
-BreaksOff _ left left_after = ⊥
+abbrev pub BreaksOffReading : Stage → Option (List ℕ) → Option (List ℕ) → Type 0
+BreaksOffReading (Lines before) left left_after = KeepsBytes before left left_after
+BreaksOffReading Whole left left_after = TakesAtMost (MAX_WHOLE_INPUT + MAX_READ) left left_after
+BreaksOffReading _ left left_after = ⊥
 
 -- no line remained, and nothing is left
 pub record ComesToEnd (before after : Stage) (left left_after : Option (List ℕ)) : Type 0 where
@@ -101,24 +101,24 @@ pub record ComesToEnd (before after : Stage) (left left_after : Option (List ℕ
   pub is_at_end : after ≡ AtEnd
 
 -- the first of the remaining lines is a bundle, returned with its observations; the others remain
-pub record GivesBatch (before after : ReaderState) (left left_after : Option (List ℕ)) (batch : Batch) : Type 0 where
+pub record GivesBatch (before after : InputReaderState) (left left_after : Option (List ℕ)) (batch : Batch) : Type 0 where
   pub bytes : List ℕ
   pub line : ahead before.stage left ≡ option_map (λ later. line_then batch.line bytes later) (ahead after.stage left_after)
-  pub is : IsBundleLine before.last (next_number before) bytes (data_in batch.bundle) batch.observations
+  pub is : IsBundleLine before.last (next_observation_number before) bytes (data_in batch.bundle) batch.observations
   pub observations : after.observations ≡ before.observations + length batch.observations
   pub last : after.last ≡ last_after before.last batch.observations
   pub moves : Moves batch.line before.stage after.stage left left_after
 
 -- the first of the remaining lines is refused
-pub record RefusesLine (before : ReaderState) (left left_after : Option (List ℕ)) (line : ℕ) (why : InputRule) : Type 0 where
-  pub refused : IfSome (ahead before.stage left) (λ lines. IsRefusedAt before.last (next_number before) lines line why)
-  pub little : TakesLittle before.stage line left left_after
+pub record RefusesInputLine (before : InputReaderState) (left left_after : Option (List ℕ)) (line : ℕ) (why : InputRule) : Type 0 where
+  pub refused : IfSome (ahead before.stage left) (λ lines. IsInputRefusedAt before.last (next_observation_number before) lines line why)
+  pub little : TakesLittleAhead before.stage line left left_after
 
 -- what an answer says about the remaining lines
-abbrev pub AnswersNext : ReaderState → ReaderState → Option (List ℕ) → Option (List ℕ) → Result (Option Batch) ReadEnd → Type 0
+abbrev pub AnswersNext : InputReaderState → InputReaderState → Option (List ℕ) → Option (List ℕ) → Result (Option Batch) ReadEnd → Type 0
 AnswersNext before after left left_after (Ok (Some batch)) = GivesBatch before after left left_after batch
 AnswersNext before after left left_after (Ok None) = ComesToEnd before.stage after.stage left left_after
-AnswersNext before after left left_after (Err (Input line why)) = RefusesLine before left left_after line why
-AnswersNext before after left left_after (Err ReadFault) = BreaksOff before.stage left left_after
+AnswersNext before after left left_after (Err (Input line why)) = RefusesInputLine before left left_after line why
+AnswersNext before after left left_after (Err ReadFault) = BreaksOffReading before.stage left left_after
 AnswersNext before after left left_after (Err HasEnded) = ⊥
 AnswersNext before after left left_after (Err NoMemory) = ⊤

@@ -16,16 +16,16 @@ use Rattle.match_input.specs.declared.rule.InputRule.{InputRule}
 use Rattle.match_input.specs.declared.rule.InputRule.TheVariants.{LineTooLong, InputTooLong, Json as NoJson, Bundle as NoBundle, Embedded, OutOfOrder}
 
 -- the bytes are JSON for a bundle of these objects
-pub record IsTextOf (bytes : List ℕ) (objects : List Data) : Type 0 where
+pub record IsTextOfBundle (bytes : List ℕ) (objects : List Data) : Type 0 where
   pub value : Json
   pub json : IsJsonOf bytes value
   pub bundle : IsBundle (data_of value) objects
 
 -- the first observation was last observed no earlier than the one before it
-abbrev pub IsInOrder : Option ℤ → List Observation → Type 0
-IsInOrder None observations = ⊤
-IsInOrder (Some last) [] = ⊤
-IsInOrder (Some last) (first ∷ observations) = last ≤ℤ first.last
+abbrev pub IsInOrderAfter : Option ℤ → List Observation → Type 0
+IsInOrderAfter None observations = ⊤
+IsInOrderAfter (Some last) [] = ⊤
+IsInOrderAfter (Some last) (first ∷ observations) = last ≤ℤ first.last
 
 -- it was last observed earlier: the two times
 abbrev pub Decreases : Option ℤ → List Observation → ℤ → ℤ → Type 0
@@ -39,33 +39,33 @@ last_after last observations = option_or (option_map (λ observation. observatio
 
 -- the bytes are a bundle of these objects, with these observations, in order
 pub record IsBundleLine (last : Option ℤ) (next : ℕ) (bytes : List ℕ) (objects : List Data) (observations : List Observation) : Type 0 where
-  pub text : IsTextOf bytes objects
+  pub text : IsTextOfBundle bytes objects
   pub apart : NoneEmbeds objects
   pub are : AreObservations objects next observations
-  pub in_order : IsInOrder last observations
+  pub in_order : IsInOrderAfter last observations
 
 -- the JSON value is no bundle
-abbrev pub IsNoBundle : List ℕ → BundleRefusal → Type 0
-IsNoBundle bytes refusal = (value : Json) × IsJsonOf bytes value × IsBundleRefused (data_of value) refusal
+abbrev pub IsNoBundleLine : List ℕ → BundleRefusal → Type 0
+IsNoBundleLine bytes refusal = (value : Json) × IsJsonOf bytes value × IsBundleRefused (data_of value) refusal
 
 -- the first observed-data of the bundle that embeds its objects
 abbrev pub IsEmbedded : List ℕ → ℕ → Type 0
-IsEmbedded bytes object = (objects : List Data) × IsTextOf bytes objects × IsFirstEmbedding objects object
+IsEmbedded bytes object = (objects : List Data) × IsTextOfBundle bytes objects × IsFirstEmbedding objects object
 
 -- the first observation of the bundle is earlier than the one before it
 pub record IsOutOfOrder (last : Option ℤ) (next : ℕ) (bytes : List ℕ) (before now : ℤ) : Type 0 where
   pub objects : List Data
-  pub text : IsTextOf bytes objects
+  pub text : IsTextOfBundle bytes objects
   pub apart : NoneEmbeds objects
   pub observations : List Observation
   pub are : AreObservations objects next observations
   pub behind : Decreases last observations before now
 
 -- why the bytes, if not too many, are refused: the first cause in this order
-abbrev pub IsRefusedFor : Option ℤ → ℕ → List ℕ → InputRule → Type 0
-IsRefusedFor last next bytes LineTooLong = ⊥
-IsRefusedFor last next bytes InputTooLong = ⊥
-IsRefusedFor last next bytes (NoJson refusal) = (refusal ≢ json_refusal.NoMemory) × IsJsonRefusedAs bytes refusal
-IsRefusedFor last next bytes (NoBundle refusal) = IsNoBundle bytes refusal
-IsRefusedFor last next bytes (Embedded object) = IsEmbedded bytes object
-IsRefusedFor last next bytes (OutOfOrder before now) = IsOutOfOrder last next bytes before now
+abbrev pub IsRefusedInputLine : Option ℤ → ℕ → List ℕ → InputRule → Type 0
+IsRefusedInputLine last next bytes LineTooLong = ⊥
+IsRefusedInputLine last next bytes InputTooLong = ⊥
+IsRefusedInputLine last next bytes (NoJson refusal) = (refusal ≢ json_refusal.NoMemory) × IsJsonRefusedAs bytes refusal
+IsRefusedInputLine last next bytes (NoBundle refusal) = IsNoBundleLine bytes refusal
+IsRefusedInputLine last next bytes (Embedded object) = IsEmbedded bytes object
+IsRefusedInputLine last next bytes (OutOfOrder before now) = IsOutOfOrder last next bytes before now

@@ -11,7 +11,7 @@ use Rattle.match_input.specs.declared.mode.Mode.{Mode}
 use Rattle.match_input.specs.declared.mode.Mode.TheVariants.{Lines, Whole as WholeInput}
 use Rattle.match_input.specs.declared.rule.InputRule.{InputRule}
 use Rattle.match_input.specs.declared.rule.InputRule.TheVariants as rule
-use Rattle.match_input.specs.Line.{IsBundleLine, IsRefusedFor, last_after}
+use Rattle.match_input.specs.Line.{IsBundleLine, IsRefusedInputLine, last_after}
 
 -- a bundle of an input: its line, its objects, and its observations
 pub record BundleOf : Type 0 where
@@ -25,30 +25,30 @@ pub data InputEnd : Type 0 where
   Refused : (line : ℕ) → InputRule → InputEnd
 
 -- why a line is refused that is too long, or that makes the input too long
-abbrev pub IsTooLong : LineRefusal → ℕ → InputRule → Type 0
-IsTooLong Fault line why = ⊥
-IsTooLong (LineTooLong number) line why = (line ≡ number) × (why ≡ rule.LineTooLong)
-IsTooLong (InputTooLong number) line why = (line ≡ number) × (why ≡ rule.InputTooLong)
-IsTooLong NoMemory line why = ⊥
+abbrev pub IsTooLongInputLine : LineRefusal → ℕ → InputRule → Type 0
+IsTooLongInputLine Fault line why = ⊥
+IsTooLongInputLine (LineTooLong number) line why = (line ≡ number) × (why ≡ rule.LineTooLong)
+IsTooLongInputLine (InputTooLong number) line why = (line ≡ number) × (why ≡ rule.InputTooLong)
+IsTooLongInputLine NoMemory line why = ⊥
 
 -- the first of these lines is refused
-abbrev pub IsRefusedAt : Option ℤ → ℕ → LineStream → ℕ → InputRule → Type 0
-IsRefusedAt last next ended line why = ⊥
-IsRefusedAt last next (refused refusal) line why = IsTooLong refusal line why
-IsRefusedAt last next (line_then number bytes later) line why = (line ≡ number) × IsRefusedFor last next bytes why
+abbrev pub IsInputRefusedAt : Option ℤ → ℕ → LineStream → ℕ → InputRule → Type 0
+IsInputRefusedAt last next ended line why = ⊥
+IsInputRefusedAt last next (refused refusal) line why = IsTooLongInputLine refusal line why
+IsInputRefusedAt last next (line_then number bytes later) line why = (line ≡ number) × IsRefusedInputLine last next bytes why
 
 -- The reading of the remaining lines: these bundles, and this end.
-pub data Reads : Option ℤ → ℕ → LineStream → List BundleOf → InputEnd → Type 0 where
+pub data ReadsInputLines : Option ℤ → ℕ → LineStream → List BundleOf → InputEnd → Type 0 where
   -- the input ends
-  at_end : {last : Option ℤ} {next : ℕ} → Reads last next ended [] Whole
+  at_end : {last : Option ℤ} {next : ℕ} → ReadsInputLines last next ended [] Whole
   -- the first line is refused
   at_refusal : {last : Option ℤ} {next : ℕ} {lines : LineStream} {line : ℕ} {why : InputRule}
-      → IsRefusedAt last next lines line why → Reads last next lines [] (Refused line why)
+      → IsInputRefusedAt last next lines line why → ReadsInputLines last next lines [] (Refused line why)
   -- the first line is a bundle, whose observations are numbered from `next` on
   one_bundle : {last : Option ℤ} {next number : ℕ} {bytes : List ℕ} {later : LineStream} {objects : List Data} {observations : List Observation}
       {bundles : List BundleOf} {end : InputEnd} → IsBundleLine last next bytes objects observations
-      → Reads (last_after last observations) (next + length observations) later bundles end
-      → Reads last next (line_then number bytes later) (record { line = number; objects = objects; observations = observations } ∷ bundles) end
+      → ReadsInputLines (last_after last observations) (next + length observations) later bundles end
+      → ReadsInputLines last next (line_then number bytes later) (record { line = number; objects = objects; observations = observations } ∷ bundles) end
 
 -- an input in Mode::Whole, as one line
 abbrev pub one_line : List ℕ → LineStream
@@ -61,4 +61,4 @@ lines_in WholeInput bytes = one_line bytes
 
 -- the reading of the bytes of an input: observations are numbered from 1
 abbrev pub Reading : Mode → List ℕ → List BundleOf → InputEnd → Type 0
-Reading mode bytes bundles end = Reads None 1 (lines_in mode bytes) bundles end
+Reading mode bytes bundles end = ReadsInputLines None 1 (lines_in mode bytes) bundles end

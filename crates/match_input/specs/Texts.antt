@@ -11,31 +11,31 @@ use Rattle.match_input.specs.declared.rule.InputRule.{InputRule}
 use Rattle.match_input.specs.declared.rule.InputRule.TheVariants.{LineTooLong, InputTooLong, Json, Bundle, Embedded, OutOfOrder}
 
 -- a name, and the path in the value, unless that is empty
-abbrev pub at_path : List ℕ → List ℕ → List ℕ
-at_path name [] = name
-at_path name (c ∷ path) = name ++ (codes " at " ++ c ∷ path)
+abbrev pub text_at_path : List ℕ → List ℕ → List ℕ
+text_at_path name [] = name
+text_at_path name (c ∷ path) = name ++ (codes " at " ++ c ∷ path)
 
 abbrev pub json_text : JsonRefusal → List ℕ
 json_text json.NotJson = codes "NotJson"
-json_text (json.TooDeep path) = at_path (codes "TooDeep") path
-json_text (json.NotWhole path) = at_path (codes "NotWhole") path
-json_text (json.Null path) = at_path (codes "Null") path
-json_text (json.OutOfRange path) = at_path (codes "OutOfRange") path
+json_text (json.TooDeep path) = text_at_path (codes "TooDeep") path
+json_text (json.NotWhole path) = text_at_path (codes "NotWhole") path
+json_text (json.Null path) = text_at_path (codes "Null") path
+json_text (json.OutOfRange path) = text_at_path (codes "OutOfRange") path
 json_text json.NotList = codes "NotList"
 json_text json.NoMemory = codes "out of memory"
 
 -- a break of an object of a bundle
 abbrev pub break_text : ObjectBreak → List ℕ
-break_text broken = codes "object " ++ (decimal broken.object ++ (codes ": " ++ at_path (rule_name broken.found.rule) broken.found.path))
+break_text broken = codes "object " ++ (decimal broken.object ++ (codes ": " ++ text_at_path (rule_name broken.found.rule) broken.found.path))
 
 -- the first of some breaks
-abbrev pub first_break_text : List ObjectBreak → List ℕ
-first_break_text [] = []
-first_break_text (broken ∷ more) = codes " " ++ break_text broken
+abbrev pub first_object_break_text : List ObjectBreak → List ℕ
+first_object_break_text [] = []
+first_object_break_text (broken ∷ more) = codes " " ++ break_text broken
 
 abbrev pub bundle_text : BundleRefusal → List ℕ
-bundle_text (bundle.NotBundle path) = at_path (codes "NotBundle") path
-bundle_text (bundle.Breaks breaks) = codes "Breaks" ++ first_break_text breaks
+bundle_text (bundle.NotBundle path) = text_at_path (codes "NotBundle") path
+bundle_text (bundle.Breaks breaks) = codes "Breaks" ++ first_object_break_text breaks
 bundle_text bundle.NoMemory = codes "out of memory"
 
 -- LineTooLong, NotBundle at .., OutOfOrder last .. now ..: the text of a rule. Of an instant it is the canonical one

@@ -8,8 +8,9 @@ ghost use Rattle.stix_json.specs.Reading.{IsJsonOf};
 ghost use Rattle.stix_bundles.specs.declared.outline.TheConstants.{MAX_OBJECTS};
 ghost use Rattle.stix_bundles.specs.Objects.{data_in};
 ghost use Rattle.stix_bundles.specs.Bundle.{IsBundle};
-ghost use Rattle.match_input.specs.Line.{IsTextOf, IsInOrder, Decreases, last_after, IsBundleLine};
-ghost use Rattle.match_input.specs.Line.{IsRefusedFor};
+ghost use Rattle.match_input.specs.Line.{IsTextOfBundle, IsInOrderAfter, Decreases, last_after};
+ghost use Rattle.match_input.specs.Line.{IsBundleLine};
+ghost use Rattle.match_input.specs.Line.{IsRefusedInputLine};
 
 use crate::InputRule;
 use flow_values::{Items, NoMemory};
@@ -40,7 +41,7 @@ pub(crate) fn read_line(
     requires { next + MAX_OBJECTS ≤ 2 ^ 64 }
     ensures ok { IfOk result (λ outcome. IfOk outcome (λ line.
         IsBundleLine last next bytes.now (data_in line.bundle) line.observations)) }
-    ensures refused { IfOk result (λ outcome. IfErr outcome (IsRefusedFor last next bytes.now)) }
+    ensures refused { IfOk result (λ outcome. IfErr outcome (IsRefusedInputLine last next bytes.now)) }
     ensures few { IfOk result (λ outcome. IfOk outcome (λ line. length line.observations
         ≤ MAX_OBJECTS)) }
 {
@@ -59,7 +60,7 @@ pub(crate) fn read_line(
 fn json_of(reader: &mut JsonReader, bytes: &[u8]) -> Result<Result<Json, InputRule>, NoMemory>
     ensures ok { IfOk result (λ outcome. IfOk outcome (IsJsonOf bytes.now)) }
     ensures refused { (last : Option ℤ) (next : ℕ)
-        → IfOk result (λ outcome. IfErr outcome (IsRefusedFor last next bytes.now)) }
+        → IfOk result (λ outcome. IfErr outcome (IsRefusedInputLine last next bytes.now)) }
 {
     match reader.read(bytes) {
         Ok(json) => Ok(Ok(json)),
@@ -74,7 +75,7 @@ fn bundle_of(alloc: Global, json: Json) -> Result<Result<Bundle, InputRule>, NoM
     ensures ok { IfOk result (λ outcome. IfOk outcome
         (λ bundle. IsBundle (data_of json) (data_in bundle))) }
     ensures refused { (last : Option ℤ) (next : ℕ) (bytes : List ℕ) → IsJsonOf bytes json
-        → IfOk result (λ outcome. IfErr outcome (IsRefusedFor last next bytes)) }
+        → IfOk result (λ outcome. IfErr outcome (IsRefusedInputLine last next bytes)) }
 {
     match read_bundle(alloc, json) {
         Ok(bundle) => Ok(Ok(bundle)),
@@ -92,11 +93,11 @@ fn in_order(
     bundle: Bundle,
 ) -> Result<Result<BundleLine, InputRule>, NoMemory>
     requires { next + MAX_OBJECTS ≤ 2 ^ 64 }
-    ensures ok { (bytes : List ℕ) → IsTextOf bytes (data_in bundle)
+    ensures ok { (bytes : List ℕ) → IsTextOfBundle bytes (data_in bundle)
         → IfOk result (λ outcome. IfOk outcome (λ line.
         IsBundleLine last next bytes (data_in line.bundle) line.observations)) }
-    ensures refused { (bytes : List ℕ) → IsTextOf bytes (data_in bundle)
-        → IfOk result (λ outcome. IfErr outcome (IsRefusedFor last next bytes)) }
+    ensures refused { (bytes : List ℕ) → IsTextOfBundle bytes (data_in bundle)
+        → IfOk result (λ outcome. IfErr outcome (IsRefusedInputLine last next bytes)) }
     ensures few { IfOk result (λ outcome. IfOk outcome (λ line. length line.observations
         ≤ MAX_OBJECTS)) }
 {
@@ -123,7 +124,7 @@ fn decreasing_time(
     observations: &[Observation],
 ) -> Option<(Instant, Instant)>
     ensures some { IfSome result (λ (before, now). Decreases last observations.now before now) }
-    ensures none { IfNone result (IsInOrder last observations.now) }
+    ensures none { IfNone result (IsInOrderAfter last observations.now) }
 {
     let before = last?;
     let [first, ..] = observations else {

@@ -9,7 +9,8 @@ ghost use Rattle.match_input.specs.declared.mode.Mode.{Mode};
 ghost use Rattle.match_input.specs.declared.mode.Mode.TheVariants.{Lines};
 ghost use Rattle.match_input.specs.declared.rule.InputRule.{InputRule};
 ghost use Rattle.match_input.specs.Line.{IsBundleLine, last_after};
-ghost use Rattle.match_input.specs.Reading.{BundleOf, InputEnd, Whole, Refused, Reads, Reading};
+ghost use Rattle.match_input.specs.Reading.{BundleOf, InputEnd, Whole, Refused, ReadsInputLines};
+ghost use Rattle.match_input.specs.Reading.{Reading};
 
 use flow_lines::laws::lines_continue;
 use stix_bundles::laws::{
@@ -47,10 +48,10 @@ pub fn continues()
     ensures { (last : Option ℤ) (next number : ℕ) (bytes : List ℕ) (later : LineStream)
         (objects : List Data) (observations : List Observation)
         (all : List BundleOf) (end : InputEnd) → IsBundleLine last next bytes objects observations
-        → Reads last next (line_then number bytes later) all end
+        → ReadsInputLines last next (line_then number bytes later) all end
         → (rest : List BundleOf) × (all
         ≡ record { line = number; objects = objects; observations = observations } ∷ rest)
-        × Reads (last_after last observations) (next + length observations) later rest end }
+        × ReadsInputLines (last_after last observations) (next + length observations) later rest end }
 {
     one_json();
     one_bundle();

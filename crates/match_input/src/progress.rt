@@ -3,7 +3,7 @@ ghost use Rattle.std.specs.Prelude.{OnOk, length};
 ghost use Rattle.flow_edges.specs.Faults.{Counted};
 ghost use Rattle.match_input.specs.Line.{last_after};
 ghost use Rattle.match_input.specs.Ahead.{IsOpen, HoldsLines, LacksLineIn, AnswersNext};
-ghost use Rattle.match_input.specs.inner.Turn.{state_of, AreFew};
+ghost use Rattle.match_input.specs.inner.Turn.{reader_state, AreFew};
 
 use crate::bundle_line::{BundleLine, last_time, read_line};
 use crate::{Batch, ReadEnd, Stage};
@@ -30,7 +30,7 @@ impl Progress {
     pub(crate) fn next_batch<S: Source>(&mut self, source: &mut S) -> Result<Option<Batch>, ReadEnd>
         requires { AreFew self.old.stage self.old.observations }
         ensures next { IsOpen self.old.stage
-            → AnswersNext (state_of self.old) (state_of self.new) (S.left source.old)
+            → AnswersNext (reader_state self.old) (reader_state self.new) (S.left source.old)
             (S.left source.new) result }
         ensures few { OnOk result (AreFew self.new.stage self.new.observations) }
         ensures unread { HoldsLines self.old.stage → source.new ≡ source.old }
@@ -39,10 +39,10 @@ impl Progress {
             IfSome (S.began source.new) (LacksLineIn self.old.stage batch.line
             (S.left source.old)))) }
         ensures at_end { self.old.stage ≡ Stage.AtEnd
-            → (result ≡ Ok None) × (state_of self.new ≡ state_of self.old)
+            → (result ≡ Ok None) × (reader_state self.new ≡ reader_state self.old)
             × (source.new ≡ source.old) }
         ensures ended { self.old.stage ≡ Stage.Ended
-            → (result ≡ Err ReadEnd.Ended) × (state_of self.new ≡ state_of self.old)
+            → (result ≡ Err ReadEnd.Ended) × (reader_state self.new ≡ reader_state self.old)
             × (source.new ≡ source.old) }
         ensures causes { Counted (IsOpen self.old.stage × (result ≡ Err ReadEnd.ReadFault))
             (S.faults source.old) (S.faults source.new) }

@@ -20,12 +20,12 @@ pub struct Reader {
 }
 
 impl Model for Reader {
-    ghost use Rattle.match_input.specs.Ahead.{ReaderState};
-    ghost use Rattle.match_input.specs.inner.Turn.{state_of, AreFew};
+    ghost use Rattle.match_input.specs.Ahead.{InputReaderState};
+    ghost use Rattle.match_input.specs.inner.Turn.{reader_state, AreFew};
 
-    ghost Value = { ReaderState };
+    ghost Value = { InputReaderState };
 
-    ghost view = { λ reader. state_of reader.progress };
+    ghost view = { λ reader. reader_state reader.progress };
 
     ghost invariant = { λ reader. AreFew reader.progress.stage reader.progress.observations };
 }

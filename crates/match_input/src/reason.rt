@@ -1,6 +1,7 @@
 ghost use Rattle.std.specs.Prelude.{◌≡◌, ◌++◌, codes};
-ghost use Rattle.match_input.specs.Texts.{at_path, json_text, bundle_text, first_break_text};
-ghost use Rattle.match_input.specs.inner.Reason.{reason_text};
+ghost use Rattle.match_input.specs.Texts.{text_at_path, json_text, bundle_text};
+ghost use Rattle.match_input.specs.Texts.{first_object_break_text};
+ghost use Rattle.match_input.specs.inner.Reason.{line_reason_text};
 
 use stix_bundles::{BundleRefusal, ObjectBreak};
 use stix_json::JsonRefusal;
@@ -24,7 +25,7 @@ pub(crate) struct Reason<'a> {
 impl<'a> Reason<'a> {
     /// A name with a path.
     pub(crate) fn at(name: &'static str, path: &'a str) -> Reason<'a>
-        ensures { reason_text result ≡ at_path name.now path.now }
+        ensures { line_reason_text result ≡ text_at_path name.now path.now }
     {
         Reason {
             name,
@@ -35,7 +36,7 @@ impl<'a> Reason<'a> {
 
     /// The text for bytes that are no JSON.
     pub(crate) fn of_json(refusal: &'a JsonRefusal) -> Reason<'a>
-        ensures { reason_text result ≡ json_text refusal.now }
+        ensures { line_reason_text result ≡ json_text refusal.now }
     {
         match refusal {
             JsonRefusal::NotJson => Reason::at("NotJson", ""),
@@ -50,7 +51,7 @@ impl<'a> Reason<'a> {
 
     /// The text for a JSON value that is no bundle.
     pub(crate) fn of_bundle(refusal: &'a BundleRefusal) -> Reason<'a>
-        ensures { reason_text result ≡ bundle_text refusal.now }
+        ensures { line_reason_text result ≡ bundle_text refusal.now }
     {
         match refusal {
             BundleRefusal::NotBundle { path } => Reason::at("NotBundle", path.as_str()),
@@ -61,7 +62,7 @@ impl<'a> Reason<'a> {
 
     /// The text for the first of some broken rules.
     fn of_first(breaks: &'a [ObjectBreak]) -> Reason<'a>
-        ensures { reason_text result ≡ codes "Breaks" ++ first_break_text breaks.now }
+        ensures { line_reason_text result ≡ codes "Breaks" ++ first_object_break_text breaks.now }
     {
         match breaks {
             [first, ..] => Reason {

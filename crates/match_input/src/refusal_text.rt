@@ -4,8 +4,8 @@ ghost use Rattle.std.specs.Prelude.{◌≡◌, ◌++◌, List, ℕ, codes, decim
 ghost use Rattle.flow_edges.specs.Faults.{Counted};
 ghost use Rattle.flow_edges.specs.Flow.{WritesWhole, WritesPart};
 ghost use Rattle.stix_times.specs.Writing.{IsCanonicalTextOf};
-ghost use Rattle.match_input.specs.inner.Reason.{broken_words, reason_text, path_lead};
-ghost use Rattle.match_input.specs.Texts.{at_path, line_of_text, refused_line_text};
+ghost use Rattle.match_input.specs.inner.Reason.{broken_words, line_reason_text, path_lead};
+ghost use Rattle.match_input.specs.Texts.{text_at_path, line_of_text, refused_line_text};
 ghost use Rattle.match_input.specs.Texts.{IsInputRefusalText};
 
 use crate::InputRule;
@@ -131,9 +131,9 @@ fn write_times<'a, S: Sink>(
 
 /// Writes the line of a reason.
 fn write_reason<S: Sink>(line: u64, said: Reason<'_>, sink: &mut S) -> Result<(), Fault>
-    ensures text { WritesWhole (refused_line_text line (reason_text said.entry))
+    ensures text { WritesWhole (refused_line_text line (line_reason_text said.entry))
         (S.written sink.old) (S.written sink.new) result }
-    ensures part { OnErr result (WritesPart (refused_line_text line (reason_text said.entry))
+    ensures part { OnErr result (WritesPart (refused_line_text line (line_reason_text said.entry))
         (S.written sink.old) (S.written sink.new)) }
     ensures causes { Counted (IsErr result) (S.faults sink.old) (S.faults sink.new) }
 {
@@ -156,9 +156,9 @@ fn write_at<'a, S: Sink>(
     path: &'a str,
     sink: &mut S,
 ) -> Result<(), Fault>
-    ensures text { WritesWhole (line_of_text line.now (at_path name.now path.now))
+    ensures text { WritesWhole (line_of_text line.now (text_at_path name.now path.now))
         (S.written sink.old) (S.written sink.new) result }
-    ensures part { OnErr result (WritesPart (line_of_text line.now (at_path name.now path.now))
+    ensures part { OnErr result (WritesPart (line_of_text line.now (text_at_path name.now path.now))
         (S.written sink.old) (S.written sink.new)) }
     ensures causes { Counted (IsErr result) (S.faults sink.old) (S.faults sink.new) }
 {
@@ -187,10 +187,10 @@ fn write_broken<'a, S: Sink>(
     sink: &mut S,
 ) -> Result<(), Fault>
     ensures text { WritesWhole (line_of_text line.now
-        (at_path (name.now ++ broken_words object.now rule.now) path.now)) (S.written sink.old)
+        (text_at_path (name.now ++ broken_words object.now rule.now) path.now)) (S.written sink.old)
         (S.written sink.new) result }
     ensures part { OnErr result (WritesPart
-        (line_of_text line.now (at_path (name.now ++ broken_words object.now rule.now) path.now))
+        (line_of_text line.now (text_at_path (name.now ++ broken_words object.now rule.now) path.now))
         (S.written sink.old) (S.written sink.new)) }
     ensures causes { Counted (IsErr result) (S.faults sink.old) (S.faults sink.new) }
 {

@@ -71,9 +71,9 @@ fn whole_line<S: Source>(alloc: Global, source: &mut S) -> Result<Option<Line>, 
 }
 
 impl From<LineRefusal> for ReadEnd {
-    ghost use Rattle.match_input.specs.inner.Turn.{end_of_line};
+    ghost use Rattle.match_input.specs.inner.Turn.{refused_read_end};
 
-    ghost from_gives = { λ refusal end. end ≡ end_of_line refusal };
+    ghost from_gives = { λ refusal end. end ≡ refused_read_end refusal };
 
     fn from(refusal: LineRefusal) -> ReadEnd {
         match refusal {

@@ -14,17 +14,17 @@ use Rattle.match_pruning.specs.declared.partial_match.PartialMatch.{PartialMatch
 use Rattle.match_pruning.specs.declared.completion_bound.CompletionBound.{CompletionBound}
 use Rattle.match_pruning.specs.PartialMatchTree.{PartialMatchTree}
 use Rattle.match_pruning.specs.inner.PartialMatches.{partial_match_tree, partial_match_trees}
-use Rattle.match_pruning.specs.inner.Steps.{joined, may_join}
+use Rattle.match_pruning.specs.inner.Steps.{joined_matches, may_join}
 use Rattle.match_pruning.specs.inner.Retains.{retains}
 use Rattle.match_pruning.specs.inner.Numbers.{numbers}
 use Rattle.match_pruning.specs.inner.Needed.{PendingLeftTrees, is_needed}
 use Rattle.match_pruning.specs.inner.Picks.{HasPerfectMatching}
-use Rattle.match_pruning.specs.inner.CompletionBounds.{may_precede, IsReached}
+use Rattle.match_pruning.specs.inner.CompletionBounds.{may_precede, IsReachedCompletion}
 use Rattle.match_pruning.proofs.RetainsLemmas.{le_trans, le_both, lt_false}
 use Rattle.match_pruning.proofs.OldestLemmas.{retains_later}
 
--- what may be joined with a greedy completion may go before it
-pub join_precedes : (p : PartialMatchTree) (r : CompletionBound) (greedy_completion left : PartialMatchTree) → IsReached p r greedy_completion → may_join join.Then left greedy_completion ≡ true → may_precede left r.earliest p ≡ true
+-- what may be joined_matches with a greedy completion may go before it
+pub join_precedes : (p : PartialMatchTree) (r : CompletionBound) (greedy_completion left : PartialMatchTree) → IsReachedCompletion p r greedy_completion → may_join join.Then left greedy_completion ≡ true → may_precede left r.earliest p ≡ true
 join_precedes p r greedy_completion left h may =
     let parts = and_parts _ _ may in
     let apart = apart_to left.tree greedy_completion.tree parts.1 in
@@ -34,9 +34,9 @@ join_precedes p r greedy_completion left h may =
       not_it n false is not_there = is
       not_it n true is not_there = absurd (let e : false ≡ true = sym not_there ∙ h.has_partial_match n is in cc)
 
--- where a thing begins that may be joined with a greedy completion, the two begin together
+-- where a thing begins that may be joined_matches with a greedy completion, the two begin together
 pub join_begins : (greedy_completion left : PartialMatchTree) → left.earliest ≤ℤ left.latest → may_join join.Then left greedy_completion ≡ true →
-    ((joined join.Then left greedy_completion).earliest ≡ left.earliest) × (left.earliest ≤ℤ greedy_completion.earliest)
+    ((joined_matches join.Then left greedy_completion).earliest ≡ left.earliest) × (left.earliest ≤ℤ greedy_completion.earliest)
 join_begins greedy_completion left span may =
     let before = le_true left.latest greedy_completion.earliest (and_parts _ _ may).0 in
     let order = le_trans left.earliest left.latest greedy_completion.earliest span before in
@@ -45,9 +45,9 @@ join_begins greedy_completion left span may =
 -- ---- sequences that go on
 
 -- by something, where the sequences begin no later
-pub continues : (p : PartialMatchTree) (old new : CompletionBound) (greedy_completion left : PartialMatchTree) → IsReached p old greedy_completion → may_join join.Then left greedy_completion ≡ true → left.earliest ≤ℤ left.latest →
-    left.earliest ≤ℤ new.earliest → (left.earliest ≡ new.earliest → HasPerfectMatching new.matching.list.items (joined join.Then left greedy_completion).tree) →
-    IsReached p new (joined join.Then left greedy_completion)
+pub continues : (p : PartialMatchTree) (old new : CompletionBound) (greedy_completion left : PartialMatchTree) → IsReachedCompletion p old greedy_completion → may_join join.Then left greedy_completion ≡ true → left.earliest ≤ℤ left.latest →
+    left.earliest ≤ℤ new.earliest → (left.earliest ≡ new.earliest → HasPerfectMatching new.matching.list.items (joined_matches join.Then left greedy_completion).tree) →
+    IsReachedCompletion p new (joined_matches join.Then left greedy_completion)
 continues p old new greedy_completion left h may span bound picks =
     let begins = join_begins greedy_completion left span may in
     record {
@@ -68,23 +68,23 @@ held_once (x ∷ held) left (zero, l, is) = subst (λ (p : PartialMatchTree). Is
 held_once (x ∷ held) left (suc k, l, is) = held_once held left (k, omega (arith, l), is)
 
 -- by something that lies wholly where they begin
-pub at_same : (p : PartialMatchTree) (old : CompletionBound) (greedy_completion left : PartialMatchTree) (held : List PartialMatch) → IsReached p old greedy_completion → Contains (partial_match_trees held) left →
+pub at_same : (p : PartialMatchTree) (old : CompletionBound) (greedy_completion left : PartialMatchTree) (held : List PartialMatch) → IsReachedCompletion p old greedy_completion → Contains (partial_match_trees held) left →
     may_join join.Then left greedy_completion ≡ true → left.earliest ≡ old.earliest → HasPerfectMatching old.matching.list.items greedy_completion.tree
 at_same p old greedy_completion left held h there may here =
     let begins = join_begins greedy_completion left (held_span held left there) may in
     h.picks (le_both greedy_completion.earliest old.earliest h.bound (subst (λ (t : ℤ). t ≤ℤ greedy_completion.earliest) here begins.1))
 
-pub stays : (p : PartialMatchTree) (old new : CompletionBound) (greedy_completion left : PartialMatchTree) (held : List PartialMatch) → IsReached p old greedy_completion → Contains (partial_match_trees held) left →
+pub stays : (p : PartialMatchTree) (old new : CompletionBound) (greedy_completion left : PartialMatchTree) (held : List PartialMatch) → IsReachedCompletion p old greedy_completion → Contains (partial_match_trees held) left →
     may_join join.Then left greedy_completion ≡ true → new.earliest ≡ old.earliest →
-    (left.earliest ≡ old.earliest → HasPerfectMatching old.matching.list.items greedy_completion.tree → HasPerfectMatching new.matching.list.items (joined join.Then left greedy_completion).tree) →
-    IsReached p new (joined join.Then left greedy_completion)
+    (left.earliest ≡ old.earliest → HasPerfectMatching old.matching.list.items greedy_completion.tree → HasPerfectMatching new.matching.list.items (joined_matches join.Then left greedy_completion).tree) →
+    IsReachedCompletion p new (joined_matches join.Then left greedy_completion)
 stays p old new greedy_completion left held h there may same picks =
     let span = held_span held left there in let begins = join_begins greedy_completion left span may in
     continues p old new greedy_completion left h may span (subst (λ (t : ℤ). left.earliest ≤ℤ t) (sym same) (le_trans left.earliest greedy_completion.earliest old.earliest begins.1 h.bound))
     (λ e. let here = e ∙ same in picks here (at_same p old greedy_completion left held h there may here))
 
 -- what begins no later than the sequences, and not with them, begins before
-pub begins_before : (p : PartialMatchTree) (old : CompletionBound) (greedy_completion left : PartialMatchTree) (held : List PartialMatch) → IsReached p old greedy_completion → Contains (partial_match_trees held) left →
+pub begins_before : (p : PartialMatchTree) (old : CompletionBound) (greedy_completion left : PartialMatchTree) (held : List PartialMatch) → IsReachedCompletion p old greedy_completion → Contains (partial_match_trees held) left →
     may_join join.Then left greedy_completion ≡ true → (left.earliest ≡ old.earliest → ⊥) → left.earliest <ℤ old.earliest
 begins_before p old greedy_completion left held h there may apart =
     by (int_lt left.earliest old.earliest) refl where
@@ -110,9 +110,9 @@ any_item f (x ∷ xs) h = elim (or_cases (f x) (list_any f xs) h) [
 ]
 
 -- what is needed of a greedy completion that is kept nowhere goes on by something held on the left
-pub needed_by_one : (now : ℤ) (x : PendingLeftTrees) (above : List PendingLeftTrees) (p greedy_completion : PartialMatchTree) (r : CompletionBound) → IsReached p r greedy_completion → retains x.window r.earliest now ≡ false →
+pub needed_by_one : (now : ℤ) (x : PendingLeftTrees) (above : List PendingLeftTrees) (p greedy_completion : PartialMatchTree) (r : CompletionBound) → IsReachedCompletion p r greedy_completion → retains x.window r.earliest now ≡ false →
     is_needed now (x ∷ above) greedy_completion ≡ true →
-    (left : PartialMatchTree) × Contains x.left left × (may_join join.Then left greedy_completion ≡ true) × (is_needed now above (joined join.Then left greedy_completion) ≡ true)
+    (left : PartialMatchTree) × Contains x.left left × (may_join join.Then left greedy_completion ≡ true) × (is_needed now above (joined_matches join.Then left greedy_completion) ≡ true)
 needed_by_one now x above p greedy_completion r h gone wants = elim (or_cases _ _ wants) [
   | inl retained ↦ absurd (let e : false ≡ true = sym gone ∙ retains_later x.window greedy_completion.earliest r.earliest now h.bound retained in cc)
   | inr any ↦ (let found = any_item _ x.left any in let parts = and_parts _ _ found.2 in (found.0, found.1, parts.0, parts.1))

@@ -14,8 +14,8 @@ use Rattle.match_pruning.specs.declared.join.Join.TheVariants as join
 use Rattle.match_pruning.specs.declared.earliest_start.EarliestStart.{EarliestStart}
 use Rattle.match_pruning.specs.PartialMatchTree.{PartialMatchTree}
 use Rattle.match_pruning.specs.inner.Retains.{is_ahead, retains}
-use Rattle.match_pruning.specs.inner.CompletionBounds.{covers, MayBegin, MayEnd}
-use Rattle.match_pruning.specs.inner.Steps.{joined, may_join, join_row}
+use Rattle.match_pruning.specs.inner.CompletionBounds.{covers, MayBegin, MayEndOperand}
+use Rattle.match_pruning.specs.inner.Steps.{joined_matches, may_join, match_join_row}
 use Rattle.match_pruning.specs.inner.Needed.{PendingLeftTrees, is_needed, needed}
 use Rattle.match_pruning.proofs.RetainsLemmas.{le_trans, le_both, le_false, lt_false}
 use Rattle.match_pruning.proofs.CompletionBoundLemmas.{any_item, join_begins}
@@ -44,7 +44,7 @@ min_left a b = omega (arith, ints, clamps)
 -- one side more ahead
 pub earliest_start_more : (now : ℤ) (x : PendingLeftTrees) (ahead : List PendingLeftTrees) (above result : EarliestStart) (p : PartialMatchTree) → (x.window.after_left ≡ false → result.start ≡ None) →
     (x.window.after_left ≡ true → covers result.start now ≡ true) → (x.window.after_left ≡ true → result.start ≡ Some now → result.taken ≡ None) →
-    (x.window.after_left ≡ true → (left : PartialMatchTree) → Contains x.left left → MayBegin above left → MayEnd result left) →
+    (x.window.after_left ≡ true → (left : PartialMatchTree) → Contains x.left left → MayBegin above left → MayEndOperand result left) →
     ((left : PartialMatchTree) → Contains x.left left → left.earliest ≤ℤ left.latest) →
     ((q : PartialMatchTree) → is_needed now ahead q ≡ true → MayBegin above q) → is_needed now (x ∷ ahead) p ≡ true → MayBegin result p
 earliest_start_more now x ahead above result p any at_now free_now held span all wants = by x.window.after_left refl where
@@ -53,7 +53,7 @@ earliest_start_more now x ahead above result p any at_now free_now held span all
     covered = ap (λ (r : Option ℤ). covers r p.earliest) (any is);
     free = λ n t e. absurd (let f : None ≡ Some p.earliest = sym (any is) ∙ e in cc);
   }
-  by true is = elim (or_cases (retains x.window p.earliest now) (list_any (λ (l : PartialMatchTree). may_join join.Then l p && is_needed now ahead (joined join.Then l p)) x.left) wants) [
+  by true is = elim (or_cases (retains x.window p.earliest now) (list_any (λ (l : PartialMatchTree). may_join join.Then l p && is_needed now ahead (joined_matches join.Then l p)) x.left) wants) [
     | inl retained ↦ (
         let ahead_of_now : is_ahead true p.earliest now ≡ true = ap (λ (b : Bool). is_ahead b p.earliest now) (sym is) ∙ (and_parts _ _ retained).0 in
         let after = le_true now p.earliest ahead_of_now in
@@ -67,7 +67,7 @@ earliest_start_more now x ahead above result p any at_now free_now held span all
     | inr one ↦ (
         let found = any_item _ x.left one in let l = found.0 in let parts = and_parts _ _ found.2 in
         let begins = join_begins p l (span l found.1) parts.0 in
-        let joins = all (joined join.Then l p) parts.1 in
+        let joins = all (joined_matches join.Then l p) parts.1 in
         let may : MayBegin above l = record {
           covered = subst (λ (t : ℤ). covers above.start t ≡ true) begins.0 joins.covered;
           free = λ n t e. (or_parts (has n l.tree) (has n p.tree) (joins.free n t (e ∙ ap Some (sym begins.0)))).0;
@@ -83,16 +83,16 @@ earliest_start_more now x ahead above result p any at_now free_now held span all
         })
   ]
 
--- nothing is needed of what is joined with a thing that begins before
+-- nothing is needed of what is joined_matches with a thing that begins before
 pub row_too_early : (now : ℤ) (ahead : List PendingLeftTrees) (earliest_start : Option ℤ) (j : Join) (x : PartialMatchTree) (ys : List PartialMatchTree) →
-    ((q : PartialMatchTree) → is_needed now ahead q ≡ true → covers earliest_start q.earliest ≡ true) → covers earliest_start x.earliest ≡ false → needed now ahead (join_row j x ys) ≡ []
+    ((q : PartialMatchTree) → is_needed now ahead q ≡ true → covers earliest_start q.earliest ≡ true) → covers earliest_start x.earliest ≡ false → needed now ahead (match_join_row j x ys) ≡ []
 row_too_early now ahead earliest_start j x [] all early = refl
 row_too_early now ahead earliest_start j x (y ∷ ys) all early = by (may_join j x y) refl (row_too_early now ahead earliest_start j x ys all early) where
-  not_needed : (b : Bool) → is_needed now ahead (joined j x y) ≡ b → is_needed now ahead (joined j x y) ≡ false
+  not_needed : (b : Bool) → is_needed now ahead (joined_matches j x y) ≡ b → is_needed now ahead (joined_matches j x y) ≡ false
   not_needed false is = is
   not_needed true is = absurd (let e : false ≡ true
-      = sym early ∙ earliest_start_later earliest_start (joined j x y).earliest x.earliest (min_left x.earliest y.earliest) (all (joined j x y) is) in cc)
+      = sym early ∙ earliest_start_later earliest_start (joined_matches j x y).earliest x.earliest (min_left x.earliest y.earliest) (all (joined_matches j x y) is) in cc)
 
-  by : (b : Bool) → may_join j x y ≡ b → needed now ahead (join_row j x ys) ≡ [] → needed now ahead (join_row j x (y ∷ ys)) ≡ []
+  by : (b : Bool) → may_join j x y ≡ b → needed now ahead (match_join_row j x ys) ≡ [] → needed now ahead (match_join_row j x (y ∷ ys)) ≡ []
   by false is rest = rw is rest
-  by true is rest = rw is (let out : is_needed now ahead (joined j x y) ≡ false = not_needed (is_needed now ahead (joined j x y)) refl in rw out rest)
+  by true is rest = rw is (let out : is_needed now ahead (joined_matches j x y) ≡ false = not_needed (is_needed now ahead (joined_matches j x y)) refl in rw out rest)

@@ -11,7 +11,7 @@ use Rattle.match_pruning.specs.declared.join.Join.TheVariants as join
 use Rattle.match_pruning.specs.declared.greedy_completion.GreedyCompletion.{GreedyCompletion}
 use Rattle.match_pruning.specs.PartialMatchTree.{PartialMatchTree}
 use Rattle.match_pruning.specs.inner.CompletionBounds.{IsGreedyCompletion}
-use Rattle.match_pruning.specs.inner.Steps.{joined, may_join}
+use Rattle.match_pruning.specs.inner.Steps.{joined_matches, may_join}
 use Rattle.match_pruning.proofs.RetainsLemmas.{le_false}
 use Rattle.match_pruning.proofs.CompletionBoundLemmas.{join_begins}
 
@@ -24,7 +24,7 @@ le_before a b h = by (int_le a b) refl where
 -- it ends before the greedy completion, and none of its numbers is there
 pub taken : (old new : GreedyCompletion) (left partial_match : PartialMatchTree) → IsGreedyCompletion old partial_match → left.earliest ≤ℤ left.latest → {time : ℤ} → left.latest ≤ℤ time → time ≡ old.earliest →
     new.earliest ≡ left.earliest → ((n : ℕ) → has n left.tree ≡ true → ¬ (Contains old.numbers.items n)) → ((n : ℕ) → has n left.tree ≡ true → Contains new.numbers.items n) →
-    ((n : ℕ) → Contains old.numbers.items n → Contains new.numbers.items n) → (may_join join.Then left partial_match ≡ true) × IsGreedyCompletion new (joined join.Then left partial_match)
+    ((n : ℕ) → Contains old.numbers.items n → Contains new.numbers.items n) → (may_join join.Then left partial_match ≡ true) × IsGreedyCompletion new (joined_matches join.Then left partial_match)
 taken old new left partial_match s span before same begins other added kept =
     let order : left.latest ≤ℤ partial_match.earliest = subst (λ (t : ℤ). left.latest ≤ℤ t) (same ∙ sym s.begins) before in
     let may : may_join join.Then left partial_match ≡ true

@@ -15,7 +15,7 @@ use Rattle.match_pruning.specs.declared.matching.Neighbors.{Neighbors}
 use Rattle.match_pruning.specs.declared.join.Join.{Join}
 use Rattle.match_pruning.specs.declared.join.Join.TheVariants as join
 use Rattle.match_pruning.specs.inner.Numbers.{numbers}
-use Rattle.match_pruning.specs.inner.Picks.{MayPick, HasPerfectMatching, HasAt, IsAmong}
+use Rattle.match_pruning.specs.inner.Picks.{MayPick, HasPerfectMatching, HasNumberAt, IsAmong}
 use Rattle.match_pruning.specs.inner.Steps.{joined_tree}
 use Rattle.match_pruning.proofs.RowNumbersLemmas.{contains_numbers, numbers_firsts}
 
@@ -173,7 +173,7 @@ picks_pass place matching left x h = record {
 
 -- or one is
 pub picks_more : (place : ℕ) (matching : List Neighbors) (neighbors : Neighbors) (left x : BindTree) → HasPicksTo place matching left x → disjoint left x ≡ true →
-    IsDistinct nat_eq (numbers left) → HasAt neighbors.numbers.items place left → HasPicksTo (place + 1) (neighbors ∷ matching) left x
+    IsDistinct nat_eq (numbers left) → HasNumberAt neighbors.numbers.items place left → HasPicksTo (place + 1) (neighbors ∷ matching) left x
 unfolding IsDistinct
 picks_more place matching neighbors left x h apart once at = record {
   picks = at.number ∷ h.picks;

@@ -5,7 +5,7 @@ use Rattle.std.proofs.lemmas.Int.{ints}
 use Rattle.match_bindings.specs.Span.{later_by}
 use Rattle.match_pruning.specs.declared.window.Window.{Window}
 use Rattle.match_pruning.specs.Expiry.{ArePast, IsBeforeStart, IsStopped, HasExpired}
-use Rattle.match_pruning.specs.inner.Retains.{in_seconds, from_start, before_stop, is_ahead, retains}
+use Rattle.match_pruning.specs.inner.Retains.{lasts_at_most, ends_from_start, begins_before_stop, is_ahead, retains}
 
 pub le_self : (a : ℤ) → a ≤ℤ a
 le_self a = omega (arith, ints)
@@ -28,27 +28,27 @@ le_false a b h = grind (arith, ints)
 false_le : (a b : ℤ) → b <ℤ a → int_le a b ≡ false
 false_le a b h = grind (arith, ints)
 
-past : (o : Option ℕ) (e t : ℤ) → in_seconds o e t ≡ false → ArePast o e t
+past : (o : Option ℕ) (e t : ℤ) → lasts_at_most o e t ≡ false → ArePast o e t
 past None e t h = absurd (cc)
 past (Some x) e t h = lt_false t (later_by x e) h
 
-not_in : (o : Option ℕ) (e t : ℤ) → ArePast o e t → in_seconds o e t ≡ false
+not_in : (o : Option ℕ) (e t : ℤ) → ArePast o e t → lasts_at_most o e t ≡ false
 not_in None e t h = absurd h
 not_in (Some x) e t h = false_lt t (later_by x e) h
 
-early : (o : Option ℤ) (e : ℤ) → from_start o e ≡ false → IsBeforeStart o e
+early : (o : Option ℤ) (e : ℤ) → ends_from_start o e ≡ false → IsBeforeStart o e
 early None e h = absurd (cc)
 early (Some x) e h = le_false x e h
 
-not_from : (o : Option ℤ) (e : ℤ) → IsBeforeStart o e → from_start o e ≡ false
+not_from : (o : Option ℤ) (e : ℤ) → IsBeforeStart o e → ends_from_start o e ≡ false
 not_from None e h = absurd h
 not_from (Some x) e h = false_le x e h
 
-stopped : (o : Option ℤ) (t : ℤ) → before_stop o t ≡ false → IsStopped o t
+stopped : (o : Option ℤ) (t : ℤ) → begins_before_stop o t ≡ false → IsStopped o t
 stopped None t h = absurd (cc)
 stopped (Some y) t h = lt_false t y h
 
-not_before : (o : Option ℤ) (t : ℤ) → IsStopped o t → before_stop o t ≡ false
+not_before : (o : Option ℤ) (t : ℤ) → IsStopped o t → begins_before_stop o t ≡ false
 not_before None t h = absurd h
 not_before (Some y) t h = false_lt t y h
 
@@ -62,8 +62,8 @@ not_ahead false e t h k = absurd (cc)
 
 -- what doesn't retained has expired
 pub gone_expired : (w : Window) (e t : ℤ) → retains w e t ≡ false → HasExpired w e t
-gone_expired w e t h = by (is_ahead w.after_left e t) (in_seconds w.seconds e t) (from_start w.start e) (before_stop w.stop t) refl refl refl refl h where
-  by : (a s b p : Bool) → is_ahead w.after_left e t ≡ a → in_seconds w.seconds e t ≡ s → from_start w.start e ≡ b → before_stop w.stop t ≡ p →
+gone_expired w e t h = by (is_ahead w.after_left e t) (lasts_at_most w.seconds e t) (ends_from_start w.start e) (begins_before_stop w.stop t) refl refl refl refl h where
+  by : (a s b p : Bool) → is_ahead w.after_left e t ≡ a → lasts_at_most w.seconds e t ≡ s → ends_from_start w.start e ≡ b → begins_before_stop w.stop t ≡ p →
       (a && (s && (b && p))) ≡ false → HasExpired w e t
   by a false b p ea es eb ep k = inl (past w.seconds e t es)
   by a true false p ea es eb ep k = inr (inl (early w.start e eb))
@@ -76,9 +76,9 @@ pub expired_gone : (w : Window) (e t : ℤ) → HasExpired w e t → retains w e
 expired_gone w e t h = elim h [
   | inl k ↦ (let no = not_in w.seconds e t k in rw no (with_s (is_ahead w.after_left e t)))
   | inr k ↦ elim k [
-    | inl l ↦ (let no = not_from w.start e l in rw no (with_b (is_ahead w.after_left e t) (in_seconds w.seconds e t)))
+    | inl l ↦ (let no = not_from w.start e l in rw no (with_b (is_ahead w.after_left e t) (lasts_at_most w.seconds e t)))
     | inr l ↦ elim l [
-      | inl m ↦ (let no = not_before w.stop t m in rw no (with_p (is_ahead w.after_left e t) (in_seconds w.seconds e t) (from_start w.start e)))
+      | inl m ↦ (let no = not_before w.stop t m in rw no (with_p (is_ahead w.after_left e t) (lasts_at_most w.seconds e t) (ends_from_start w.start e)))
       | inr m ↦ (let no = not_ahead w.after_left e t m.0 m.1 in rw no refl)
     ]
   ]

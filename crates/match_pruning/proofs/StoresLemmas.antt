@@ -4,18 +4,18 @@ use Rattle.std.proofs.lemmas.List.{map-append}
 use Rattle.match_bindings.specs.declared.bounds.Bounds.{Bounds}
 use Rattle.match_bindings.specs.NumberedPattern.{NumberedPattern}
 use Rattle.match_pruning.specs.declared.window.Window.{Window}
-use Rattle.match_pruning.specs.Stores.{Store, window_of, side, level, levels, stores_under, windows_in}
+use Rattle.match_pruning.specs.Stores.{Store, window_of, side, store_level, levels, stores_under, windows_in}
 
--- one level more
+-- one store_level more
 pub next_level : (above : Bounds) (part : NumberedPattern) (n : ℕ) → 1 ≤ n
     → windows_in (levels above part (n + 1)) ≡ windows_in (levels above part n) ++ window_of above false ∷ []
 next_level above part zero h = absurd (omega arith)
 next_level above part (suc n) h =
     let next : suc n + 1 ≡ suc (suc n) = omega arith in
     ap (λ k. windows_in (levels above part k)) next
-    ∙ map-append (λ (store : Store). store.window) (levels above part (suc n)) (level above part (suc n) ∷ [])
+    ∙ map-append (λ (store : Store). store.window) (levels above part (suc n)) (store_level above part (suc n) ∷ [])
 
--- where the last level is reached
+-- where the last store_level is reached
 pub last_level : (above : Bounds) (part : NumberedPattern) (count n : ℕ) → n ≡ max 1 count
     → levels above part n ≡ levels above part count
 last_level above part zero n last = ap (levels above part) last

@@ -10,8 +10,8 @@ pub record PartialMatchTree : Type 0 where
   pub latest : ℤ
 
 -- a binding with its times in a log
-abbrev pub hold : Observed → BindTree → PartialMatchTree
-hold o x = record { tree = x; earliest = earliest o.first x; latest = latest o.last x }
+abbrev pub partial_match_of : Observed → BindTree → PartialMatchTree
+partial_match_of o x = record { tree = x; earliest = earliest o.first x; latest = latest o.last x }
 
 abbrev pub trees_in : List PartialMatchTree → List BindTree
 trees_in held = map (λ h. h.tree) held

@@ -1,5 +1,5 @@
 -- The stores of a matcher, each with what it may hold and its window: one for each side of an AND
--- and a FOLLOWEDBY, and for a REPEATS of n one for each level from 1 to n - 1.
+-- and a FOLLOWEDBY, and for a REPEATS of n one for each store_level from 1 to n - 1.
 use Rattle.std.specs.Prelude.{ℕ, zero, suc, Bool, true, false, List, [], ◌∷◌, ◌++◌, map}
 use Rattle.match_bindings.specs.declared.bounds.Bounds.{Bounds}
 use Rattle.match_bindings.specs.Bounds.{no_bounds, within, between}
@@ -7,12 +7,12 @@ use Rattle.match_bindings.specs.NumberedPattern.{NumberedPattern, Leaf, Both, Th
 use Rattle.match_pruning.specs.declared.window.Window.{Window}
 
 -- what a store holds: bindings of a side, or sets of j bindings of the repeated part
-pub data Part : Type 0 where
-  a_side : (side : NumberedPattern) → Part
-  a_level : (repeated : NumberedPattern) (count : ℕ) → Part
+pub data StorePart : Type 0 where
+  a_side : (side : NumberedPattern) → StorePart
+  a_level : (repeated : NumberedPattern) (count : ℕ) → StorePart
 
 pub record Store : Type 0 where
-  pub part : Part
+  pub part : StorePart
   pub window : Window
 
 -- the window of a store within these limits; the flag marks the right side of a FOLLOWEDBY
@@ -22,14 +22,14 @@ window_of above after_left = record { seconds = above.seconds; start = above.sta
 abbrev pub side : Bounds → Bool → NumberedPattern → Store
 side above after_left p = record { part = a_side p; window = window_of above after_left }
 
-abbrev pub level : Bounds → NumberedPattern → ℕ → Store
-level above p j = record { part = a_level p j; window = window_of above false }
+abbrev pub store_level : Bounds → NumberedPattern → ℕ → Store
+store_level above p j = record { part = a_level p j; window = window_of above false }
 
 -- the levels of a REPEATS, from 1 to below its count
 abbrev pub levels : Bounds → NumberedPattern → ℕ → List Store
 levels above p zero = []
 levels above p (suc zero) = []
-levels above p (suc (suc n)) = levels above p (suc n) ++ level above p (suc n) ∷ []
+levels above p (suc (suc n)) = levels above p (suc n) ++ store_level above p (suc n) ∷ []
 
 -- the stores of a part within these limits: its own before those of its parts, the left side first
 abbrev pub stores_under : Bounds → NumberedPattern → List Store

@@ -8,7 +8,7 @@
 ghost use Rattle.std.specs.Prelude.{◌≡◌, ◌≤◌, ◌<◌, length, IfOk, IfSome};
 ghost use Rattle.std.specs.List.{Contains};
 ghost use Rattle.match_pruning.specs.declared.key.SortKey.{SortKey};
-ghost use Rattle.match_pruning.specs.inner.SkipIndexes.{IsCommonTo, IsBlockOf, AreBlocksOf};
+ghost use Rattle.match_pruning.specs.inner.SkipIndexes.{IsCommonTo, IsBlockOfKeys, AreBlocksOf};
 
 use crate::key::SortKey;
 use flow_values::NoMemory;
@@ -32,7 +32,7 @@ impl Block {
     fn new(alloc: Global, keys: &[SortKey], start: usize, end: usize) -> Result<Block, NoMemory>
         requires { (start < end) × (end ≤ length keys.now) }
         ensures start { IfOk result (λ block. block.start ≡ start) }
-        ensures keys { IfOk result (λ block. IsBlockOf keys.now block) }
+        ensures keys { IfOk result (λ block. IsBlockOfKeys keys.now block) }
     {
         let first = &keys[start];
         let mut common = Vec::new(alloc);

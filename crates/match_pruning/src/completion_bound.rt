@@ -18,12 +18,12 @@ ghost use Rattle.match_pruning.specs.declared.join.Join.TheVariants as join;
 ghost use Rattle.match_pruning.specs.declared.completion_bound.CompletionBound.{CompletionBound};
 ghost use Rattle.match_pruning.specs.PartialMatchTree.{PartialMatchTree};
 ghost use Rattle.match_pruning.specs.inner.PartialMatches.{partial_match_tree, partial_match_trees};
-ghost use Rattle.match_pruning.specs.inner.Steps.{joined, may_join};
+ghost use Rattle.match_pruning.specs.inner.Steps.{joined_matches, may_join};
 ghost use Rattle.match_pruning.specs.inner.Picks.{HasPerfectMatching};
 ghost use Rattle.match_pruning.specs.inner.Needed.{is_needed};
 ghost use Rattle.match_pruning.specs.inner.PendingLefts.{pending_lefts_of};
 ghost use Rattle.match_pruning.specs.inner.CompletionBounds.{may_precede, IsInCandidateSet};
-ghost use Rattle.match_pruning.specs.inner.CompletionBounds.{IsReached};
+ghost use Rattle.match_pruning.specs.inner.CompletionBounds.{IsReachedCompletion};
 
 use crate::matching::Matching;
 use crate::numbers::{push_numbers, sort_dedup};
@@ -71,7 +71,7 @@ pub struct CompletionBound {
 impl CompletionBound {
     /// The bound of a new partial match alone. Takes no memory.
     pub fn new(alloc: Global, partial_match: &PartialMatch) -> CompletionBound
-        ensures { IsReached (partial_match_tree partial_match.now) result
+        ensures { IsReachedCompletion (partial_match_tree partial_match.now) result
             (partial_match_tree partial_match.now) }
     {
         CompletionBound {
@@ -91,7 +91,7 @@ impl CompletionBound {
     ) -> Result<bool, NoMemory>
         // One-sided: where a completion is needed, the answer is true. So false is a proof.
         ensures { IfOk result (λ may. (greedy_completion : PartialMatchTree)
-            → IsReached (partial_match_tree partial_match.now) self.old greedy_completion
+            → IsReachedCompletion (partial_match_tree partial_match.now) self.old greedy_completion
             → is_needed now (pending_lefts_of pending_lefts.now) greedy_completion ≡ true
             → may ≡ true) }
     {
@@ -118,11 +118,11 @@ impl CompletionBound {
         held: &[PartialMatch],
     ) -> Result<bool, NoMemory>
         ensures { IfOk result (λ may. (greedy_completion left : PartialMatchTree)
-            → IsReached (partial_match_tree partial_match.now) self.old greedy_completion
+            → IsReachedCompletion (partial_match_tree partial_match.now) self.old greedy_completion
             → Contains (partial_match_trees held.now) left
             → may_join join.Then left greedy_completion ≡ true
-            → (may ≡ true) × IsReached (partial_match_tree partial_match.now) self.new
-            (joined join.Then left greedy_completion)) }
+            → (may ≡ true) × IsReachedCompletion (partial_match_tree partial_match.now) self.new
+            (joined_matches join.Then left greedy_completion)) }
     {
         let bound = self.earliest;
         if self.record_candidates(alloc, bound, partial_match, held)? {
@@ -147,11 +147,11 @@ impl CompletionBound {
     ) -> Result<(), NoMemory>
         ensures { OnOk result ((before : CompletionBound)
             (greedy_completion left : PartialMatchTree) → before.earliest ≡ self.old.earliest
-            → IsReached (partial_match_tree partial_match.now) before greedy_completion
+            → IsReachedCompletion (partial_match_tree partial_match.now) before greedy_completion
             → Contains (partial_match_trees held.now) left
             → may_join join.Then left greedy_completion ≡ true
-            → left.earliest ≤ℤ earliest → IsReached (partial_match_tree partial_match.now) self.new
-            (joined join.Then left greedy_completion)) }
+            → left.earliest ≤ℤ earliest → IsReachedCompletion (partial_match_tree partial_match.now) self.new
+            (joined_matches join.Then left greedy_completion)) }
     {
         let bound = self.earliest;
         self.earliest = earliest;

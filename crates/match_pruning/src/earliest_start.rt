@@ -11,7 +11,7 @@ ghost use Rattle.std.specs.List.{Contains};
 ghost use Rattle.match_bindings.specs.BindTree.{tree_of, has};
 ghost use Rattle.match_pruning.specs.PartialMatchTree.{PartialMatchTree};
 ghost use Rattle.match_pruning.specs.inner.PartialMatches.{partial_match_tree, partial_match_trees};
-ghost use Rattle.match_pruning.specs.inner.CompletionBounds.{covers, MayBegin, MayEnd};
+ghost use Rattle.match_pruning.specs.inner.CompletionBounds.{covers, MayBegin, MayEndOperand};
 ghost use Rattle.match_pruning.specs.inner.Needed.{is_needed};
 ghost use Rattle.match_pruning.specs.inner.PendingLefts.{pending_lefts_of};
 
@@ -53,7 +53,7 @@ impl EarliestStart {
     fn under(&self, now: Instant, pending_left: &PendingLeft) -> EarliestStart
         ensures held { pending_left.now.window.after_left ≡ true → (left : PartialMatchTree)
             → Contains (partial_match_trees pending_left.now.left.held.items) left
-            → MayBegin self.now left → MayEnd result left }
+            → MayBegin self.now left → MayEndOperand result left }
         ensures now { pending_left.now.window.after_left ≡ true → covers result.start now ≡ true }
         ensures free { pending_left.now.window.after_left ≡ true → result.start ≡ Some now
             → result.taken ≡ None }

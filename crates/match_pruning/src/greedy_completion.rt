@@ -11,7 +11,7 @@ ghost use Rattle.match_bindings.specs.BindTree.{tree_of, has};
 ghost use Rattle.match_pruning.specs.declared.join.Join.TheVariants as join;
 ghost use Rattle.match_pruning.specs.PartialMatchTree.{PartialMatchTree};
 ghost use Rattle.match_pruning.specs.inner.PartialMatches.{partial_match_tree, partial_match_trees};
-ghost use Rattle.match_pruning.specs.inner.Steps.{joined, may_join};
+ghost use Rattle.match_pruning.specs.inner.Steps.{joined_matches, may_join};
 ghost use Rattle.match_pruning.specs.inner.Needed.{is_needed};
 ghost use Rattle.match_pruning.specs.inner.PendingLefts.{pending_lefts_of};
 ghost use Rattle.match_pruning.specs.inner.CompletionBounds.{IsGreedyCompletion};
@@ -79,7 +79,7 @@ impl GreedyCompletion {
             → IsGreedyCompletion self.old partial_match
             → (left : PartialMatchTree) × Contains (partial_match_trees held.now) left
             × (may_join join.Then left partial_match ≡ true)
-            × IsGreedyCompletion self.new (joined join.Then left partial_match)) }
+            × IsGreedyCompletion self.new (joined_matches join.Then left partial_match)) }
     {
         let mut lefts = held;
         while let Some((left, earlier)) = lefts.split_last() {

@@ -9,7 +9,8 @@ ghost use Rattle.match_bindings.specs.BindTree.{tree_of, disjoint};
 ghost use Rattle.match_pruning.specs.PartialMatchTree.{PartialMatchTree};
 ghost use Rattle.match_pruning.specs.inner.JoinFilters.{AreAdded, AreTooMany};
 ghost use Rattle.match_pruning.specs.inner.PartialMatches.{partial_match_tree, partial_match_trees};
-ghost use Rattle.match_pruning.specs.inner.Steps.{joined_tree, joined, may_join, joins};
+ghost use Rattle.match_pruning.specs.inner.Steps.{joined_tree, joined_matches, may_join};
+ghost use Rattle.match_pruning.specs.inner.Steps.{match_joins};
 ghost use Rattle.match_pruning.specs.declared.stop.Stop.TheVariants as stop;
 
 use crate::join_filter::JoinFilter;
@@ -68,7 +69,7 @@ impl Join {
     ) -> Result<PartialMatch, NoMemory>
         requires { disjoint (tree_of first.now.bind) (tree_of second.now.bind) ≡ true }
         ensures { IfOk result (λ held. partial_match_tree held
-            ≡ joined self (partial_match_tree first.now) (partial_match_tree second.now)) }
+            ≡ joined_matches self (partial_match_tree first.now) (partial_match_tree second.now)) }
     {
         let bind = self.bind(alloc, &first.bind, &second.bind)?;
         Ok(PartialMatch {
@@ -104,10 +105,10 @@ impl Join {
     ) -> Result<(), Stop>
         // Appends the filtered join, in the order of a nested loop.
         ensures joined { OnOk result (AreAdded join_filter.now
-            (joins self (partial_match_trees firsts.now) (partial_match_trees seconds.now))
+            (match_joins self (partial_match_trees firsts.now) (partial_match_trees seconds.now))
             out.old.items out.new.items) }
         ensures over_limit { result ≡ Err stop.OverLimit
-            → AreTooMany join_filter.now (joins self (partial_match_trees firsts.now)
+            → AreTooMany join_filter.now (match_joins self (partial_match_trees firsts.now)
             (partial_match_trees seconds.now)) out.old.items }
     {
         if seconds.is_empty() {

@@ -11,7 +11,7 @@ ghost use Rattle.match_pruning.specs.inner.PendingLefts.{pending_lefts_of};
 ghost use Rattle.match_pruning.specs.inner.PartialMatches.{partial_match_tree, partial_match_trees};
 ghost use Rattle.match_pruning.specs.inner.CompletionBounds.{IsEarliestStart};
 ghost use Rattle.match_pruning.specs.inner.SkipIndexes.{AreTried, IsSkipIndexOf};
-ghost use Rattle.match_pruning.specs.inner.Steps.{join_row, joins};
+ghost use Rattle.match_pruning.specs.inner.Steps.{match_join_row, match_joins};
 ghost use Rattle.match_pruning.specs.inner.Needed.{is_needed};
 ghost use Rattle.match_pruning.specs.declared.stop.Stop.TheVariants as stop;
 
@@ -59,11 +59,11 @@ impl<'a> Joining<'a> {
         requires candidates { 0 < length skip_index.now.keys.items
             → IsSkipIndexOf seconds.now skip_index.now }
         ensures joined { OnOk result (AreAdded self.now.join_filter.now
-            (joins self.now.how (partial_match_trees firsts.now) (partial_match_trees seconds.now))
+            (match_joins self.now.how (partial_match_trees firsts.now) (partial_match_trees seconds.now))
             out.old.items out.new.items) }
         ensures over_limit { result ≡ Err stop.OverLimit
             → AreTooMany self.now.join_filter.now
-            (joins self.now.how (partial_match_trees firsts.now) (partial_match_trees seconds.now))
+            (match_joins self.now.how (partial_match_trees firsts.now) (partial_match_trees seconds.now))
             out.old.items }
     {
         for first in firsts {
@@ -86,11 +86,11 @@ impl<'a> Joining<'a> {
         requires candidates { 0 < length skip_index.now.keys.items
             → IsSkipIndexOf seconds.now skip_index.now }
         ensures joined { OnOk result (AreAdded self.now.join_filter.now
-            (join_row self.now.how (partial_match_tree first.now)
+            (match_join_row self.now.how (partial_match_tree first.now)
             (partial_match_trees seconds.now)) out.old.items out.new.items) }
         ensures over_limit { result ≡ Err stop.OverLimit
             → AreTooMany self.now.join_filter.now
-            (join_row self.now.how (partial_match_tree first.now)
+            (match_join_row self.now.how (partial_match_tree first.now)
             (partial_match_trees seconds.now)) out.old.items }
     {
         if skip_index.keys.is_empty() {
@@ -109,11 +109,11 @@ impl<'a> Joining<'a> {
         out: &mut Vec<PartialMatch>,
     ) -> Result<(), Stop>
         ensures joined { OnOk result (AreAdded self.now.join_filter.now
-            (join_row self.now.how (partial_match_tree first.now)
+            (match_join_row self.now.how (partial_match_tree first.now)
             (partial_match_trees seconds.now)) out.old.items out.new.items) }
         ensures over_limit { result ≡ Err stop.OverLimit
             → AreTooMany self.now.join_filter.now
-            (join_row self.now.how (partial_match_tree first.now)
+            (match_join_row self.now.how (partial_match_tree first.now)
             (partial_match_trees seconds.now)) out.old.items }
     {
         for second in seconds {
@@ -135,11 +135,11 @@ impl<'a> Joining<'a> {
         requires tried { AreTried self.now.earliest_start.start self.now.how
             (partial_match_tree first.now) seconds.now places.now }
         ensures joined { OnOk result (AreAdded self.now.join_filter.now
-            (join_row self.now.how (partial_match_tree first.now)
+            (match_join_row self.now.how (partial_match_tree first.now)
             (partial_match_trees seconds.now)) out.old.items out.new.items) }
         ensures over_limit { result ≡ Err stop.OverLimit
             → AreTooMany self.now.join_filter.now
-            (join_row self.now.how (partial_match_tree first.now)
+            (match_join_row self.now.how (partial_match_tree first.now)
             (partial_match_trees seconds.now)) out.old.items }
     {
         let mut done = 0;
@@ -161,11 +161,11 @@ impl<'a> Joining<'a> {
         out: &mut Vec<PartialMatch>,
     ) -> Result<(), Stop>
         ensures joined { OnOk result (AreAdded self.now.join_filter.now
-            (join_row self.now.how (partial_match_tree first.now) (partial_match_tree second.now
+            (match_join_row self.now.how (partial_match_tree first.now) (partial_match_tree second.now
             ∷ [])) out.old.items out.new.items) }
         ensures over_limit { result ≡ Err stop.OverLimit
             → AreTooMany self.now.join_filter.now
-            (join_row self.now.how (partial_match_tree first.now) (partial_match_tree second.now
+            (match_join_row self.now.how (partial_match_tree first.now) (partial_match_tree second.now
             ∷ [])) out.old.items }
     {
         if self.earliest_start.covers(second.earliest) && self.how.may_join(first, second) {

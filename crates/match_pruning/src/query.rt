@@ -1,7 +1,7 @@
 ghost use Rattle.std.specs.Prelude.{◌≡◌, true, IfOk};
 ghost use Rattle.match_pruning.specs.PartialMatchTree.{PartialMatchTree};
 ghost use Rattle.match_pruning.specs.inner.PartialMatches.{partial_match_tree};
-ghost use Rattle.match_pruning.specs.inner.SkipIndexes.{HasCommon, IsQueryOf, CannotJoin};
+ghost use Rattle.match_pruning.specs.inner.SkipIndexes.{HasCommon, IsLeftOperandQuery, CannotJoin};
 
 use crate::earliest_start::EarliestStart;
 use crate::join::Join;
@@ -31,7 +31,7 @@ impl Query {
         earliest_start: &EarliestStart,
         first: &PartialMatch,
     ) -> Result<Query, NoMemory>
-        ensures { IfOk result (λ query. IsQueryOf join earliest_start.now.start
+        ensures { IfOk result (λ query. IsLeftOperandQuery join earliest_start.now.start
             (partial_match_tree first.now) query) }
     {
         Ok(Query {

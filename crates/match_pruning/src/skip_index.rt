@@ -12,7 +12,7 @@ ghost use Rattle.std.specs.List.{AllWithin, Contains};
 ghost use Rattle.match_pruning.specs.declared.key.SortKey.{SortKey};
 ghost use Rattle.match_pruning.specs.declared.partial_match.PartialMatch.{PartialMatch};
 ghost use Rattle.match_pruning.specs.inner.PartialMatches.{partial_match_tree};
-ghost use Rattle.match_pruning.specs.inner.SkipIndexes.{AreKeysOf, AreLevelsOf, AreTried};
+ghost use Rattle.match_pruning.specs.inner.SkipIndexes.{AreOperandKeys, AreLevelsOf, AreTried};
 ghost use Rattle.match_pruning.specs.inner.SkipIndexes.{IsExcluded, IsSkipIndexOf};
 
 use crate::block::Blocks;
@@ -72,7 +72,7 @@ impl SkipIndex {
     ) -> Result<Vec<usize>, NoMemory>
         requires levels { AreLevelsOf self.now.keys.items self.now.levels.items }
         ensures { IfOk result (λ places. (candidates : List PartialMatch)
-            → AreKeysOf candidates self.now.keys.items
+            → AreOperandKeys candidates self.now.keys.items
             → AreTried earliest_start.now.start join (partial_match_tree first.now) candidates
             places.items) }
     {
@@ -129,7 +129,7 @@ impl SkipIndex {
 
 /// The keys of the operands, sorted by their numbers.
 fn sorted_keys(alloc: Global, candidates: &[PartialMatch]) -> Result<Vec<SortKey>, NoMemory>
-    ensures { IfOk result (λ keys. AreKeysOf candidates.now keys.items) }
+    ensures { IfOk result (λ keys. AreOperandKeys candidates.now keys.items) }
 {
     let mut keys = Vec::with_capacity(alloc, candidates.len())?;
     'places: for place in 0..candidates.len() {

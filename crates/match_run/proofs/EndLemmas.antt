@@ -13,8 +13,8 @@ use Rattle.match_stream.specs.declared.ending.MatchRefusal.{MatchRefusal}
 use Rattle.match_stream.specs.declared.ending.MatchRefusal.TheVariants as refusal
 use Rattle.match_stream.specs.MatcherState.{MatcherState, Falls}
 use Rattle.match_stream.specs.Answer.{IsOverLimit, IsOverLimitAtRow}
-use Rattle.match_run.specs.inner.MatchEnds.{MayEnd, end_of_match}
-use Rattle.match_run.specs.inner.Rows.{row_of, EndsAtRow}
+use Rattle.match_run.specs.inner.MatchEnds.{MayEndMatching, end_of_match}
+use Rattle.match_run.specs.inner.Rows.{log_row, EndsAtRow}
 
 -- the matcher answered so
 abbrev Answers : MatchRefusal → MatchRefusal → Type 0
@@ -22,7 +22,7 @@ Answers one other = ◌≡◌ {A = Result (List Bind) MatchRefusal} (Err one) (E
 
 pub may_end : (why : MatchRefusal) (state : MatcherState) (now : ℤ) → state.ended ≡ None → ¬ (Falls state.last now)
     → ((before time : ℤ) → Answers why (refusal.Stopped (ending.OutOfOrder before time)) → (state.ended ≡ None) × (state.last ≡ Some before) × (time ≡ now) × (time <ℤ before))
-    → ((e : Ending) → Answers why (refusal.Ended e) → state.ended ≡ Some e) → MayEnd why
+    → ((e : Ending) → Answers why (refusal.Ended e) → state.ended ≡ Some e) → MayEndMatching why
 may_end (refusal.Stopped (ending.OverLimit number retained_limit)) state now runs order fallen ended = tt
 may_end (refusal.Stopped (ending.OutOfOrder before time)) state now runs order fallen ended =
     let is = fallen before time refl in
@@ -32,7 +32,7 @@ may_end (refusal.Ended e) state now runs order fallen ended = let some = ended e
 
 pub ends_row : (objects : List Data) (o : Observation) (log : List LogEntry) (state after : MatcherState)
     (truths : List Bool) (why : MatchRefusal) → AreTruths objects o.roots (plain_pattern state.pattern) truths
-    → ((number named : ℕ) → Answers why (refusal.Stopped (ending.OverLimit number named)) → IsOverLimitAtRow state (log ++ row_of o truths ∷ []) number named)
+    → ((number named : ℕ) → Answers why (refusal.Stopped (ending.OverLimit number named)) → IsOverLimitAtRow state (log ++ log_row o truths ∷ []) number named)
     → ((e : Ending) → Answers why (refusal.Stopped e) → (state.ended ≡ None) × (after.ended ≡ Some e))
     → EndsAtRow state.pattern state.retained_limit objects o log after (end_of_match why)
 ends_row objects o log state after truths (refusal.Stopped (ending.OverLimit number named)) are over_limit stopped =
@@ -41,9 +41,9 @@ ends_row objects o log state after truths (refusal.Stopped (ending.OverLimit num
     record {
       truths = truths;
       are = are;
-      numbered = omega (arith, is.numbered, length-append log (row_of o truths ∷ []));
+      numbered = omega (arith, is.numbered, length-append log (log_row o truths ∷ []));
       retained_limit_is = is.retained_limit_is;
-      over_limit = subst (λ (n : ℕ). IsOverLimit (numbered_pattern state.pattern) (log ++ row_of o truths ∷ []) n) is.retained_limit_is is.over_limit;
+      over_limit = subst (λ (n : ℕ). IsOverLimit (numbered_pattern state.pattern) (log ++ log_row o truths ∷ []) n) is.retained_limit_is is.over_limit;
       ended = subst (λ (n : ℕ). after.ended ≡ Some (ending.OverLimit number n)) is.retained_limit_is end.1;
     }
 ends_row objects o log state after truths (refusal.Stopped (ending.OutOfOrder before time)) are over_limit stopped = tt

@@ -7,7 +7,7 @@ use Rattle.stix_bundles.specs.declared.observation.Observation.{Observation}
 use Rattle.stix_bundles.specs.Bundle.{AreAllBreaks}
 use Rattle.stix_bundles.specs.Observations.{IsObservationAt, ObservationAt, AreObservations, IsObservedBefore}
 use Rattle.match_stream.specs.MatcherState.{Falls}
-use Rattle.match_input.specs.Line.{IsInOrder, IsBundleLine}
+use Rattle.match_input.specs.Line.{IsInOrderAfter, IsBundleLine}
 use Rattle.match_run.specs.Reading.{MayFollow}
 
 -- observations of whole bundles are spans
@@ -15,7 +15,7 @@ abbrev pub Spans : Type 0
 Spans = (objects : List Data) (number : ℕ) (observations : List Observation) → AreAllBreaks 0 objects []
     → AreObservations objects number observations → All (λ observation. observation.first ≤ℤ observation.last) observations
 
-no_fall : (last : Option ℤ) (o : Observation) (more : List Observation) → IsInOrder last (o ∷ more) → ¬ (Falls last o.last)
+no_fall : (last : Option ℤ) (o : Observation) (more : List Observation) → IsInOrderAfter last (o ∷ more) → ¬ (Falls last o.last)
 no_fall None o more order falls = falls
 no_fall (Some last) o more order falls = grind (arith, ints)
 
@@ -24,7 +24,7 @@ next_order s t (inl before) = grind (arith, ints)
 next_order s t (inr same) = let is = same.0 in grind (arith, ints)
 
 order_behind : (s : ObservationAt) (seen : List ObservationAt) → ((t : ObservationAt) → slice_get seen 0 ≡ Some t → IsObservedBefore s t)
-    → IsInOrder (Some s.observation.last) (map (λ s. s.observation) seen)
+    → IsInOrderAfter (Some s.observation.last) (map (λ s. s.observation) seen)
 order_behind s [] before = tt
 order_behind s (t ∷ seen) before = next_order s t (before t refl)
 
@@ -32,7 +32,7 @@ follow : (objects : List Data) (last : Option ℤ) (next : ℕ) (seen : List Obs
     → ((k : ℕ) (s : ObservationAt) → slice_get seen k ≡ Some s → IsObservationAt objects s.at (next + k) s.observation)
     → ((j k : ℕ) (s t : ObservationAt) → j < k → slice_get seen j ≡ Some s → slice_get seen k ≡ Some t → IsObservedBefore s t)
     → All (λ observation. observation.first ≤ℤ observation.last) (map (λ s. s.observation) seen)
-    → IsInOrder last (map (λ s. s.observation) seen) → MayFollow last next (map (λ s. s.observation) seen)
+    → IsInOrderAfter last (map (λ s. s.observation) seen) → MayFollow last next (map (λ s. s.observation) seen)
 follow objects last next [] each before spans order = tt
 follow objects last next (s ∷ seen) each before spans order =
     let number : s.observation.number ≡ next = (each 0 s refl).numbered ∙ (let e : next + 0 ≡ next = omega arith in e) in (
@@ -54,4 +54,4 @@ may_follow spans last next bytes objects observations line =
     subst (λ (os : List Observation). MayFollow last next os) (sym are.are)
     (follow objects last next are.seen are.each are.in_order
     (subst (λ (os : List Observation). All (λ observation. observation.first ≤ℤ observation.last) os) are.are all)
-    (subst (λ (os : List Observation). IsInOrder last os) are.are line.in_order))
+    (subst (λ (os : List Observation). IsInOrderAfter last os) are.are line.in_order))

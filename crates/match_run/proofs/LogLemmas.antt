@@ -19,7 +19,7 @@ use Rattle.match_input.specs.Reading.{BundleOf}
 use Rattle.match_run.specs.Entries.{AreEntriesOf, AreEntries}
 use Rattle.match_run.specs.Listing.{listing_text, last_number}
 use Rattle.match_run.specs.Matching.{IsNeverOverLimit}
-use Rattle.match_run.specs.inner.Rows.{last_counted, row_of}
+use Rattle.match_run.specs.inner.Rows.{last_counted, log_row}
 
 -- ---- answers and lines
 
@@ -47,14 +47,14 @@ answers-more p before (first ∷ log) row (other ∷ answers) answer are is = (
 -- ---- rows
 
 pub entries_of-more : (p : PlainPattern) (objects : List Data) (observations : List Observation) (log : List LogEntry) (o : Observation) (truths : List Bool)
-    → AreEntriesOf p objects observations log → AreTruths objects o.roots p truths → AreEntriesOf p objects (observations ++ o ∷ []) (log ++ row_of o truths ∷ [])
-entries_of-more p objects [] log o truths entries are = (truths, [], are, refl, ap (λ (l : List LogEntry). l ++ row_of o truths ∷ []) entries)
+    → AreEntriesOf p objects observations log → AreTruths objects o.roots p truths → AreEntriesOf p objects (observations ++ o ∷ []) (log ++ log_row o truths ∷ [])
+entries_of-more p objects [] log o truths entries are = (truths, [], are, refl, ap (λ (l : List LogEntry). l ++ log_row o truths ∷ []) entries)
 entries_of-more p objects (first ∷ observations) log o truths entries are = (
   entries.0,
-  entries.1 ++ row_of o truths ∷ [],
+  entries.1 ++ log_row o truths ∷ [],
   entries.2,
   entries_of-more p objects observations entries.1 o truths entries.3 are,
-  ap (λ (l : List LogEntry). l ++ row_of o truths ∷ []) entries.4,
+  ap (λ (l : List LogEntry). l ++ log_row o truths ∷ []) entries.4,
 )
 
 pub entries-more : (p : PlainPattern) (bundles : List BundleOf) (log : List LogEntry) (bundle : BundleOf) (own : List LogEntry)

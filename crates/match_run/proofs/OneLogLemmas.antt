@@ -15,7 +15,7 @@ use Rattle.match_input.specs.Reading.{BundleOf, InputEnd, Reading}
 use Rattle.match_run.specs.Entries.{AreEntriesOf, AreEntries}
 use Rattle.match_run.specs.Listing.{AreBindings, listing_text}
 use Rattle.match_run.specs.Output.{IsOutputOf}
-use Rattle.match_run.specs.inner.Rows.{row_of}
+use Rattle.match_run.specs.inner.Rows.{log_row}
 
 -- one truth tells a fact
 one_truth : {P : Type 0} (x y : Bool) → (IsTrue x ↔ P) → (IsTrue y ↔ P) → x ≡ y
@@ -44,8 +44,8 @@ one_entries_of : (p : PlainPattern) (objects : List Data) (observations : List O
     → AreEntriesOf p objects observations log → AreEntriesOf p objects observations other → log ≡ other
 one_entries_of p objects [] log other x y = x ∙ sym y
 one_entries_of p objects (o ∷ observations) log other x y =
-    x.4 ∙ ap (λ (t : List Bool). row_of o t ∷ x.1) (one_truths objects o.roots p x.0 y.0 x.2 y.2)
-    ∙ ap (λ (r : List LogEntry). row_of o y.0 ∷ r) (one_entries_of p objects observations x.1 y.1 x.3 y.3) ∙ sym y.4
+    x.4 ∙ ap (λ (t : List Bool). log_row o t ∷ x.1) (one_truths objects o.roots p x.0 y.0 x.2 y.2)
+    ∙ ap (λ (r : List LogEntry). log_row o y.0 ∷ r) (one_entries_of p objects observations x.1 y.1 x.3 y.3) ∙ sym y.4
 
 pub one_entries : (p : PlainPattern) (bundles : List BundleOf) (log other : List LogEntry) → AreEntries p bundles log → AreEntries p bundles other → log ≡ other
 one_entries p [] log other x y = x ∙ sym y

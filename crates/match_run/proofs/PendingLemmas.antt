@@ -8,7 +8,7 @@ use Rattle.match_bindings.specs.declared.bind.Bind.{Bind}
 use Rattle.match_bindings.specs.BindTree.{tree_of}
 use Rattle.match_bindings.specs.Line.{line_text}
 use Rattle.match_run.specs.Listing.{listing_text}
-use Rattle.match_run.specs.inner.Rows.{IsBuffered}
+use Rattle.match_run.specs.inner.Rows.{IsPartBuffered}
 
 pub written_with-nil : (w : Option (List ℕ)) → w ≡ written_with [] w
 written_with-nil None = refl
@@ -19,12 +19,12 @@ written_with-both a b None = refl
 written_with-both a b (Some bytes) = ap Some (append_assoc bytes a b)
 
 -- nothing is on its way yet
-pub way-start : (w : Option (List ℕ)) → IsBuffered [] [] w w
+pub way-start : (w : Option (List ℕ)) → IsPartBuffered [] [] w w
 way-start w = record { count = 0; within = omega arith; written_is = written_with-nil w; pending_is = refl }
 
 -- more text comes, which is pending
-pub way-more : (text more pending : List ℕ) (first written : Option (List ℕ)) → IsBuffered text pending first written
-    → IsBuffered (text ++ more) (pending ++ more) first written
+pub way-more : (text more pending : List ℕ) (first written : Option (List ℕ)) → IsPartBuffered text pending first written
+    → IsPartBuffered (text ++ more) (pending ++ more) first written
 way-more text more pending first written way = record {
   count = way.count;
   within = omega (arith, way.within, length-append text more);
@@ -33,19 +33,19 @@ way-more text more pending first written way = record {
 }
 
 -- what is pending is written
-written_all : (text pending : List ℕ) (first written after : Option (List ℕ)) → IsBuffered text pending first written
+written_all : (text pending : List ℕ) (first written after : Option (List ℕ)) → IsPartBuffered text pending first written
     → after ≡ written_with pending written → after ≡ written_with text first
 written_all text pending first written after way is =
     is ∙ ap (λ (t : List ℕ). written_with t written) way.pending_is ∙ ap (written_with (drop way.count text)) way.written_is
     ∙ written_with-both (take way.count text) (drop way.count text) first
     ∙ ap (λ (t : List ℕ). written_with t first) (take-append-drop way.count text)
 
-pub way-written : (text pending : List ℕ) (first written after : Option (List ℕ)) → IsBuffered text pending first written
+pub way-written : (text pending : List ℕ) (first written after : Option (List ℕ)) → IsPartBuffered text pending first written
     → after ≡ written_with pending written → after ≡ written_with text first
 way-written = written_all
 
-pub way-flushed : (text pending : List ℕ) (first written after : Option (List ℕ)) → IsBuffered text pending first written
-    → after ≡ written_with pending written → IsBuffered text [] first after
+pub way-flushed : (text pending : List ℕ) (first written after : Option (List ℕ)) → IsPartBuffered text pending first written
+    → after ≡ written_with pending written → IsPartBuffered text [] first after
 way-flushed text pending first written after way is = record {
   count = length text;
   within = omega arith;
@@ -54,7 +54,7 @@ way-flushed text pending first written after way is = record {
 }
 
 -- of what is pending a prefix is written
-pub way-cut : (text pending : List ℕ) (first written after : Option (List ℕ)) → IsBuffered text pending first written
+pub way-cut : (text pending : List ℕ) (first written after : Option (List ℕ)) → IsPartBuffered text pending first written
     → WritesPrefix pending written after → WritesPrefix text first after
 way-cut text pending first written after way (n, within, is) = (
   way.count + n,
@@ -65,7 +65,7 @@ way-cut text pending first written after way (n, within, is) = (
 )
 
 -- nothing more is written
-pub way-stopped : (text pending : List ℕ) (first written : Option (List ℕ)) → IsBuffered text pending first written → WritesPrefix text first written
+pub way-stopped : (text pending : List ℕ) (first written : Option (List ℕ)) → IsPartBuffered text pending first written → WritesPrefix text first written
 way-stopped text pending first written way = (way.count, way.within, way.written_is)
 
 -- a prefix of a text is one of a longer text
@@ -90,14 +90,14 @@ on_err : {T E P Q : Type 0} (answer : Result T E) → (P → Q) → OnErr answer
 on_err (Ok value) each fact = tt
 on_err (Err refusal) each fact = each fact
 
-module _ (text line pending held : List ℕ) (first written after : Option (List ℕ)) (way : IsBuffered text pending first written)
+module _ (text line pending held : List ℕ) (first written after : Option (List ℕ)) (way : IsPartBuffered text pending first written)
     (is : held ≡ pending ++ line) where
-  pub way-line : IsBuffered (text ++ line) held first written
-  way-line = subst (λ (p : List ℕ). IsBuffered (text ++ line) p first written) (sym is) (way-more text line pending first written way)
+  pub way-line : IsPartBuffered (text ++ line) held first written
+  way-line = subst (λ (p : List ℕ). IsPartBuffered (text ++ line) p first written) (sym is) (way-more text line pending first written way)
 
   pub way-line-written : {T E : Type 0} (rest : List ℕ) (answer : Result T E) → OnOk answer ((rest ≡ []) × (after ≡ written_with held written))
-      → OnOk answer (IsBuffered (text ++ line) rest first after)
-  way-line-written rest answer fact = on_ok answer (λ done. subst (λ (p : List ℕ). IsBuffered (text ++ line) p first after) (sym done.0)
+      → OnOk answer (IsPartBuffered (text ++ line) rest first after)
+  way-line-written rest answer fact = on_ok answer (λ done. subst (λ (p : List ℕ). IsPartBuffered (text ++ line) p first after) (sym done.0)
       (way-flushed (text ++ line) held first written after way-line done.1)) fact
 
   pub way-line-cut : {T E : Type 0} (answer : Result T E) → OnErr answer (WritesPrefix held written after) → OnErr answer (WritesPrefix (text ++ line) first after)

@@ -15,13 +15,13 @@ use Rattle.match_input.specs.declared.stage.Stage.{Stage}
 use Rattle.match_input.specs.declared.stage.Stage.TheVariants as stage
 use Rattle.match_input.specs.Line.{last_after}
 use Rattle.match_input.specs.Reading.{BundleOf}
-use Rattle.match_input.specs.Ahead.{ReaderState, reader_start, next_number, IsOpen, HoldsLines, LacksLineIn, Moves, AnswersNext, GivesBatch}
+use Rattle.match_input.specs.Ahead.{InputReaderState, reader_start, next_observation_number, IsOpen, HoldsLines, LacksLineIn, Moves, AnswersNext, GivesBatch}
 use Rattle.match_run.specs.Matching.{HasPrefix, IsToCome}
-use Rattle.match_run.specs.inner.MatchRuns.{HasRead as ReadSo, IsStageOf, IsInTime}
+use Rattle.match_run.specs.inner.MatchRuns.{HasReadInMode as ReadSo, IsStageOf, IsReadInTime}
 use Rattle.match_run.proofs.FollowLemmas.{Spans, may_follow}
 use Rattle.match_run.proofs.StageLemmas.{start_accounts, takes_little, gives_in_time}
 use Rattle.match_run.proofs.ReadLemmas.{Continues, read-start, read-more, begins_so, reads-whole, reads-refused, has_taken}
-use Rattle.match_run.specs.Reading.{bundle_of, observations_of, MayFollow, HasRead, room_in, GivesNext, NextAnswers}
+use Rattle.match_run.specs.Reading.{bundle_of, observations_of, MayFollow, HasRead, room_in, GivesNextBundle, NextAnswers}
 
 -- ---- the last time of observations
 
@@ -68,12 +68,12 @@ reading-start first began =
 
 -- ---- where a reader is
 
-module _ (first left began : Option (List ℕ)) (reader : ReaderState) (earlier : List BundleOf) (far : HasRead first reader left began earlier) where
+module _ (first left began : Option (List ℕ)) (reader : InputReaderState) (earlier : List BundleOf) (far : HasRead first reader left began earlier) where
   stage_is : IsStageOf Lines reader.stage earlier first left
   stage_is = subst (λ (s : Stage). IsStageOf Lines s earlier first left) (sym far.stage) (far.represents.unrefused, far.represents.accounts, far.represents.within)
 
-  in_time_so : IsInTime Lines reader.stage first began
-  in_time_so = subst (λ (s : Stage). IsInTime Lines s first began) (sym far.stage) far.represents.in_time
+  in_time_so : IsReadInTime Lines reader.stage first began
+  in_time_so = subst (λ (s : Stage). IsReadInTime Lines s first began) (sym far.stage) far.represents.in_time
 
   pub read_so : ReadSo Lines first reader left earlier
   read_so = record { forward = far.forward; backward = far.backward; told = far.told; stage = stage_is }
@@ -103,11 +103,11 @@ moved line lines stage.Whole left left_after m = absurd m
 moved line lines stage.AtEnd left left_after m = absurd m
 moved line lines stage.Ended left left_after m = absurd m
 
-module _ (continues : Continues) (spans : Spans) (first left began left_after began_after : Option (List ℕ)) (reader after : ReaderState)
+module _ (continues : Continues) (spans : Spans) (first left began left_after began_after : Option (List ℕ)) (reader after : InputReaderState)
     (earlier : List BundleOf) (far : HasRead first reader left began earlier) where
   next-given : (batch : Batch) → GivesBatch reader after left left_after batch → (HoldsLines reader.stage → began_after ≡ began)
       → (¬ (HoldsLines reader.stage) → IfSome began_after (LacksLineIn reader.stage batch.line left))
-      → GivesNext first earlier reader after left_after began_after batch
+      → GivesNextBundle first earlier reader after left_after began_after batch
   next-given batch gives unread lacks =
       let so = read_so first left began reader earlier far in
       let on = read-more continues Lines first left left_after reader after batch earlier so gives in
@@ -137,7 +137,7 @@ module _ (continues : Continues) (spans : Spans) (first left began left_after be
               ∙ sym (last_after-append None (observations_of earlier) batch.observations) ∙ sym (ap (last_after None) same);
         };
         only = (record { at = move.0; line_is = sym moves.1; few = moves.4; accounts = accounts }, in_time);
-        follow = (may_follow spans reader.last (next_number reader) gives.bytes (data_in batch.bundle) batch.observations gives.is);
+        follow = (may_follow spans reader.last (next_observation_number reader) gives.bytes (data_in batch.bundle) batch.observations gives.is);
         observations = gives.observations;
         last = gives.last;
         less_room = subst (λ (s : Stage). room_in s < room_in reader.stage) (sym move.1)
@@ -160,7 +160,7 @@ module _ (continues : Continues) (spans : Spans) (first left began left_after be
   )
   next-answers (Err read.ReadFault) answers unread lacks = (
     begins_so Lines first left reader earlier (read_so first left began reader earlier far),
-    has_taken Lines first left left_after reader.stage reader.last (next_number reader) earlier far.forward (stage_is first left began reader earlier far) answers,
+    has_taken Lines first left left_after reader.stage reader.last (next_observation_number reader) earlier far.forward (stage_is first left began reader earlier far) answers,
   )
   next-answers (Err read.Ended) answers unread lacks = answers
   next-answers (Err read.NoMemory) answers unread lacks = begins_so Lines first left reader earlier (read_so first left began reader earlier far)

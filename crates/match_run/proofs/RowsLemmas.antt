@@ -13,11 +13,11 @@ use Rattle.match_bindings.specs.declared.log_entry.LogEntry.{LogEntry}
 use Rattle.match_bindings.specs.NumberedPattern.{numbered_pattern}
 use Rattle.match_bindings.specs.BindTree.{BindTree}
 use Rattle.match_bindings.specs.Log.{IsInOrder}
-use Rattle.match_stream.specs.MatcherState.{MatcherState, Represents}
+use Rattle.match_stream.specs.MatcherState.{MatcherState, MatcherRepresents}
 use Rattle.match_stream.specs.Answer.{IsAnswer, IsWithinLimit, joined_answers}
 use Rattle.match_input.specs.Reading.{BundleOf}
 use Rattle.match_run.specs.Listing.{listing_text, last_number}
-use Rattle.match_run.specs.inner.Rows.{counted, last_counted, IsAfter, Progress, so_far, IsAt, IsAtSome, row_of, AddsRow, EndsAtRow, AddsRows, IsBuffered, ListsFirst, BreaksOff, IsOverLimitAt, StopsAmong, EndsAmong, TakesRow, StopsAtRow, TakesRows, GoesThrough, StopsAtOne, WritesBundle, StopsInBundle}
+use Rattle.match_run.specs.inner.Rows.{with_bindings, last_counted, IsAfterLog, Progress, so_far, IsAt, IsAtSome, log_row, AddsRow, EndsAtRow, AddsRows, IsPartBuffered, ListsFirst, WritesListingPrefix, IsOverLimitAt, StopsAmong, EndsAmong, TakesObservation, StopsAtRow, TakesObservations, GoesThrough, StopsAtOne, WritesBundle, StopsInBundleRows}
 use Rattle.match_run.specs.Reading.{MayFollow}
 use Rattle.match_run.specs.inner.MatchEnds.{CutsLines, HasCutLines}
 use Rattle.flow_edges.specs.Flow.{written_with, WritesPrefix}
@@ -28,15 +28,15 @@ use Rattle.match_stream.proofs.LogLemmas.{last_of_more}
 use Rattle.match_run.proofs.PendingLemmas.{way-start, way-written, way-cut, way-stopped}
 use Rattle.match_run.proofs.LogLemmas.{joined_answers-one, listing_text-append, answers-more, entries_of-more, never_over_limit-more, ends_at, last_number-more}
 
--- the matcher took a row, and its answer was counted
+-- the matcher took a row, and its answer was with_bindings
 pub behind-more : (p : Pattern) (retained_limit : ℕ) (state after : MatcherState) (tally : Tally) (log : List LogEntry) (answers : List (List BindTree))
-    (o : Observation) (truths : List Bool) (answer : List BindTree) → IsAfter p retained_limit state tally log answers
+    (o : Observation) (truths : List Bool) (answer : List BindTree) → IsAfterLog p retained_limit state tally log answers
     → o.number ≡ state.rows + 1 → length answer ≤ 2 ^ 64
-    → Represents after (log ++ row_of o truths ∷ []) → IsInOrder (log ++ row_of o truths ∷ []) → IsAnswer (numbered_pattern p) (log ++ row_of o truths ∷ []) answer
-    → IsWithinLimit (numbered_pattern p) (log ++ row_of o truths ∷ []) retained_limit
-    → IsAfter p retained_limit after (counted tally o.number (length answer)) (log ++ row_of o truths ∷ []) (answers ++ answer ∷ [])
+    → MatcherRepresents after (log ++ log_row o truths ∷ []) → IsInOrder (log ++ log_row o truths ∷ []) → IsAnswer (numbered_pattern p) (log ++ log_row o truths ∷ []) answer
+    → IsWithinLimit (numbered_pattern p) (log ++ log_row o truths ∷ []) retained_limit
+    → IsAfterLog p retained_limit after (with_bindings tally o.number (length answer)) (log ++ log_row o truths ∷ []) (answers ++ answer ∷ [])
 behind-more p retained_limit state after tally log answers o truths answer b number few represents order is within_limit =
-    let row = row_of o truths in
+    let row = log_row o truths in
     let rows : length (log ++ row ∷ []) ≡ length log + 1 = length-append log (row ∷ []) in
     let joined = joined_answers-one answers answer in
     let at : (x : BindTree) → _ = ends_at (numbered_pattern p) (log ++ row ∷ []) answer is in
@@ -57,20 +57,20 @@ behind-more p retained_limit state after tally log answers o truths answer b num
 
 -- how many rows the matcher has after it then, and their last time
 pub rows-more : (p : Pattern) (retained_limit : ℕ) (state after : MatcherState) (tally later : Tally) (log : List LogEntry) (answers more : List (List BindTree))
-    (row : LogEntry) → IsAfter p retained_limit state tally log answers → IsAfter p retained_limit after later (log ++ row ∷ []) more → after.rows ≡ state.rows + 1
+    (row : LogEntry) → IsAfterLog p retained_limit state tally log answers → IsAfterLog p retained_limit after later (log ++ row ∷ []) more → after.rows ≡ state.rows + 1
 rows-more p retained_limit state after tally later log answers more row b c = omega (arith, b.represents.rows, c.represents.rows, length-append log (row ∷ []))
 
 pub last-more : (p : Pattern) (retained_limit : ℕ) (after : MatcherState) (later : Tally) (log : List LogEntry) (more : List (List BindTree))
-    (row : LogEntry) → IsAfter p retained_limit after later (log ++ row ∷ []) more → after.last ≡ Some row.last
+    (row : LogEntry) → IsAfterLog p retained_limit after later (log ++ row ∷ []) more → after.last ≡ Some row.last
 last-more p retained_limit after later log more row c = c.represents.last ∙ last_of_more log row
 
 -- what may follow after the row
 pub follow-more : (p : Pattern) (retained_limit : ℕ) (objects : List Data) (o : Observation) (state after : MatcherState) (tally later : Tally) (log : List LogEntry)
-    (answers : List (List BindTree)) (answer : List BindTree) (observations : List Observation) → IsAfter p retained_limit state tally log answers
+    (answers : List (List BindTree)) (answer : List BindTree) (observations : List Observation) → IsAfterLog p retained_limit state tally log answers
     → AddsRow p retained_limit objects o log answers after later answer → MayFollow (Some o.last) ((state.rows + 1) + 1) observations
     → MayFollow after.last (after.rows + 1) observations
 follow-more p retained_limit objects o state after tally later log answers answer observations b adds follow =
-    let row = row_of o adds.truths in
+    let row = log_row o adds.truths in
     let last = last-more p retained_limit after later log (answers ++ answer ∷ []) row adds.behind in
     let rows = rows-more p retained_limit state after tally later log answers (answers ++ answer ∷ []) row b adds.behind in
     subst (λ (l : Option ℤ). MayFollow l (after.rows + 1) observations) (sym last)
@@ -83,13 +83,13 @@ pub adds-more : (p : Pattern) (retained_limit : ℕ) (objects : List Data) (obse
     → AddsRow p retained_limit objects o (log ++ adds.own) (answers ++ adds.own_answers) after later answer
     → AddsRows p retained_limit objects (observations ++ o ∷ []) log answers after later (text ++ listing_text answer)
 adds-more p retained_limit objects observations o log answers state after tally later text answer adds one =
-    let row = row_of o one.truths in
+    let row = log_row o one.truths in
     record {
       own = adds.own ++ row ∷ [];
       own_answers = adds.own_answers ++ answer ∷ [];
       entries = entries_of-more (plain_pattern p) objects observations adds.own o one.truths adds.entries one.are;
-      behind = subst (λ (l : List LogEntry). IsAfter p retained_limit after later l (answers ++ (adds.own_answers ++ answer ∷ []))) (append_assoc log adds.own (row ∷ []))
-          (subst (λ (a : List (List BindTree)). IsAfter p retained_limit after later ((log ++ adds.own) ++ row ∷ []) a) (append_assoc answers adds.own_answers (answer ∷ [])) one.behind);
+      behind = subst (λ (l : List LogEntry). IsAfterLog p retained_limit after later l (answers ++ (adds.own_answers ++ answer ∷ []))) (append_assoc log adds.own (row ∷ []))
+          (subst (λ (a : List (List BindTree)). IsAfterLog p retained_limit after later ((log ++ adds.own) ++ row ∷ []) a) (append_assoc answers adds.own_answers (answer ∷ [])) one.behind);
       text_is = ap (λ (t : List ℕ). t ++ listing_text answer) adds.text_is
           ∙ sym (listing_text-append (joined_answers adds.own_answers) answer)
           ∙ sym (ap listing_text (joined_answers-one adds.own_answers answer));
@@ -139,9 +139,9 @@ all_here xs i x within is = sym (take-append-drop i xs) ∙ ap (λ (r : List Obs
 
 -- the lines of the observations that were seen are cut
 pub cut-rows : (objects : List Data) (seen rest : List Observation) (first now : Progress) (text : List ℕ) (begun written : Option (List ℕ))
-    → TakesRows objects seen first now text → WritesPrefix text begun written
+    → TakesObservations objects seen first now text → WritesPrefix text begun written
     → (log : List LogEntry) (answers : List (List BindTree)) → IsAt first log answers
-    → BreaksOff first.matcher.pattern first.matcher.retained_limit objects (seen ++ rest) log answers begun written
+    → WritesListingPrefix first.matcher.pattern first.matcher.retained_limit objects (seen ++ rest) log answers begun written
 cut-rows objects seen rest first now text begun written rows prefix log answers b =
     (text, first-all first.matcher.pattern first.matcher.retained_limit objects seen rest log answers now.matcher now.tally text (rows log answers b), prefix)
 
@@ -149,19 +149,19 @@ cut-rows objects seen rest first now text begun written rows prefix log answers 
 
 module _ (objects : List Data) (seen : List Observation) (o : Observation) (first : Progress)
     (state after : MatcherState) (tally later : Tally) (text : List ℕ) (same_p : state.pattern ≡ first.matcher.pattern) (same_retained_limit : state.retained_limit ≡ first.matcher.retained_limit)
-    (rows : TakesRows objects seen first (so_far state tally) text) where
-  pub turn-rows : (answer : List BindTree) → TakesRow objects o (so_far state tally) (so_far after later) answer
-      → TakesRows objects (seen ++ o ∷ []) first (so_far after later) (text ++ listing_text answer)
+    (rows : TakesObservations objects seen first (so_far state tally) text) where
+  pub turn-rows : (answer : List BindTree) → TakesObservation objects o (so_far state tally) (so_far after later) answer
+      → TakesObservations objects (seen ++ o ∷ []) first (so_far after later) (text ++ listing_text answer)
   turn-rows answer row log answers b =
       let adds = rows log answers b in
-      let at_p = subst (λ (q : Pattern). (log : List LogEntry) (answers : List (List BindTree)) → IsAfter q state.retained_limit state tally log answers
+      let at_p = subst (λ (q : Pattern). (log : List LogEntry) (answers : List (List BindTree)) → IsAfterLog q state.retained_limit state tally log answers
       → AddsRow q state.retained_limit objects o log answers after later answer) same_p row in
-      let at_retained_limit = subst (λ (c : ℕ). (log : List LogEntry) (answers : List (List BindTree)) → IsAfter first.matcher.pattern c state tally log answers
+      let at_retained_limit = subst (λ (c : ℕ). (log : List LogEntry) (answers : List (List BindTree)) → IsAfterLog first.matcher.pattern c state tally log answers
       → AddsRow first.matcher.pattern c objects o log answers after later answer) same_retained_limit at_p in
       adds-more first.matcher.pattern first.matcher.retained_limit objects seen o log answers state after tally later text answer adds
       (at_retained_limit (log ++ adds.own) (answers ++ adds.own_answers) adds.behind)
 
-  module _ (rest : List Observation) (pending : List ℕ) (begun written : Option (List ℕ)) (way : IsBuffered text pending begun written) where
+  module _ (rest : List Observation) (pending : List ℕ) (begun written : Option (List ℕ)) (way : IsPartBuffered text pending begun written) where
     ends-turn : (end : MatchEnd) (log : List LogEntry) (answers : List (List BindTree)) → IsAt first log answers
         → (adds : AddsRows first.matcher.pattern first.matcher.retained_limit objects seen log answers state tally text)
         → EndsAtRow first.matcher.pattern first.matcher.retained_limit objects o (log ++ adds.own) after end
@@ -177,16 +177,16 @@ module _ (objects : List Data) (seen : List Observation) (o : Observation) (firs
     pub turn-end : (end : MatchEnd) → StopsAtRow objects o (so_far state tally) after end → StopsAtOne objects (seen ++ o ∷ rest) first after pending begun written end
     turn-end end ends log answers b =
         let adds = rows log answers b in
-        let at_p = subst (λ (q : Pattern). (log : List LogEntry) (answers : List (List BindTree)) → IsAfter q state.retained_limit state tally log answers
+        let at_p = subst (λ (q : Pattern). (log : List LogEntry) (answers : List (List BindTree)) → IsAfterLog q state.retained_limit state tally log answers
         → EndsAtRow q state.retained_limit objects o log after end) same_p ends in
-        let at_retained_limit = subst (λ (c : ℕ). (log : List LogEntry) (answers : List (List BindTree)) → IsAfter first.matcher.pattern c state tally log answers
+        let at_retained_limit = subst (λ (c : ℕ). (log : List LogEntry) (answers : List (List BindTree)) → IsAfterLog first.matcher.pattern c state tally log answers
         → EndsAtRow first.matcher.pattern c objects o log after end) same_retained_limit at_p in
         ends-turn end log answers b adds (at_retained_limit (log ++ adds.own) (answers ++ adds.own_answers) adds.behind)
 
 -- an end in the middle of lines
 pub ends-cut : (p : Pattern) (retained_limit : ℕ) (objects : List Data) (observations : List Observation) (log : List LogEntry) (answers : List (List BindTree))
     (state : MatcherState) (pending : List ℕ) (first written : Option (List ℕ)) (end : MatchEnd) → CutsLines end
-    → BreaksOff p retained_limit objects observations log answers first written → EndsAmong p retained_limit objects observations log answers state pending first written end
+    → WritesListingPrefix p retained_limit objects observations log answers first written → EndsAmong p retained_limit objects observations log answers state pending first written end
 ends-cut p retained_limit objects observations log answers state pending first written end (inl memory) cut =
     subst (EndsAmong p retained_limit objects observations log answers state pending first written) (sym memory) cut
 ends-cut p retained_limit objects observations log answers state pending first written end (inr fault) cut =
@@ -194,19 +194,19 @@ ends-cut p retained_limit objects observations log answers state pending first w
 
 pub turn-behind : (objects : List Data) (o : Observation) (state after : MatcherState) (tally later : Tally) (answer : List BindTree)
     → after.pattern ≡ state.pattern → after.retained_limit ≡ state.retained_limit → IsAtSome (so_far state tally)
-    → TakesRow objects o (so_far state tally) (so_far after later) answer → IsAtSome (so_far after later)
+    → TakesObservation objects o (so_far state tally) (so_far after later) answer → IsAtSome (so_far after later)
 turn-behind objects o state after tally later answer same_p same_retained_limit some row =
     let adds = row some.0 some.1 some.2 in
-    let log = some.0 ++ row_of o adds.truths ∷ [] in
+    let log = some.0 ++ log_row o adds.truths ∷ [] in
     let answers = some.1 ++ answer ∷ [] in (
       log,
       answers,
-      subst (λ (p : Pattern). IsAfter p after.retained_limit after later log answers) (sym same_p)
-          (subst (λ (c : ℕ). IsAfter state.pattern c after later log answers) (sym same_retained_limit) adds.behind),
+      subst (λ (p : Pattern). IsAfterLog p after.retained_limit after later log answers) (sym same_p)
+          (subst (λ (c : ℕ). IsAfterLog state.pattern c after later log answers) (sym same_retained_limit) adds.behind),
     )
 
 pub turn-follow : (objects : List Data) (o : Observation) (state after : MatcherState) (tally later : Tally) (answer : List BindTree)
-    (rest : List Observation) → IsAtSome (so_far state tally) → TakesRow objects o (so_far state tally) (so_far after later) answer
+    (rest : List Observation) → IsAtSome (so_far state tally) → TakesObservation objects o (so_far state tally) (so_far after later) answer
     → MayFollow state.last (state.rows + 1) (o ∷ rest) → MayFollow after.last (after.rows + 1) rest
 turn-follow objects o state after tally later answer rest some row follow =
     follow-more state.pattern state.retained_limit objects o state after tally later some.0 some.1 answer rest some.2 (row some.0 some.1 some.2) follow.3
@@ -214,13 +214,13 @@ turn-follow objects o state after tally later answer rest some row follow =
 -- ---- a bundle
 
 -- no observation is seen yet
-pub none-seen : (objects : List Data) (run : Progress) → TakesRows objects [] run run []
+pub none-seen : (objects : List Data) (run : Progress) → TakesObservations objects [] run run []
 none-seen objects run log answers b = record {
   own = [];
   own_answers = [];
   entries = refl;
-  behind = subst (λ (l : List LogEntry). IsAfter run.matcher.pattern run.matcher.retained_limit run.matcher run.tally l (answers ++ [])) (sym (append-nil log))
-      (subst (λ (a : List (List BindTree)). IsAfter run.matcher.pattern run.matcher.retained_limit run.matcher run.tally log a) (sym (append-nil answers)) b);
+  behind = subst (λ (l : List LogEntry). IsAfterLog run.matcher.pattern run.matcher.retained_limit run.matcher run.tally l (answers ++ [])) (sym (append-nil log))
+      (subst (λ (a : List (List BindTree)). IsAfterLog run.matcher.pattern run.matcher.retained_limit run.matcher run.tally log a) (sym (append-nil answers)) b);
   text_is = refl;
 }
 
@@ -245,7 +245,7 @@ module _ (bundle : BundleOf) (run after : Progress) (pending : List ℕ) (first 
       → IfErr answer (StopsAtOne bundle.objects bundle.observations run after.matcher pending first written) → ¬ HasCutLines answer
       → WritesPrefix pending written written_after
       → (log : List LogEntry) (answers : List (List BindTree)) → IsAt run log answers
-      → BreaksOff run.matcher.pattern run.matcher.retained_limit bundle.objects bundle.observations log answers first written_after
+      → WritesListingPrefix run.matcher.pattern run.matcher.retained_limit bundle.objects bundle.observations log answers first written_after
   batch-cut (Ok done) written_after goes ends uncut prefix log answers b = (
     goes.0,
     subst (λ (os : List Observation). ListsFirst run.matcher.pattern run.matcher.retained_limit bundle.objects os log answers goes.0) (append-nil bundle.observations)
@@ -263,7 +263,7 @@ module _ (bundle : BundleOf) (run after : Progress) (pending : List ℕ) (first 
   -- an end in the bundle, where what is pending is written
   pub batch-end : (end : MatchEnd) (written_after : Option (List ℕ))
       → StopsAtOne bundle.objects bundle.observations run after.matcher pending first written end → ¬ HasCutLines (Err end)
-      → written_after ≡ written_with pending written → StopsInBundle bundle run after.matcher first written_after end
+      → written_after ≡ written_with pending written → StopsInBundleRows bundle run after.matcher first written_after end
   batch-end (Done seen bindings last) written_after ends uncut is log answers b = absurd (ends log answers b)
   batch-end (Input line why) written_after ends uncut is log answers b = absurd (ends log answers b)
   batch-end ReadFault written_after ends uncut is log answers b = absurd (ends log answers b)
@@ -275,7 +275,7 @@ module _ (bundle : BundleOf) (run after : Progress) (pending : List ℕ) (first 
   -- the same of an answer
   pub batch-ends : (answer : Result (Unit {0}) MatchEnd) (written_after : Option (List ℕ))
       → IfErr answer (StopsAtOne bundle.objects bundle.observations run after.matcher pending first written) → ¬ HasCutLines answer
-      → written_after ≡ written_with pending written → IfErr answer (StopsInBundle bundle run after.matcher first written_after)
+      → written_after ≡ written_with pending written → IfErr answer (StopsInBundleRows bundle run after.matcher first written_after)
   batch-ends (Ok done) written_after ends uncut is = tt
   batch-ends (Err end) written_after ends uncut is = batch-end end written_after ends uncut is
 
@@ -283,11 +283,11 @@ module _ (bundle : BundleOf) (run after : Progress) (pending : List ℕ) (first 
 pub batch-fault : (bundle : BundleOf) (run : Progress) (state : MatcherState) (first written_after : Option (List ℕ)) (answer : Result (Unit {0}) MatchEnd) (end : MatchEnd)
     → IsErrAnd answer (λ e. e ≡ end) → end ≡ WriteFault
     → ((log : List LogEntry) (answers : List (List BindTree)) → IsAt run log answers
-    → BreaksOff run.matcher.pattern run.matcher.retained_limit bundle.objects bundle.observations log answers first written_after)
-    → IfErr answer (StopsInBundle bundle run state first written_after)
+    → WritesListingPrefix run.matcher.pattern run.matcher.retained_limit bundle.objects bundle.observations log answers first written_after)
+    → IfErr answer (StopsInBundleRows bundle run state first written_after)
 batch-fault bundle run state first written_after (Ok done) end is fault cut = absurd is
 batch-fault bundle run state first written_after (Err e) end is fault cut =
-    subst (λ (e : MatchEnd). StopsInBundle bundle run state first written_after e) (sym (is ∙ fault)) cut
+    subst (λ (e : MatchEnd). StopsInBundleRows bundle run state first written_after e) (sym (is ∙ fault)) cut
 
 -- the truths that were found for the observation at a place
 module _ (objects : List Data) (p : PlainPattern) (observations : List Observation) (rows : List (List Bool)) (i : ℕ) (o : Observation)

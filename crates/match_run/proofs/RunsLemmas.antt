@@ -14,7 +14,7 @@ use Rattle.match_bindings.specs.NumberedPattern.{NumberedPattern, numbered_patte
 use Rattle.match_bindings.specs.BindTree.{BindTree}
 use Rattle.match_bindings.specs.Log.{observed_in}
 use Rattle.match_bindings.specs.Listing.{IsListing}
-use Rattle.match_stream.specs.MatcherState.{MatcherState, Represents, last_of}
+use Rattle.match_stream.specs.MatcherState.{MatcherState, MatcherRepresents, log_end}
 use Rattle.match_stream.specs.Answer.{AreAnswers, joined_answers}
 use Rattle.match_input.specs.declared.batch.Batch.{Batch}
 use Rattle.match_input.specs.declared.rule.InputRule.{InputRule}
@@ -25,17 +25,17 @@ use Rattle.match_input.specs.declared.read_end.ReadEnd.TheVariants as read
 use Rattle.match_input.specs.declared.stage.Stage.{Stage}
 use Rattle.match_input.specs.declared.stage.Stage.TheVariants as stage
 use Rattle.match_input.specs.Line.{last_after}
-use Rattle.match_input.specs.Reading.{BundleOf, IsRefusedAt}
-use Rattle.match_input.specs.Ahead.{ReaderState, reader_start, first_stage, next_number, ahead, IsOpen, HoldsLines, LacksLineIn, AnswersNext, ComesToEnd, GivesBatch, BreaksOff, TakesLittle}
+use Rattle.match_input.specs.Reading.{BundleOf, IsInputRefusedAt}
+use Rattle.match_input.specs.Ahead.{InputReaderState, reader_start, first_stage, next_observation_number, ahead, IsOpen, HoldsLines, LacksLineIn, AnswersNext, ComesToEnd, GivesBatch, BreaksOffReading, TakesLittleAhead}
 use Rattle.flow_edges.specs.Streams.{Streams, streams}
 use Rattle.match_run.specs.Entries.{AreEntriesOf}
 use Rattle.match_run.specs.Listing.{listing_text}
-use Rattle.match_run.specs.Matching.{IsNeverOverLimit, ListsLog, ListsWhole, ListsBefore, ListsTaken, BeganInTime, ReadsNoFurther, StopsOverLimit, StopsWithin, StopsBetween, AnswersMatch}
-use Rattle.match_run.specs.inner.Rows.{no_tally, IsAfter, ListsFirst, StopsAmong, WritesRows, EndsInBundle, row_of}
+use Rattle.match_run.specs.Matching.{IsNeverOverLimit, ListsLog, ListsWhole, ListsBefore, ListsTaken, BeganInTime, ReadsNoFurther, StopsOverLimit, StopsWithin, MatchStopsBetween, AnswersMatch}
+use Rattle.match_run.specs.inner.Rows.{no_tally, IsAfterLog, ListsFirst, StopsAmong, WritesRows, EndsInBundle, log_row}
 use Rattle.match_run.specs.Reading.{MayFollow}
 use Rattle.match_run.specs.Reading.{bundle_of}
-use Rattle.match_run.specs.inner.MatchEnds.{end_of_read}
-use Rattle.match_run.specs.inner.MatchRuns.{IsStageOf, IsInTime, RunsSo, HasRead}
+use Rattle.match_run.specs.inner.MatchEnds.{match_end_of_read}
+use Rattle.match_run.specs.inner.MatchRuns.{IsStageOf, IsReadInTime, RunsSo, HasReadInMode}
 use Rattle.match_run.specs.declared.tally.Tally.{Tally}
 use Rattle.match_run.specs.declared.match_end.MatchEnd.{MatchEnd}
 use Rattle.match_run.specs.declared.match_end.MatchEnd.TheVariants.{Done, Input, ReadFault, WriteFault, OverLimit, NoMemory}
@@ -65,7 +65,7 @@ written-more answers own text first now after so_far is more =
 
 -- ---- the last time of the observations
 
-last_of-tail : (log : List LogEntry) (row : LogEntry) (rows : List LogEntry) → last_of (log ++ row ∷ rows) ≡ last_of (row ∷ rows)
+last_of-tail : (log : List LogEntry) (row : LogEntry) (rows : List LogEntry) → log_end (log ++ row ∷ rows) ≡ log_end (row ∷ rows)
 last_of-tail [] row rows = refl
 last_of-tail (first ∷ []) row rows = refl
 last_of-tail (first ∷ next ∷ log) row rows = last_of-tail (next ∷ log) row rows
@@ -74,13 +74,13 @@ abbrev last_seen : (o : Observation) (observations : List Observation) → Optio
 last_seen o observations = option_map (λ observation. observation.last) (slice_get (o ∷ observations) (length observations))
 
 last_of-entries : (p : PlainPattern) (objects : List Data) (o : Observation) (observations : List Observation) (own : List LogEntry)
-    → AreEntriesOf p objects (o ∷ observations) own → last_of own ≡ last_seen o observations
-last_of-entries p objects o [] own entries = ap last_of entries.4 ∙ ap (λ (r : List LogEntry). last_of (row_of o entries.0 ∷ r)) entries.3
+    → AreEntriesOf p objects (o ∷ observations) own → log_end own ≡ last_seen o observations
+last_of-entries p objects o [] own entries = ap log_end entries.4 ∙ ap (λ (r : List LogEntry). log_end (log_row o entries.0 ∷ r)) entries.3
 last_of-entries p objects o (next ∷ observations) own entries =
     let rest_is = entries.3.4 in
-    ap last_of entries.4
-    ∙ ap (λ (r : List LogEntry). last_of (row_of o entries.0 ∷ r)) rest_is
-    ∙ sym (ap last_of rest_is)
+    ap log_end entries.4
+    ∙ ap (λ (r : List LogEntry). log_end (log_row o entries.0 ∷ r)) rest_is
+    ∙ sym (ap log_end rest_is)
     ∙ last_of-entries p objects next observations entries.1 entries.3
 
 some_seen : (o : Observation) (observations : List Observation) → (time : ℤ) × (last_seen o observations ≡ Some time)
@@ -99,18 +99,18 @@ last_after-seen last o observations =
     ∙ or_some (last_seen o observations) last some.0 some.1
 
 last_after-entries : (p : PlainPattern) (objects : List Data) (observations : List Observation) (log own : List LogEntry)
-    → AreEntriesOf p objects observations own → last_of (log ++ own) ≡ last_after (last_of log) observations
-last_after-entries p objects [] log own entries = ap (λ (l : List LogEntry). last_of (log ++ l)) entries ∙ ap last_of (append-nil log)
+    → AreEntriesOf p objects observations own → log_end (log ++ own) ≡ last_after (log_end log) observations
+last_after-entries p objects [] log own entries = ap (λ (l : List LogEntry). log_end (log ++ l)) entries ∙ ap log_end (append-nil log)
 last_after-entries p objects (o ∷ observations) log own entries =
-    ap (λ (l : List LogEntry). last_of (log ++ l)) entries.4
-    ∙ last_of-tail log (row_of o entries.0) entries.1
-    ∙ sym (ap last_of entries.4)
+    ap (λ (l : List LogEntry). log_end (log ++ l)) entries.4
+    ∙ last_of-tail log (log_row o entries.0) entries.1
+    ∙ sym (ap log_end entries.4)
     ∙ last_of-entries p objects o observations own entries
-    ∙ sym (last_after-seen (last_of log) o observations)
+    ∙ sym (last_after-seen (log_end log) o observations)
 
 -- ---- the start
 
-starts_in_time : (mode : Mode) (first began : Option (List ℕ)) → IsInTime mode (first_stage mode) first began
+starts_in_time : (mode : Mode) (first began : Option (List ℕ)) → IsReadInTime mode (first_stage mode) first began
 starts_in_time mode.Lines first began = inl refl
 starts_in_time mode.Whole first began = tt
 
@@ -118,7 +118,7 @@ never_over_limit-none : (p : Pattern) (most : ℕ) → IsNeverOverLimit p most [
 never_over_limit-none p most [] more row e = absurd (cc)
 never_over_limit-none p most (first ∷ rows) more row e = absurd (cc)
 
-behind-none : (p : Pattern) (most : ℕ) (state : MatcherState) → Represents state [] → IsAfter p most state no_tally [] []
+behind-none : (p : Pattern) (most : ℕ) (state : MatcherState) → MatcherRepresents state [] → IsAfterLog p most state no_tally [] []
 behind-none p most state represents = record {
   rows = record { order = tt; within_limit = never_over_limit-none p most; answers_are = tt };
   represents = represents;
@@ -128,10 +128,10 @@ behind-none p most state represents = record {
   last_is = refl;
 }
 
-pub run-start : (mode : Mode) (p : Pattern) (most : ℕ) (start : Streams) (reader : ReaderState) (state : MatcherState) (tally : Tally)
-    → Represents state [] → reader ≡ reader_start mode → tally ≡ no_tally → RunsSo mode p most start start reader state tally
+pub run-start : (mode : Mode) (p : Pattern) (most : ℕ) (start : Streams) (reader : InputReaderState) (state : MatcherState) (tally : Tally)
+    → MatcherRepresents state [] → reader ≡ reader_start mode → tally ≡ no_tally → RunsSo mode p most start start reader state tally
 run-start mode p most start reader state tally represents reader_is tally_is =
-    subst (λ (r : ReaderState). RunsSo mode p most start start r state tally) (sym reader_is)
+    subst (λ (r : InputReaderState). RunsSo mode p most start start r state tally) (sym reader_is)
     (subst (λ (t : Tally). RunsSo mode p most start start (reader_start mode) state t) (sym tally_is)
     (record {
       bundles = [];
@@ -148,7 +148,7 @@ run-start mode p most start reader state tally represents reader_is tally_is =
 
 -- ---- a bundle more
 
-pub run-more : Continues → (mode : Mode) (p : Pattern) (most : ℕ) (before now : Streams) (reader after : ReaderState) (state later : MatcherState) (tally tally_after : Tally)
+pub run-more : Continues → (mode : Mode) (p : Pattern) (most : ℕ) (before now : Streams) (reader after : InputReaderState) (state later : MatcherState) (tally tally_after : Tally)
     (left_after began_after written_after : Option (List ℕ)) (batch : Batch) → (far : RunsSo mode p most before now reader state tally)
     → GivesBatch reader after now.left left_after batch → BeganInTime mode batch.line before.left began_after
     → WritesRows p most (data_in batch.bundle) batch.observations far.log far.answers later tally_after now.written written_after
@@ -174,7 +174,7 @@ run-more continues mode p most before now reader after state later tally tally_a
 
 -- ---- the ends
 
-module _ (list : AnswersList) (mode : Mode) (p : Pattern) (most : ℕ) (before now : Streams) (reader : ReaderState) (state : MatcherState) (tally : Tally)
+module _ (list : AnswersList) (mode : Mode) (p : Pattern) (most : ℕ) (before now : Streams) (reader : InputReaderState) (state : MatcherState) (tally : Tally)
     (far : RunsSo mode p most before now reader state tally) where
   lists-log : ListsLog p most far.bundles far.log (joined_answers far.answers) before.written now.written
   lists-log = record {
@@ -200,8 +200,8 @@ module _ (list : AnswersList) (mode : Mode) (p : Pattern) (most : ℕ) (before n
   }
 
   pub run-refused : (left_after began_after : Option (List ℕ)) (line : ℕ) (why : InputRule)
-      → IfSome (ahead reader.stage now.left) (λ lines. IsRefusedAt reader.last (next_number reader) lines line why)
-      → TakesLittle reader.stage line now.left left_after → ListsBefore mode p most before (streams left_after began_after now.written) state line why
+      → IfSome (ahead reader.stage now.left) (λ lines. IsInputRefusedAt reader.last (next_observation_number reader) lines line why)
+      → TakesLittleAhead reader.stage line now.left left_after → ListsBefore mode p most before (streams left_after began_after now.written) state line why
   run-refused left_after began_after line why refused little = record {
     bundles = far.bundles;
     reading = reads-refused mode before.left now.left reader far.bundles far.read line why refused;
@@ -212,7 +212,7 @@ module _ (list : AnswersList) (mode : Mode) (p : Pattern) (most : ℕ) (before n
     little = takes_little far.bundles before.left now.left left_after mode reader.stage line far.read.stage little;
   }
 
-  pub run-broken : (left_after began_after : Option (List ℕ)) → BreaksOff reader.stage now.left left_after
+  pub run-broken : (left_after began_after : Option (List ℕ)) → BreaksOffReading reader.stage now.left left_after
       → ListsTaken mode p most before (streams left_after began_after now.written) state
   run-broken left_after began_after broken = record {
     bundles = far.bundles;
@@ -221,11 +221,11 @@ module _ (list : AnswersList) (mode : Mode) (p : Pattern) (most : ℕ) (before n
     trees = joined_answers far.answers;
     lists = lists-log;
     represents = far.behind.represents;
-    taken = has_taken mode before.left now.left left_after reader.stage reader.last (next_number reader) far.bundles far.read.forward far.read.stage broken;
+    taken = has_taken mode before.left now.left left_after reader.stage reader.last (next_observation_number reader) far.bundles far.read.forward far.read.stage broken;
   }
 
   -- memory ran out between two bundles
-  pub run-memory : (after : Streams) → after.written ≡ now.written → StopsBetween mode p most before after
+  pub run-memory : (after : Streams) → after.written ≡ now.written → MatchStopsBetween mode p most before after
   run-memory after same = record {
     bundles = far.bundles;
     begins = begins_so mode before.left now.left reader far.bundles far.read;
@@ -234,7 +234,7 @@ module _ (list : AnswersList) (mode : Mode) (p : Pattern) (most : ℕ) (before n
     lists = record { entries = lists-log.entries; within_limit = lists-log.within_limit; bindings = lists-log.bindings; text = same ∙ lists-log.text };
   }
 
-  module _ (continues : Continues) (after : ReaderState) (later : MatcherState) (left_after began_after written_after : Option (List ℕ)) (batch : Batch)
+  module _ (continues : Continues) (after : InputReaderState) (later : MatcherState) (left_after began_after written_after : Option (List ℕ)) (batch : Batch)
       (gives : GivesBatch reader after now.left left_after batch) (began : BeganInTime mode batch.line before.left began_after) where
     no-further : ReadsNoFurther mode batch.line before (streams left_after began_after written_after)
     no-further = record {
@@ -242,7 +242,7 @@ module _ (list : AnswersList) (mode : Mode) (p : Pattern) (most : ℕ) (before n
       in_time = began;
     }
 
-    next-read : HasRead mode before.left after left_after (far.bundles ++ bundle_of batch ∷ [])
+    next-read : HasReadInMode mode before.left after left_after (far.bundles ++ bundle_of batch ∷ [])
     next-read = read-more continues mode before.left now.left left_after reader after batch far.bundles far.read gives
 
     pub run-over_limit : (text : List ℕ) (number named : ℕ)
@@ -250,7 +250,7 @@ module _ (list : AnswersList) (mode : Mode) (p : Pattern) (most : ℕ) (before n
         → written_after ≡ written_with text now.written → StopsOverLimit mode p most before (streams left_after began_after written_after) later number named
     run-over_limit text number named stops more =
         let own = stops.first in
-        let row = row_of stops.o stops.over_limit.truths in
+        let row = log_row stops.o stops.over_limit.truths in
         record {
           bundles = far.bundles ++ bundle_of batch ∷ [];
           begins = begins_so mode before.left left_after after (far.bundles ++ bundle_of batch ∷ []) next-read;
@@ -319,11 +319,11 @@ pub must_be_open : (st : Stage) → IsOpen st ⊎ (st ≡ stage.AtEnd) → ¬ (s
 must_be_open st (inl opened) other = opened
 must_be_open st (inr is) other = absurd (other is)
 
-module _ (list : AnswersList) (mode : Mode) (p : Pattern) (most : ℕ) (before now : Streams) (reader after : ReaderState) (state : MatcherState) (tally : Tally)
+module _ (list : AnswersList) (mode : Mode) (p : Pattern) (most : ℕ) (before now : Streams) (reader after : InputReaderState) (state : MatcherState) (tally : Tally)
     (far : RunsSo mode p most before now reader state tally) (left_after began_after : Option (List ℕ)) where
   -- the reader ended
   pub run-read_end : (end : ReadEnd) → AnswersNext reader after now.left left_after (Err end)
-      → AnswersMatch mode p most before (streams left_after began_after now.written) state (end_of_read end)
+      → AnswersMatch mode p most before (streams left_after began_after now.written) state (match_end_of_read end)
   run-read_end (read.Input line why) answers = run-refused list mode p most before now reader state tally far left_after began_after line why answers.refused answers.little
   run-read_end read.ReadFault answers = run-broken list mode p most before now reader state tally far left_after began_after answers
   run-read_end read.Ended answers = absurd answers
@@ -344,7 +344,7 @@ module _ (list : AnswersList) (mode : Mode) (p : Pattern) (most : ℕ) (before n
 -- ---- what the calls of a turn give
 
 -- the reader gave a bundle, so it was open
-pub batch_given : (bundles : List BundleOf) (first left left_after : Option (List ℕ)) (mode : Mode) (reader after : ReaderState) (given : Option Batch) (batch : Batch)
+pub batch_given : (bundles : List BundleOf) (first left left_after : Option (List ℕ)) (mode : Mode) (reader after : InputReaderState) (given : Option Batch) (batch : Batch)
     → IsStageOf mode reader.stage bundles first left → (IsOpen reader.stage → AnswersNext reader after left left_after (Ok given))
     → (reader.stage ≡ stage.AtEnd → ◌≡◌ {A = Result (Option Batch) ReadEnd} (Ok given) (Ok None)) → given ≡ Some batch → GivesBatch reader after left left_after batch
 batch_given bundles first left left_after mode reader after given batch at answers at_once is =
@@ -352,8 +352,8 @@ batch_given bundles first left left_after mode reader after given batch at answe
     subst (λ (o : Option Batch). AnswersNext reader after left left_after (Ok o)) is (answers opened)
 
 -- the last read began in time
-pub given_in_time : (bundles : List BundleOf) (first left left_after began began_after : Option (List ℕ)) (mode : Mode) (reader after : ReaderState)
-    (given : Option Batch) (batch : Batch) → IsStageOf mode reader.stage bundles first left → IsInTime mode reader.stage first began
+pub given_in_time : (bundles : List BundleOf) (first left left_after began began_after : Option (List ℕ)) (mode : Mode) (reader after : InputReaderState)
+    (given : Option Batch) (batch : Batch) → IsStageOf mode reader.stage bundles first left → IsReadInTime mode reader.stage first began
     → GivesBatch reader after left left_after batch → given ≡ Some batch
     → (reader.stage ≡ stage.AtEnd → ◌≡◌ {A = Result (Option Batch) ReadEnd} (Ok given) (Ok None))
     → (HoldsLines reader.stage → began_after ≡ began)
@@ -365,40 +365,40 @@ given_in_time bundles first left left_after began began_after mode reader after 
     (λ unheld. subst (λ (o : Option Batch). IfSome o (λ batch. IfSome began_after (LacksLineIn reader.stage batch.line left))) is (in_time opened unheld))
 
 -- it ended, so it was open
-pub end_given : (bundles : List BundleOf) (first left left_after : Option (List ℕ)) (mode : Mode) (reader after : ReaderState) (end : ReadEnd)
+pub end_given : (bundles : List BundleOf) (first left left_after : Option (List ℕ)) (mode : Mode) (reader after : InputReaderState) (end : ReadEnd)
     → IsStageOf mode reader.stage bundles first left → (IsOpen reader.stage → AnswersNext reader after left left_after (Err end))
     → (reader.stage ≡ stage.AtEnd → ◌≡◌ {A = Result (Option Batch) ReadEnd} (Err end) (Ok None)) → AnswersNext reader after left left_after (Err end)
 end_given bundles first left left_after mode reader after end at answers at_once =
     answers (must_be_open reader.stage (open_or_end bundles first left mode reader.stage at) (λ is. let none = at_once is in cc))
 
 -- the observations of the bundle may follow
-pub given_follow : Spans → (reader after : ReaderState) (left left_after : Option (List ℕ)) (batch : Batch) (state : MatcherState)
+pub given_follow : Spans → (reader after : InputReaderState) (left left_after : Option (List ℕ)) (batch : Batch) (state : MatcherState)
     → GivesBatch reader after left left_after batch → reader.observations ≡ state.rows → reader.last ≡ state.last
     → MayFollow state.last (state.rows + 1) batch.observations
 given_follow spans reader after left left_after batch state gives number time =
     subst (λ (l : Option ℤ). MayFollow l (state.rows + 1) batch.observations) time
     (subst (λ (n : ℕ). MayFollow reader.last (n + 1) batch.observations) number
-    (may_follow spans reader.last (next_number reader) gives.bytes (data_in batch.bundle) batch.observations gives.is))
+    (may_follow spans reader.last (next_observation_number reader) gives.bytes (data_in batch.bundle) batch.observations gives.is))
 
 -- the pattern and the retained limit stay the same
 module _ (p q : Pattern) (most limit : ℕ) (same_p : q ≡ p) (same_retained_limit : limit ≡ most) (objects : List Data) (observations : List Observation)
     (state later : MatcherState) (tally tally_after : Tally) (written written_after : Option (List ℕ)) where
-  pub rows-here : ((log : List LogEntry) (answers : List (List BindTree)) → IsAfter q limit state tally log answers
+  pub rows-here : ((log : List LogEntry) (answers : List (List BindTree)) → IsAfterLog q limit state tally log answers
       → WritesRows q limit objects observations log answers later tally_after written written_after)
-      → (log : List LogEntry) (answers : List (List BindTree)) → IsAfter p most state tally log answers
+      → (log : List LogEntry) (answers : List (List BindTree)) → IsAfterLog p most state tally log answers
       → WritesRows p most objects observations log answers later tally_after written written_after
   rows-here rows =
-      subst (λ (c : ℕ). (log : List LogEntry) (answers : List (List BindTree)) → IsAfter p c state tally log answers
+      subst (λ (c : ℕ). (log : List LogEntry) (answers : List (List BindTree)) → IsAfterLog p c state tally log answers
       → WritesRows p c objects observations log answers later tally_after written written_after) same_retained_limit
-      (subst (λ (x : Pattern). (log : List LogEntry) (answers : List (List BindTree)) → IsAfter x limit state tally log answers
+      (subst (λ (x : Pattern). (log : List LogEntry) (answers : List (List BindTree)) → IsAfterLog x limit state tally log answers
       → WritesRows x limit objects observations log answers later tally_after written written_after) same_p rows)
 
-  pub end-here : (end : MatchEnd) → ((log : List LogEntry) (answers : List (List BindTree)) → IsAfter q limit state tally log answers
+  pub end-here : (end : MatchEnd) → ((log : List LogEntry) (answers : List (List BindTree)) → IsAfterLog q limit state tally log answers
       → EndsInBundle q limit objects observations log answers later written written_after end)
-      → (log : List LogEntry) (answers : List (List BindTree)) → IsAfter p most state tally log answers
+      → (log : List LogEntry) (answers : List (List BindTree)) → IsAfterLog p most state tally log answers
       → EndsInBundle p most objects observations log answers later written written_after end
   end-here end ends =
-      subst (λ (c : ℕ). (log : List LogEntry) (answers : List (List BindTree)) → IsAfter p c state tally log answers
+      subst (λ (c : ℕ). (log : List LogEntry) (answers : List (List BindTree)) → IsAfterLog p c state tally log answers
       → EndsInBundle p c objects observations log answers later written written_after end) same_retained_limit
-      (subst (λ (x : Pattern). (log : List LogEntry) (answers : List (List BindTree)) → IsAfter x limit state tally log answers
+      (subst (λ (x : Pattern). (log : List LogEntry) (answers : List (List BindTree)) → IsAfterLog x limit state tally log answers
       → EndsInBundle x limit objects observations log answers later written written_after end) same_p ends)

@@ -11,9 +11,9 @@ use Rattle.match_input.specs.declared.mode.Mode.TheVariants.{Lines, Whole as Who
 use Rattle.match_input.specs.declared.stage.Stage.{Stage}
 use Rattle.match_input.specs.declared.stage.Stage.TheVariants as stage
 use Rattle.match_input.specs.Reading.{BundleOf}
-use Rattle.match_input.specs.Ahead.{IsOpen, ahead, HoldsLines, LacksLineIn, Moves, TakesLittle, ComesToEnd}
+use Rattle.match_input.specs.Ahead.{IsOpen, ahead, HoldsLines, LacksLineIn, Moves, TakesLittleAhead, ComesToEnd}
 use Rattle.match_run.specs.Matching.{TakesLittle as RunTakesLittle, TakesFew, BeganInTime}
-use Rattle.match_run.specs.inner.MatchRuns.{IsStageOf, IsInTime, turns_left}
+use Rattle.match_run.specs.inner.MatchRuns.{IsStageOf, IsReadInTime, turns_left}
 
 pub ahead_none : (st : Stage) → ahead st None ≡ None
 ahead_none (stage.Lines lines) = refl
@@ -98,14 +98,14 @@ none_held lines is holds = let none : list_any is_whole (raw_lines []) ≡ false
 
 module _ (bundles : List BundleOf) (line : ℕ) (first left left_after began began_after : Option (List ℕ)) where
   lines_in_time : (lines after : LinesState) → IsStageOf Lines (stage.Lines lines) bundles first left → Moves line (stage.Lines lines) (stage.Lines after) left left_after
-      → IsInTime Lines (stage.Lines lines) first began → (HoldsLine lines.held → began_after ≡ began)
+      → IsReadInTime Lines (stage.Lines lines) first began → (HoldsLine lines.held → began_after ≡ began)
       → (¬ (HoldsLine lines.held) → IfSome began_after (LacksLine lines line left)) → BeganInTime Lines line first began_after
   lines_in_time lines after s m so_far unread in_time = go (list_any is_whole (raw_lines lines.held)) refl so_far
     where
       counts : lines.count < line + 1
       counts = let gone = m.5 lines left (start_accounts lines left) in omega (arith, m.1, gone.count)
 
-      go : (holds : Bool) → list_any is_whole (raw_lines lines.held) ≡ holds → IsInTime Lines (stage.Lines lines) first began → BeganInTime Lines line first began_after
+      go : (holds : Bool) → list_any is_whole (raw_lines lines.held) ≡ holds → IsReadInTime Lines (stage.Lines lines) first began → BeganInTime Lines line first began_after
       go true holds (inl start) = absurd (none_held lines start holds)
       go true holds (inr told) = subst (λ (b : Option (List ℕ)). BeganInTime Lines line first b) (sym (unread holds))
           (each_told began (λ bytes lacks. record { at = lacks.at; fewer = omega (arith, lacks.fewer, counts); part = lacks.part; accounts = lacks.accounts }) told)
@@ -113,7 +113,7 @@ module _ (bundles : List BundleOf) (line : ℕ) (first left left_after began beg
           (in_time (λ is. cc))
 
   -- a bundle was given
-  pub gives_in_time : (mode : Mode) (st after : Stage) → IsStageOf mode st bundles first left → Moves line st after left left_after → IsInTime mode st first began
+  pub gives_in_time : (mode : Mode) (st after : Stage) → IsStageOf mode st bundles first left → Moves line st after left left_after → IsReadInTime mode st first began
       → (HoldsLines st → began_after ≡ began) → (¬ (HoldsLines st) → IfSome began_after (LacksLineIn st line left)) → BeganInTime mode line first began_after
   gives_in_time Lines (stage.Lines lines) (stage.Lines after) s m so_far unread in_time = lines_in_time lines after s m so_far unread in_time
   gives_in_time Lines (stage.Lines lines) stage.Whole s m so_far unread in_time = absurd m
@@ -129,7 +129,7 @@ module _ (bundles : List BundleOf) (line : ℕ) (first left left_after began beg
 
   -- and the next one may come
   pub stays_in_time : (mode : Mode) (st after : Stage) → IsStageOf mode st bundles first left → Moves line st after left left_after
-      → BeganInTime mode line first began_after → IsInTime mode after first began_after
+      → BeganInTime mode line first began_after → IsReadInTime mode after first began_after
   stays_in_time Lines (stage.Lines lines) (stage.Lines after) s m told = inr (subst (λ (n : ℕ). BeganInTime Lines n first began_after) m.1 told)
   stays_in_time Lines (stage.Lines lines) stage.Whole s m told = absurd m
   stays_in_time Lines (stage.Lines lines) stage.AtEnd s m told = absurd m
@@ -147,7 +147,7 @@ module _ (bundles : List BundleOf) (line : ℕ) (first left left_after began beg
 
 module _ (bundles : List BundleOf) (first left left_after : Option (List ℕ)) where
   -- a line is refused
-  pub takes_little : (mode : Mode) (st : Stage) (line : ℕ) → IsStageOf mode st bundles first left → TakesLittle st line left left_after
+  pub takes_little : (mode : Mode) (st : Stage) (line : ℕ) → IsStageOf mode st bundles first left → TakesLittleAhead st line left left_after
       → RunTakesLittle mode line first left_after
   takes_little Lines (stage.Lines lines) line s t = record { at = t.at; lines = t.lines; few = t.few; accounts = t.accounts lines_start first s.1 }
   takes_little Lines stage.Whole line s t = absurd s

@@ -11,16 +11,16 @@ use Rattle.match_input.specs.declared.read_end.ReadEnd.{ReadEnd}
 use Rattle.match_input.specs.declared.read_end.ReadEnd.TheVariants as read
 use Rattle.match_input.specs.Line.{last_after}
 use Rattle.match_input.specs.Reading.{BundleOf}
-use Rattle.match_input.specs.Ahead.{ReaderState}
+use Rattle.match_input.specs.Ahead.{InputReaderState}
 use Rattle.match_run.proofs.ReadLemmas.{begins_so}
 use Rattle.match_run.proofs.PendingLemmas.{written_with-nil, written_with-both}
 use Rattle.match_run.specs.declared.see_end.SeeEnd.{SeeEnd}
 use Rattle.match_run.specs.declared.see_end.SeeEnd.TheVariants as see
 use Rattle.match_run.specs.declared.watch_end.WatchEnd.{WatchEnd}
 use Rattle.match_run.specs.declared.watch_end.WatchEnd.TheVariants.{ReadFault}
-use Rattle.match_run.specs.Reading.{bundle_of, HasRead, GivesNext, NextAnswers}
+use Rattle.match_run.specs.Reading.{bundle_of, HasRead, GivesNextBundle, NextAnswers}
 use Rattle.match_run.specs.Watching.{Says, EndsSeeing, SeesAll, WatchesWhole, StopsWithin, AnswersWatch}
-use Rattle.match_run.specs.inner.WatchEnds.{end_of_read, end_of_see}
+use Rattle.match_run.specs.inner.WatchEnds.{watch_end_of_read, end_of_see}
 use Rattle.match_run.specs.inner.WatchRuns.{RunsSo}
 use Rattle.match_run.proofs.ReadingLemmas.{read_so}
 
@@ -65,14 +65,14 @@ last-more last last_now time time_now observations more same after = more ∙ ap
 
 -- ---- faults of the input
 
-read_fault : {S : Type 0} (last : ReadEnd) → end_of_read {S = S} last ≡ ReadFault → last ≡ read.ReadFault
+read_fault : {S : Type 0} (last : ReadEnd) → watch_end_of_read {S = S} last ≡ ReadFault → last ≡ read.ReadFault
 read_fault (read.Input line why) is = absurd (cc)
 read_fault read.ReadFault is = refl
 read_fault read.Ended is = absurd (cc)
 read_fault read.NoMemory is = absurd (cc)
 
 -- a read that failed is the end of the run, where the input was still open and none had failed before
-pub counts-reads : {S : Type 0} (Opened : Type 0) (last : ReadEnd) (result : WatchEnd S) (start before now : ℕ) → Opened → result ≡ end_of_read last
+pub counts-reads : {S : Type 0} (Opened : Type 0) (last : ReadEnd) (result : WatchEnd S) (start before now : ℕ) → Opened → result ≡ watch_end_of_read last
     → Counted (Opened × (◌≡◌ {A = Result (Option Batch) ReadEnd} (Err last) (Err read.ReadFault))) before now → before ≡ start → Counted (result ≡ ReadFault) start now
 counts-reads {S} Opened last result start before now opened is counted same_start = subst (λ (n : ℕ). Counted (result ≡ ReadFault) n now) same_start (record {
   later = counted.later;
@@ -80,19 +80,19 @@ counts-reads {S} Opened last result start before now opened is counted same_star
   quiet = λ other. counted.quiet (λ both. other (is ∙ same both.1));
 })
   where
-    same : ◌≡◌ {A = Result (Option Batch) ReadEnd} (Err last) (Err read.ReadFault) → end_of_read {S = S} last ≡ ReadFault
-    same e = let it : last ≡ read.ReadFault = cc in ap end_of_read it
+    same : ◌≡◌ {A = Result (Option Batch) ReadEnd} (Err last) (Err read.ReadFault) → watch_end_of_read {S = S} last ≡ ReadFault
+    same e = let it : last ≡ read.ReadFault = cc in ap watch_end_of_read it
 
 -- ---- a run
 
 -- the reader gave a bundle
-pub given : (first : Option (List ℕ)) (earlier : List BundleOf) (reader after : ReaderState) (left_after began_after : Option (List ℕ)) (found : Option Batch) (batch : Batch)
-    → found ≡ Some batch → NextAnswers first earlier reader after left_after began_after (Ok found) → GivesNext first earlier reader after left_after began_after batch
+pub given : (first : Option (List ℕ)) (earlier : List BundleOf) (reader after : InputReaderState) (left_after began_after : Option (List ℕ)) (found : Option Batch) (batch : Batch)
+    → found ≡ Some batch → NextAnswers first earlier reader after left_after began_after (Ok found) → GivesNextBundle first earlier reader after left_after began_after batch
 given first earlier reader after left_after began_after found batch is answers =
     subst (λ (o : Option Batch). NextAnswers first earlier reader after left_after began_after (Ok o)) is answers
 
 module _ {W : Type 0} (sees : W → BundleOf → W → List ℕ → Type 0) (first : Option (List ℕ)) (earlier : List BundleOf) (start : W) (written : Option (List ℕ)) where
-  pub run-start : (reader : ReaderState) (left began : Option (List ℕ)) → HasRead first reader left began earlier
+  pub run-start : (reader : InputReaderState) (left began : Option (List ℕ)) → HasRead first reader left began earlier
       → RunsSo sees first earlier start start written written reader left began
   run-start reader left began far = record {
     bundles = [];
@@ -100,10 +100,10 @@ module _ {W : Type 0} (sees : W → BundleOf → W → List ℕ → Type 0) (fir
     says = ([], (refl, refl), written_with-nil written);
   }
 
-  module _ (now : W) (written_now : Option (List ℕ)) (reader : ReaderState) (left began : Option (List ℕ))
+  module _ (now : W) (written_now : Option (List ℕ)) (reader : InputReaderState) (left began : Option (List ℕ))
       (far : RunsSo sees first earlier start now written written_now reader left began) where
-    pub run-more : (next : W) (written_after : Option (List ℕ)) (after : ReaderState) (left_after began_after : Option (List ℕ)) (batch : Batch)
-        → GivesNext first (earlier ++ far.bundles) reader after left_after began_after batch → Says (sees now (bundle_of batch) next) written_now written_after
+    pub run-more : (next : W) (written_after : Option (List ℕ)) (after : InputReaderState) (left_after began_after : Option (List ℕ)) (batch : Batch)
+        → GivesNextBundle first (earlier ++ far.bundles) reader after left_after began_after batch → Says (sees now (bundle_of batch) next) written_now written_after
         → RunsSo sees first earlier start next written written_after after left_after began_after
     run-more next written_after after left_after began_after batch gives one = record {
       bundles = far.bundles ++ bundle_of batch ∷ [];
@@ -112,22 +112,22 @@ module _ {W : Type 0} (sees : W → BundleOf → W → List ℕ → Type 0) (fir
     }
 
     -- the input ended
-    pub run-none : (after : ReaderState) (left_after began_after : Option (List ℕ)) → NextAnswers first (earlier ++ far.bundles) reader after left_after began_after (Ok None)
+    pub run-none : (after : InputReaderState) (left_after began_after : Option (List ℕ)) → NextAnswers first (earlier ++ far.bundles) reader after left_after began_after (Ok None)
         → WatchesWhole sees first earlier start now written (streams left_after began_after written_now)
     run-none after left_after began_after answers = record { bundles = far.bundles; reading = answers.0; says = far.says; drained = answers.1 }
 
     module _ {S : Type 0} (stops : W → BundleOf → S → List ℕ → Type 0) (begins : W → BundleOf → List ℕ → Type 0)
-        (after : ReaderState) (left_after began_after : Option (List ℕ)) where
+        (after : InputReaderState) (left_after began_after : Option (List ℕ)) where
       -- the reader ended
       pub run-read_end : (end : ReadEnd) → NextAnswers first (earlier ++ far.bundles) reader after left_after began_after (Err end)
-          → AnswersWatch sees stops begins first earlier start now written (streams left_after began_after written_now) (end_of_read end)
+          → AnswersWatch sees stops begins first earlier start now written (streams left_after began_after written_now) (watch_end_of_read end)
       run-read_end (read.Input line why) answers = record { bundles = far.bundles; reading = answers.0; says = far.says; little = answers.1 }
       run-read_end read.ReadFault answers = record { bundles = far.bundles; begins = answers.0; says = far.says; taken = answers.1 }
       run-read_end read.Ended answers = absurd answers
       run-read_end read.NoMemory answers = inl (record { bundles = far.bundles; begins = answers; says = far.says })
 
       -- the watcher ended in the next bundle
-      module _ (behind : W) (written_after : Option (List ℕ)) (batch : Batch) (gives : GivesNext first (earlier ++ far.bundles) reader after left_after began_after batch) where
+      module _ (behind : W) (written_after : Option (List ℕ)) (batch : Batch) (gives : GivesNextBundle first (earlier ++ far.bundles) reader after left_after began_after batch) where
         within : (Within : W → BundleOf → Option (List ℕ) → Option (List ℕ) → Type 0) → Within now (bundle_of batch) written_now written_after
             → StopsWithin sees Within first earlier start written (streams left_after began_after written_after)
         within Within here = record {

@@ -13,12 +13,12 @@ use Rattle.match_bindings.specs.declared.log_entry.LogEntry.{LogEntry}
 use Rattle.match_bindings.specs.NumberedPattern.{numbered_pattern}
 use Rattle.match_bindings.specs.BindTree.{BindTree}
 use Rattle.match_stream.specs.declared.ending.Ending.TheVariants as ending
-use Rattle.match_stream.specs.MatcherState.{MatcherState, Represents}
+use Rattle.match_stream.specs.MatcherState.{MatcherState, MatcherRepresents}
 use Rattle.match_stream.specs.Answer.{IsOverLimit, IsWithinLimit}
 use Rattle.match_input.specs.declared.mode.Mode.{Mode}
 use Rattle.match_input.specs.declared.mode.Mode.TheVariants.{Lines, Whole as WholeInput}
 use Rattle.match_input.specs.declared.rule.InputRule.{InputRule}
-use Rattle.match_input.specs.Reading.{BundleOf, InputEnd, Whole, Refused, Reads, Reading}
+use Rattle.match_input.specs.Reading.{BundleOf, InputEnd, Whole, Refused, ReadsInputLines, Reading}
 use Rattle.flow_edges.specs.Streams.{Streams}
 use Rattle.match_run.specs.Entries.{AreEntriesOf, AreEntries}
 use Rattle.match_run.specs.Listing.{AreBindings, listing_text, last_number}
@@ -53,7 +53,7 @@ pub record ListsWhole (mode : Mode) (p : Pattern) (retained_limit : ℕ) (before
   pub log : List LogEntry
   pub trees : List BindTree
   pub lists : ListsLog p retained_limit bundles log trees before.written after.written
-  pub represents : Represents state log
+  pub represents : MatcherRepresents state log
   pub drained : IsAtEnd after.left
   pub observations_are : observations ≡ length log
   pub bindings_are : bindings ≡ length trees
@@ -79,7 +79,7 @@ pub record ListsBefore (mode : Mode) (p : Pattern) (retained_limit : ℕ) (befor
   pub log : List LogEntry
   pub trees : List BindTree
   pub lists : ListsLog p retained_limit bundles log trees before.written after.written
-  pub represents : Represents state log
+  pub represents : MatcherRepresents state log
   pub little : TakesLittle mode line before.left after.left
 
 -- these bundles are the reading of the whole lines among the bytes read: the reading goes on after
@@ -91,7 +91,7 @@ pub record ReadsTaken (bundles : List BundleOf) (left left_after : Option (List 
   pub accounts : AccountsFor lines_start at left left_after
   pub last : Option ℤ
   pub next : ℕ
-  pub behind : (later : List BundleOf) (end : InputEnd) → IfSome (lines_remaining at left_after) (λ lines. Reads last next lines later end)
+  pub behind : (later : List BundleOf) (end : InputEnd) → IfSome (lines_remaining at left_after) (λ lines. ReadsInputLines last next lines later end)
       → ReadsInput Lines left (bundles ++ later) end
 
 abbrev pub HasTaken : Mode → List BundleOf → Option (List ℕ) → Option (List ℕ) → Type 0
@@ -106,7 +106,7 @@ pub record ListsTaken (mode : Mode) (p : Pattern) (retained_limit : ℕ) (before
   pub log : List LogEntry
   pub trees : List BindTree
   pub lists : ListsLog p retained_limit bundles log trees before.written after.written
-  pub represents : Represents state log
+  pub represents : MatcherRepresents state log
   pub taken : HasTaken mode bundles before.left after.left
 
 -- the rows of the earlier bundles, and of the first observations of the next one
@@ -192,7 +192,7 @@ pub record StopsWithin (mode : Mode) (p : Pattern) (retained_limit : ℕ) (befor
   pub reads : ReadsNoFurther mode bundle.line before after
 
 -- the run stopped between two bundles: the bindings of those before were written
-pub record StopsBetween (mode : Mode) (p : Pattern) (retained_limit : ℕ) (before after : Streams) : Type 0 where
+pub record MatchStopsBetween (mode : Mode) (p : Pattern) (retained_limit : ℕ) (before after : Streams) : Type 0 where
   pub bundles : List BundleOf
   pub begins : HasPrefix mode before.left bundles
   pub log : List LogEntry
@@ -206,4 +206,4 @@ AnswersMatch mode p retained_limit before after state (Input line why) = ListsBe
 AnswersMatch mode p retained_limit before after state ReadFault = ListsTaken mode p retained_limit before after state
 AnswersMatch mode p retained_limit before after state WriteFault = StopsWithin mode p retained_limit before after
 AnswersMatch mode p retained_limit before after state (OverLimit number named) = StopsOverLimit mode p retained_limit before after state number named
-AnswersMatch mode p retained_limit before after state NoMemory = StopsBetween mode p retained_limit before after ⊎ StopsWithin mode p retained_limit before after
+AnswersMatch mode p retained_limit before after state NoMemory = MatchStopsBetween mode p retained_limit before after ⊎ StopsWithin mode p retained_limit before after

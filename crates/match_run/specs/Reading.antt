@@ -15,8 +15,8 @@ use Rattle.match_input.specs.declared.read_end.ReadEnd.TheVariants.{Input, ReadF
 use Rattle.match_input.specs.declared.stage.Stage.{Stage}
 use Rattle.match_input.specs.declared.stage.Stage.TheVariants as stage
 use Rattle.match_input.specs.Line.{last_after}
-use Rattle.match_input.specs.Reading.{BundleOf, InputEnd, Whole, Refused, Reads}
-use Rattle.match_input.specs.Ahead.{ReaderState, next_number, ahead}
+use Rattle.match_input.specs.Reading.{BundleOf, InputEnd, Whole, Refused, ReadsInputLines}
+use Rattle.match_input.specs.Ahead.{InputReaderState, next_observation_number, ahead}
 use Rattle.match_run.specs.Matching.{ReadsInput, HasPrefix, StopsIn, ReadsTaken, HoldsFew, IsToCome}
 
 -- ---- bundles and their observations
@@ -39,13 +39,13 @@ MayFollow last next (o ∷ observations) = (o.first ≤ℤ o.last) × (o.number 
 -- ---- how far an input is read
 
 -- the reading of what remains
-abbrev pub ReadsOn : ReaderState → Option (List ℕ) → List BundleOf → InputEnd → Type 0
-ReadsOn reader left bundles end = IfSome (ahead reader.stage left) (λ lines. Reads reader.last (next_number reader) lines bundles end)
+abbrev pub ReadsOn : InputReaderState → Option (List ℕ) → List BundleOf → InputEnd → Type 0
+ReadsOn reader left bundles end = IfSome (ahead reader.stage left) (λ lines. ReadsInputLines reader.last (next_observation_number reader) lines bundles end)
 
 -- these bundles come first, and the rest is the reading of what remains
-abbrev pub ReadsRest : ReaderState → Option (List ℕ) → List BundleOf → List BundleOf → InputEnd → Type 0
+abbrev pub ReadsRest : InputReaderState → Option (List ℕ) → List BundleOf → List BundleOf → InputEnd → Type 0
 ReadsRest reader left bundles all end = IfSome (ahead reader.stage left) (λ lines. (later : List BundleOf) × (all ≡ bundles ++ later)
-    × Reads reader.last (next_number reader) lines later end)
+    × ReadsInputLines reader.last (next_observation_number reader) lines later end)
 
 -- the reader of lines has consumed the first ones: none was refused, no byte is lost, and the last
 -- read began before the last of them was complete, unless nothing was read
@@ -57,7 +57,7 @@ pub record HasConsumed (first left began : Option (List ℕ)) (lines : LinesStat
 
 -- these bundles were read from the input: they come first in any reading of it, and the reader is
 -- after them
-pub record HasRead (first : Option (List ℕ)) (reader : ReaderState) (left began : Option (List ℕ)) (bundles : List BundleOf) : Type 0 where
+pub record HasRead (first : Option (List ℕ)) (reader : InputReaderState) (left began : Option (List ℕ)) (bundles : List BundleOf) : Type 0 where
   pub forward : (more : List BundleOf) (end : InputEnd) → ReadsOn reader left more end → ReadsInput Lines first (bundles ++ more) end
   pub backward : (all : List BundleOf) (end : InputEnd) → ReadsInput Lines first all end → ReadsRest reader left bundles all end
   pub told : IfSome first (λ _. (bytes : List ℕ) × (left ≡ Some bytes))
@@ -68,8 +68,8 @@ pub record HasRead (first : Option (List ℕ)) (reader : ReaderState) (left bega
   pub last : reader.last ≡ last_after None (observations_of bundles)
 
 -- some bundles were read of some input
-abbrev pub IsReading : ReaderState → Option (List ℕ) → Option (List ℕ) → Type 0
-IsReading reader left began = (first : Option (List ℕ)) × (bundles : List BundleOf) × HasRead first reader left began bundles
+abbrev pub IsBundleReading : InputReaderState → Option (List ℕ) → Option (List ℕ) → Type 0
+IsBundleReading reader left began = (first : Option (List ℕ)) × (bundles : List BundleOf) × HasRead first reader left began bundles
 
 -- ---- what the next bundle is
 
@@ -84,17 +84,17 @@ room_in (stage.Lines lines) = MAX_INPUT - lines.given
 room_in _ = 0
 
 -- one more bundle was read, and no more; its observations may follow those before
-pub record GivesNext (first : Option (List ℕ)) (earlier : List BundleOf) (before after : ReaderState) (left_after began_after : Option (List ℕ)) (batch : Batch) : Type 0 where
+pub record GivesNextBundle (first : Option (List ℕ)) (earlier : List BundleOf) (before after : InputReaderState) (left_after began_after : Option (List ℕ)) (batch : Batch) : Type 0 where
   pub read : HasRead first after left_after began_after (earlier ++ bundle_of batch ∷ [])
   pub only : ReadsOnlyTo batch.line first left_after began_after
-  pub follow : MayFollow before.last (next_number before) batch.observations
+  pub follow : MayFollow before.last (next_observation_number before) batch.observations
   pub observations : after.observations ≡ before.observations + length batch.observations
   pub last : after.last ≡ last_after before.last batch.observations
   pub less_room : room_in after.stage < room_in before.stage
 
 -- what an answer says about the input of which these bundles were read before
-abbrev pub NextAnswers : Option (List ℕ) → List BundleOf → ReaderState → ReaderState → Option (List ℕ) → Option (List ℕ) → Result (Option Batch) ReadEnd → Type 0
-NextAnswers first earlier before after left_after began_after (Ok (Some batch)) = GivesNext first earlier before after left_after began_after batch
+abbrev pub NextAnswers : Option (List ℕ) → List BundleOf → InputReaderState → InputReaderState → Option (List ℕ) → Option (List ℕ) → Result (Option Batch) ReadEnd → Type 0
+NextAnswers first earlier before after left_after began_after (Ok (Some batch)) = GivesNextBundle first earlier before after left_after began_after batch
 NextAnswers first earlier before after left_after began_after (Ok None) = ReadsInput Lines first earlier Whole × IsAtEnd left_after × (after.stage ≡ stage.AtEnd)
 NextAnswers first earlier before after left_after began_after (Err (Input line why)) = ReadsInput Lines first earlier (Refused line why) × StopsIn line first left_after
 NextAnswers first earlier before after left_after began_after (Err ReadFault) = HasPrefix Lines first earlier × ReadsTaken earlier first left_after

@@ -64,7 +64,7 @@ module _ {W : Type 0} (sees : W → BundleOf → W → List ℕ → Type 0) (fir
     pub taken : ReadsTaken (earlier ++ bundles) first after.left
 
   -- it stopped between two bundles: the text about those before was written
-  pub record StopsBetween : Type 0 where
+  pub record WatchStopsBetween : Type 0 where
     pub bundles : List BundleOf
     pub begins : HasPrefix Lines first (earlier ++ bundles)
     pub says : Says (SeesAll sees watcher bundles behind) written after.written
@@ -91,5 +91,5 @@ module _ {W S : Type 0} (sees : W → BundleOf → W → List ℕ → Type 0) (s
   AnswersWatch ReadFault = WatchesTaken sees first earlier watcher behind written after
   AnswersWatch WriteFault = StopsWithin sees (λ at bundle. BreaksOff (begins at bundle)) first earlier watcher written after
   AnswersWatch (Stopped why) = StopsWithin sees (λ at bundle. Says (stops at bundle why)) first earlier watcher written after
-  AnswersWatch NoMemory = StopsBetween sees first earlier watcher behind written after
+  AnswersWatch NoMemory = WatchStopsBetween sees first earlier watcher behind written after
       ⊎ StopsWithin sees (λ at bundle. BreaksOff (begins at bundle)) first earlier watcher written after

@@ -6,8 +6,8 @@ ghost use Rattle.pattern_types.specs.PlainPattern.{plain_pattern};
 ghost use Rattle.match_comparisons.specs.Truths.{AreTruths};
 ghost use Rattle.match_bindings.specs.BindTree.{tree_of};
 ghost use Rattle.match_stream.specs.MatcherState.{Falls};
-ghost use Rattle.match_run.specs.inner.MatchEnds.{MayEnd, end_of_match};
-ghost use Rattle.match_run.specs.inner.Rows.{so_far, IsAtSome, TakesRow, StopsAtRow};
+ghost use Rattle.match_run.specs.inner.MatchEnds.{MayEndMatching, end_of_match};
+ghost use Rattle.match_run.specs.inner.Rows.{so_far, IsAtSome, TakesObservation, StopsAtRow};
 
 use crate::MatchEnd;
 use crate::tally::Tally;
@@ -29,7 +29,7 @@ pub(crate) fn answer(
     requires order { ¬ (Falls matcher.old.last observation.now.last) }
     ensures row { (objects : List Data)
         → AreTruths objects observation.now.roots (plain_pattern matcher.old.pattern) truths.now
-        → IfOk result (λ binds. TakesRow objects observation.now (so_far matcher.old tally.old)
+        → IfOk result (λ binds. TakesObservation objects observation.now (so_far matcher.old tally.old)
         (so_far matcher.new tally.new) (map tree_of binds)) }
     ensures end { (objects : List Data)
         → AreTruths objects observation.now.roots (plain_pattern matcher.old.pattern) truths.now
@@ -51,7 +51,7 @@ pub(crate) fn answer(
 
 /// How the run ends where the matcher does.
 fn end_of(refusal: MatchRefusal) -> MatchEnd
-    requires { MayEnd refusal }
+    requires { MayEndMatching refusal }
     ensures end { result ≡ end_of_match refusal }
     ensures unwritten { result ≢ MatchEnd.WriteFault }
 {

@@ -7,7 +7,7 @@ ghost use Rattle.pattern_types.specs.PlainPattern.{plain_pattern};
 ghost use Rattle.pattern_types.specs.Soundness.{IsSoundPattern};
 ghost use Rattle.match_run.specs.inner.MatchEnds.{HasCutLines};
 ghost use Rattle.match_run.specs.inner.Rows.{so_far, IsAtSome, GoesThrough, StopsAtOne};
-ghost use Rattle.match_run.specs.inner.Rows.{WritesBundle, StopsInBundle};
+ghost use Rattle.match_run.specs.inner.Rows.{WritesBundle, StopsInBundleRows};
 ghost use Rattle.match_run.specs.Reading.{MayFollow};
 ghost use Rattle.match_run.specs.Reading.{bundle_of};
 
@@ -37,7 +37,7 @@ pub(crate) fn match_batch<O: Sink>(
     ensures rows { OnOk result (WritesBundle (bundle_of batch.now) (so_far matcher.old tally.old)
         (so_far matcher.new tally.new)
         (O.written output.old) (O.written output.new)) }
-    ensures end { IfErr result (StopsInBundle (bundle_of batch.now) (so_far matcher.old tally.old)
+    ensures end { IfErr result (StopsInBundleRows (bundle_of batch.now) (so_far matcher.old tally.old)
         matcher.new
         (O.written output.old) (O.written output.new)) }
     ensures kept { (matcher.new.pattern ≡ matcher.old.pattern)

@@ -8,7 +8,7 @@ ghost use Rattle.match_bindings.specs.BindTree.{tree_of};
 ghost use Rattle.match_bindings.specs.Line.{line_text};
 ghost use Rattle.match_run.specs.Listing.{listing_text};
 ghost use Rattle.match_run.specs.inner.MatchEnds.{CutsLines};
-ghost use Rattle.match_run.specs.inner.Rows.{IsBuffered};
+ghost use Rattle.match_run.specs.inner.Rows.{IsPartBuffered};
 
 use crate::MatchEnd;
 use flow_edges::{Sink, write_whole};
@@ -27,11 +27,11 @@ pub(crate) fn add_lines<O: Sink>(
     output: &mut O,
 ) -> Result<(), MatchEnd>
     ensures ok { (text : List ℕ) (first : Option (List ℕ))
-        → IsBuffered text pending.old.items first (O.written output.old)
-        → OnOk result (IsBuffered (text ++ listing_text (map tree_of binds.now)) pending.new.items
+        → IsPartBuffered text pending.old.items first (O.written output.old)
+        → OnOk result (IsPartBuffered (text ++ listing_text (map tree_of binds.now)) pending.new.items
         first (O.written output.new)) }
     ensures err { (text : List ℕ) (first : Option (List ℕ))
-        → IsBuffered text pending.old.items first (O.written output.old)
+        → IsPartBuffered text pending.old.items first (O.written output.old)
         → OnErr result (WritesPrefix (text ++ listing_text (map tree_of binds.now)) first
         (O.written output.new)) }
     ensures end { IfErr result CutsLines }
@@ -52,11 +52,11 @@ fn add_line<O: Sink>(
     output: &mut O,
 ) -> Result<(), MatchEnd>
     ensures ok { (text : List ℕ) (first : Option (List ℕ))
-        → IsBuffered text pending.old.items first (O.written output.old)
-        → OnOk result (IsBuffered (text ++ line_text (tree_of bind.now)) pending.new.items first
+        → IsPartBuffered text pending.old.items first (O.written output.old)
+        → OnOk result (IsPartBuffered (text ++ line_text (tree_of bind.now)) pending.new.items first
         (O.written output.new)) }
     ensures err { (text : List ℕ) (first : Option (List ℕ))
-        → IsBuffered text pending.old.items first (O.written output.old)
+        → IsPartBuffered text pending.old.items first (O.written output.old)
         → OnErr result (WritesPrefix (text ++ line_text (tree_of bind.now)) first
         (O.written output.new)) }
     ensures end { IfErr result CutsLines }

@@ -1,6 +1,6 @@
 ghost use Rattle.std.specs.Prelude.{◌≡◌};
 ghost use Rattle.match_run.specs.declared.match_end.MatchEnd.TheVariants.{NoMemory as OutOfMemory};
-ghost use Rattle.match_run.specs.inner.MatchEnds.{end_of_read};
+ghost use Rattle.match_run.specs.inner.MatchEnds.{match_end_of_read};
 
 use flow_values::NoMemory;
 use match_input::{InputRule, ReadEnd};
@@ -42,7 +42,7 @@ impl From<NoMemory> for MatchEnd {
 }
 
 impl From<ReadEnd> for MatchEnd {
-    ghost from_gives = { λ read end. end ≡ end_of_read read };
+    ghost from_gives = { λ read end. end ≡ match_end_of_read read };
 
     fn from(end: ReadEnd) -> MatchEnd {
         match end {

@@ -4,7 +4,7 @@ ghost use Rattle.std.specs.Prelude.{◌≡◌, ℕ, List, Option};
 ghost use Rattle.flow_edges.specs.Faults.{Counted};
 ghost use Rattle.flow_edges.specs.Streams.{streams};
 ghost use Rattle.match_input.specs.Reading.{BundleOf};
-ghost use Rattle.match_run.specs.Reading.{HasRead, IsReading};
+ghost use Rattle.match_run.specs.Reading.{HasRead, IsBundleReading};
 ghost use Rattle.match_run.specs.Watching.{AnswersWatch};
 
 use crate::{WatchEnd, Watcher, next_bundle};
@@ -20,7 +20,7 @@ pub fn follow<W: Watcher, I: Source, O: Sink>(
     input: &mut I,
     output: &mut O,
 ) -> WatchEnd<W::Stop>
-    requires reads { IsReading reader.old (I.left input.old) (I.began input.old) }
+    requires reads { IsBundleReading reader.old (I.left input.old) (I.began input.old) }
     requires ready { W.ready watcher.old }
     // The watcher and the reader agree on how far the input was read.
     requires seen { W.seen watcher.old ≡ reader.old.observations }

@@ -5,7 +5,7 @@ ghost use Rattle.flow_edges.specs.Faults.{Counted};
 ghost use Rattle.flow_edges.specs.Streams.{streams};
 ghost use Rattle.pattern_types.specs.PlainPattern.{plain_pattern};
 ghost use Rattle.pattern_types.specs.Soundness.{IsSoundPattern};
-ghost use Rattle.match_stream.specs.MatcherState.{Represents};
+ghost use Rattle.match_stream.specs.MatcherState.{MatcherRepresents};
 ghost use Rattle.match_run.specs.Matching.{AnswersMatch};
 
 use crate::batch::match_batch;
@@ -31,7 +31,7 @@ pub fn match_stream<I: Source, O: Sink>(
     mode: Mode,
 ) -> MatchEnd
     // The matcher is new: it represents the empty log.
-    requires start { Represents matcher.old [] }
+    requires start { MatcherRepresents matcher.old [] }
     requires sound { IsSoundPattern (plain_pattern matcher.old.pattern) }
     ensures end { AnswersMatch mode matcher.old.pattern matcher.old.retained_limit
         (streams (I.left input.old) (I.began input.old) (O.written output.old))

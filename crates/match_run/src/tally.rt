@@ -1,5 +1,5 @@
 ghost use Rattle.std.specs.Prelude.{◌≡◌, ◌+◌, ◌<◌, ◌^◌};
-ghost use Rattle.match_run.specs.inner.Rows.{no_tally, counted};
+ghost use Rattle.match_run.specs.inner.Rows.{no_tally, with_bindings};
 
 use crate::MatchEnd;
 
@@ -28,7 +28,7 @@ impl Tally {
     pub(crate) fn count(&mut self, number: u64, bindings: usize)
         requires observations { self.old.observations + 1 < 2 ^ 64 }
         requires bindings { self.old.bindings + bindings < 2 ^ 128 }
-        ensures { self.new ≡ counted self.old number bindings }
+        ensures { self.new ≡ with_bindings self.old number bindings }
     {
         self.observations += 1;
         if bindings > 0 {

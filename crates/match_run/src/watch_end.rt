@@ -1,5 +1,5 @@
 ghost use Rattle.std.specs.Prelude.{◌≡◌};
-ghost use Rattle.match_run.specs.inner.WatchEnds.{end_of_read, end_of_see};
+ghost use Rattle.match_run.specs.inner.WatchEnds.{watch_end_of_read, end_of_see};
 
 use crate::{InputRule, SeeEnd};
 use match_input::ReadEnd;
@@ -22,7 +22,7 @@ pub enum WatchEnd<S> {
 }
 
 impl<S> From<ReadEnd> for WatchEnd<S> {
-    ghost from_gives = { λ read end. end ≡ end_of_read read };
+    ghost from_gives = { λ read end. end ≡ watch_end_of_read read };
 
     fn from(end: ReadEnd) -> WatchEnd<S> {
         match end {

@@ -6,7 +6,7 @@ ghost use Rattle.flow_edges.specs.Flow.{WritesPrefix};
 ghost use Rattle.stix_bundles.specs.declared.observation.Observation.{Observation};
 ghost use Rattle.match_input.specs.declared.mode.Mode.TheVariants.{Lines};
 ghost use Rattle.match_input.specs.Reading.{BundleOf};
-ghost use Rattle.match_input.specs.Ahead.{ReaderState, reader_start};
+ghost use Rattle.match_input.specs.Ahead.{InputReaderState, reader_start};
 ghost use Rattle.match_run.specs.Matching.{HasPrefix};
 ghost use Rattle.match_run.specs.Buffered.{IsBuffered};
 ghost use Rattle.match_run.specs.Reading.{HasRead, MayFollow};
@@ -18,7 +18,7 @@ pub fn begins_with_none()
 
 /// The bundles read of an input are a prefix of its reading.
 pub fn read_bundles_come_first()
-    ensures { (first left began : Option (List ℕ)) (reader : ReaderState) (bundles : List BundleOf)
+    ensures { (first left began : Option (List ℕ)) (reader : InputReaderState) (bundles : List BundleOf)
         → HasRead first reader left began bundles
         → HasPrefix Lines first bundles }
 {}

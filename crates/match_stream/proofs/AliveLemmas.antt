@@ -11,7 +11,7 @@ use Rattle.match_bindings.proofs.IsBindingLemmas.{lt_true, true_lt, le_true, tru
 use Rattle.match_bindings.proofs.BoundsLemmas.{both_ways}
 use Rattle.match_pruning.specs.declared.window.Window.{Window}
 use Rattle.match_pruning.specs.Stores.{window_of}
-use Rattle.match_pruning.specs.inner.Retains.{in_seconds, from_start, before_stop, alive, is_ahead, retains}
+use Rattle.match_pruning.specs.inner.Retains.{lasts_at_most, ends_from_start, begins_before_stop, alive, is_ahead, retains}
 
 -- ---- two things together
 
@@ -33,7 +33,7 @@ le_min_right x a b h = omega (arith, ints, clamps)
 le_min_both : (x a b : ℤ) → x ≤ℤ a → x ≤ℤ b → x ≤ℤ int_min a b
 le_min_both x a b h k = omega (arith, ints, clamps)
 
-seconds_min : (o : Option ℕ) (a b t : ℤ) → in_seconds o (int_min a b) t ≡ (in_seconds o a t && in_seconds o b t)
+seconds_min : (o : Option ℕ) (a b t : ℤ) → lasts_at_most o (int_min a b) t ≡ (lasts_at_most o a t && lasts_at_most o b t)
 seconds_min None a b t = refl
 seconds_min (Some x) a b t = both_ways (int_lt t (later_by x (int_min a b))) (int_lt t (later_by x a) && int_lt t (later_by x b))
     (λ h. let e = lt_true t (later_by x (int_min a b)) h in
@@ -41,7 +41,7 @@ seconds_min (Some x) a b t = both_ways (int_lt t (later_by x (int_min a b))) (in
     (λ h. let parts = and_parts (int_lt t (later_by x a)) (int_lt t (later_by x b)) h in
     true_lt t (later_by x (int_min a b)) (lt_min_both t a b (1_000_000_000 * x) (lt_true t (later_by x a) parts.0) (lt_true t (later_by x b) parts.1)))
 
-start_min : (o : Option ℤ) (a b : ℤ) → from_start o (int_min a b) ≡ (from_start o a && from_start o b)
+start_min : (o : Option ℤ) (a b : ℤ) → ends_from_start o (int_min a b) ≡ (ends_from_start o a && ends_from_start o b)
 start_min None a b = refl
 start_min (Some x) a b = both_ways (int_le x (int_min a b)) (int_le x a && int_le x b)
     (λ h. let e = le_true x (int_min a b) h in and_from _ _ (true_le x a (le_min_left x a b e)) (true_le x b (le_min_right x a b e)))
@@ -66,7 +66,7 @@ pub alive_min : (w : Bounds) (a b t : ℤ) → alive w (int_min a b) t ≡ (aliv
 alive_min w a b t =
     let one = seconds_min w.seconds a b t in
     let two = start_min w.start a b in
-    rw (one, two) (regroup (in_seconds w.seconds a t) (in_seconds w.seconds b t) (from_start w.start a) (from_start w.start b) (before_stop w.stop t))
+    rw (one, two) (regroup (lasts_at_most w.seconds a t) (lasts_at_most w.seconds b t) (ends_from_start w.start a) (ends_from_start w.start b) (begins_before_stop w.stop t))
 
 -- ---- what is alive was alive before
 
@@ -76,11 +76,11 @@ lt_before s t e h k = omega (arith, ints)
 le_before : (s t e : ℤ) → s ≤ℤ t → t ≤ℤ e → s ≤ℤ e
 le_before s t e h k = omega (arith, ints)
 
-seconds_before : (o : Option ℕ) (e s t : ℤ) → s ≤ℤ t → in_seconds o e t ≡ true → in_seconds o e s ≡ true
+seconds_before : (o : Option ℕ) (e s t : ℤ) → s ≤ℤ t → lasts_at_most o e t ≡ true → lasts_at_most o e s ≡ true
 seconds_before None e s t h k = refl
 seconds_before (Some x) e s t h k = true_lt s (later_by x e) (lt_before s t (later_by x e) h (lt_true t (later_by x e) k))
 
-stop_before : (o : Option ℤ) (s t : ℤ) → s ≤ℤ t → before_stop o t ≡ true → before_stop o s ≡ true
+stop_before : (o : Option ℤ) (s t : ℤ) → s ≤ℤ t → begins_before_stop o t ≡ true → begins_before_stop o s ≡ true
 stop_before None s t h k = refl
 stop_before (Some y) s t h k = true_lt s y (lt_before s t y h (lt_true t y k))
 
@@ -90,9 +90,9 @@ ahead_before true e s t h k = true_le s e (le_before s t e h (le_true t e k))
 
 pub retains_before : (w : Window) (e s t : ℤ) → s ≤ℤ t → retains w e t ≡ true → retains w e s ≡ true
 retains_before w e s t h k =
-    let front = and_parts (is_ahead w.after_left e t) (in_seconds w.seconds e t && (from_start w.start e && before_stop w.stop t)) k in
-    let parts = and_parts (in_seconds w.seconds e t) (from_start w.start e && before_stop w.stop t) front.1 in
-    let more = and_parts (from_start w.start e) (before_stop w.stop t) parts.1 in
+    let front = and_parts (is_ahead w.after_left e t) (lasts_at_most w.seconds e t && (ends_from_start w.start e && begins_before_stop w.stop t)) k in
+    let parts = and_parts (lasts_at_most w.seconds e t) (ends_from_start w.start e && begins_before_stop w.stop t) front.1 in
+    let more = and_parts (ends_from_start w.start e) (begins_before_stop w.stop t) parts.1 in
     and_from _ _ (ahead_before w.after_left e s t h front.0)
     (and_from _ _ (seconds_before w.seconds e s t h parts.0) (and_from _ _ more.0 (stop_before w.stop s t h more.1)))
 
@@ -115,7 +115,7 @@ lt_min_second t e m n h = omega (arith, ints)
 lt_min_of : (t e : ℤ) (m n : ℕ) → t <ℤ (e +ℤ pos (1_000_000_000 * m)) → t <ℤ (e +ℤ pos (1_000_000_000 * n)) → t <ℤ (e +ℤ pos (1_000_000_000 * min m n))
 lt_min_of t e m n h k = omega (arith, ints)
 
-seconds_least : (o : Option ℕ) (n : ℕ) (e t : ℤ) → in_seconds (least_seconds o n) e t ≡ (in_seconds o e t && int_lt t (later_by n e))
+seconds_least : (o : Option ℕ) (n : ℕ) (e t : ℤ) → lasts_at_most (least_seconds o n) e t ≡ (lasts_at_most o e t && int_lt t (later_by n e))
 seconds_least None n e t = refl
 seconds_least (Some m) n e t = both_ways (int_lt t (later_by (min m n) e)) (int_lt t (later_by m e) && int_lt t (later_by n e))
     (λ h. let k = lt_true t (later_by (min m n) e) h in
@@ -133,7 +133,7 @@ move true true true = refl
 pub alive_within : (w : Bounds) (n : ℕ) (e t : ℤ) → alive (within w n) e t ≡ (alive w e t && int_lt t (later_by n e))
 alive_within w n e t =
     let one = seconds_least w.seconds n e t in
-    rw one (move (in_seconds w.seconds e t) (int_lt t (later_by n e)) (from_start w.start e && before_stop w.stop t))
+    rw one (move (lasts_at_most w.seconds e t) (int_lt t (later_by n e)) (ends_from_start w.start e && begins_before_stop w.stop t))
 
 max_le_left : (x y e : ℤ) → int_max y x ≤ℤ e → y ≤ℤ e
 max_le_left x y e h = omega (arith, ints, clamps)
@@ -144,7 +144,7 @@ max_le_right x y e h = omega (arith, ints, clamps)
 max_le_both : (x y e : ℤ) → y ≤ℤ e → x ≤ℤ e → int_max y x ≤ℤ e
 max_le_both x y e h k = omega (arith, ints, clamps)
 
-start_latest : (o : Option ℤ) (x e : ℤ) → from_start (latest_start o x) e ≡ (from_start o e && int_le x e)
+start_latest : (o : Option ℤ) (x e : ℤ) → ends_from_start (latest_start o x) e ≡ (ends_from_start o e && int_le x e)
 start_latest None x e = refl
 start_latest (Some y) x e = both_ways (int_le (int_max y x) e) (int_le y e && int_le x e)
     (λ h. let k = le_true (int_max y x) e h in and_from _ _ (true_le y e (max_le_left x y e k)) (true_le x e (max_le_right x y e k)))
@@ -159,7 +159,7 @@ lt_least_right x y t h = omega (arith, ints, clamps)
 lt_least_both : (x y t : ℤ) → t <ℤ y → t <ℤ x → t <ℤ int_min y x
 lt_least_both x y t h k = omega (arith, ints, clamps)
 
-stop_earliest : (o : Option ℤ) (x t : ℤ) → before_stop (earliest_stop o x) t ≡ (before_stop o t && int_lt t x)
+stop_earliest : (o : Option ℤ) (x t : ℤ) → begins_before_stop (earliest_stop o x) t ≡ (begins_before_stop o t && int_lt t x)
 stop_earliest None x t = refl
 stop_earliest (Some y) x t = both_ways (int_lt t (int_min y x)) (int_lt t y && int_lt t x)
     (λ h. let k = lt_true t (int_min y x) h in and_from _ _ (true_lt t y (lt_least_left x y t k)) (true_lt t x (lt_least_right x y t k)))
@@ -177,4 +177,4 @@ pub alive_between : (w : Bounds) (x y e t : ℤ) → alive (between w x y) e t �
 alive_between w x y e t =
     let one = start_latest w.start x e in
     let two = stop_earliest w.stop y t in
-    rw (one, two) (between_bits (in_seconds w.seconds e t) (from_start w.start e) (before_stop w.stop t) (int_le x e) (int_lt t y))
+    rw (one, two) (between_bits (lasts_at_most w.seconds e t) (ends_from_start w.start e) (begins_before_stop w.stop t) (int_le x e) (int_lt t y))

@@ -10,7 +10,7 @@ use Rattle.match_bindings.specs.NumberedPattern.{NumberedPattern}
 use Rattle.match_bindings.specs.BindTree.{BindTree, has, greatest}
 use Rattle.match_bindings.specs.Log.{Observed, observed_in}
 use Rattle.match_bindings.specs.Test.{is_binding}
-use Rattle.match_bindings.specs.Once.{bit, same, count}
+use Rattle.match_bindings.specs.Once.{bit, is_same_tree, count}
 use Rattle.match_bindings.specs.Flat.{comes_before, Ascends}
 use Rattle.match_pruning.specs.PartialMatchTree.{PartialMatchTree, trees_in}
 use Rattle.match_stream.specs.Answer.{EndsAtLast, IsAnswer}
@@ -58,7 +58,7 @@ held_counts o f held (xs, is, each) x = ap (count x) (ap trees_in is ∙ trees_h
 pub answer_law : Rule → Ascend → (p : NumberedPattern) (log : List LogEntry) (r : LogEntry) (new : List PartialMatchTree) (xs : List BindTree) →
     AreHeld (observed_in (log ++ r ∷ [])) (ends (observed_in (log ++ r ∷ [])) (suc (length log)) r.last no_bounds p) new →
     ((x : BindTree) → count x xs ≡ count x (trees_in new)) → IsSortedBy comes_before xs → IsAnswer p (log ++ r ∷ []) xs
-answer_law rule sift_up p log r new xs held same sorted = record {
+answer_law rule sift_up p log r new xs held is_same_tree sorted = record {
   each_once = λ x h. each x ∙ ap bit (yes_it_is x h);
   no_other = λ x h. each x ∙ ap bit (no_it_isnt x h (is_binding o p x) (nat_eq (greatest x) n) refl refl);
   ascends = sift_up o p xs (λ x. let e = each x in let most = bit_and_most (is_binding o p x) (nat_eq (greatest x) n) in omega arith) sorted;
@@ -77,7 +77,7 @@ answer_law rule sift_up p log r new xs held same sorted = record {
 
   each : (x : BindTree) → count x xs ≡ bit (is_binding (observed_in (log ++ r ∷ [])) p x && nat_eq (greatest x) (suc (length log)))
   each x =
-      same x ∙ held_counts (observed_in (log ++ r ∷ [])) (ends (observed_in (log ++ r ∷ [])) (suc (length log)) r.last no_bounds p) new held x
+      is_same_tree x ∙ held_counts (observed_in (log ++ r ∷ [])) (ends (observed_in (log ++ r ∷ [])) (suc (length log)) r.last no_bounds p) new held x
       ∙ ap bit (and_true (is_binding (observed_in (log ++ r ∷ [])) p x) (has (suc (length log)) x))
       ∙ ap bit (ends_at (observed_in (log ++ r ∷ [])) (suc (length log)) counted p x)
 
@@ -93,32 +93,32 @@ answer_law rule sift_up p log r new xs held same sorted = record {
   no_it_isnt x h true false eb ec = rw (eb, ec) refl
   no_it_isnt x h true true eb ec = absurd (h ((rule (observed_in (log ++ r ∷ [])) p x).0 eb, eqb-true (greatest x) (suc (length log)) ec ∙ sym long))
 
--- ---- lists with the same counts are as long as each other
+-- ---- lists with the is_same_tree counts are as long as each other
 
 -- without one such tree
 abbrev drop_one : BindTree → List BindTree → List BindTree
 drop_one x [] = []
-drop_one x (y ∷ ys) = cond (same x y) ys (y ∷ drop_one x ys)
+drop_one x (y ∷ ys) = cond (is_same_tree x y) ys (y ∷ drop_one x ys)
 
-dropped_count : (x : BindTree) (ys : List BindTree) → 0 < count x ys → (z : BindTree) → count z ys ≡ bit (same z x) + count z (drop_one x ys)
+dropped_count : (x : BindTree) (ys : List BindTree) → 0 < count x ys → (z : BindTree) → count z ys ≡ bit (is_same_tree z x) + count z (drop_one x ys)
 dropped_count x [] h z = absurd (omega arith)
-dropped_count x (y ∷ ys) h z = by (same x y) refl (λ k. dropped_count x ys k z) where
-  by : (b : Bool) → same x y ≡ b → (0 < count x ys → count z ys ≡ bit (same z x) + count z (drop_one x ys)) →
-      bit (same z y) + count z ys ≡ bit (same z x) + count z (cond (same x y) ys (y ∷ drop_one x ys))
-  by true e ih = rw e (ap (λ w. bit (same z w) + count z ys) (sym (same_is x y e)))
+dropped_count x (y ∷ ys) h z = by (is_same_tree x y) refl (λ k. dropped_count x ys k z) where
+  by : (b : Bool) → is_same_tree x y ≡ b → (0 < count x ys → count z ys ≡ bit (is_same_tree z x) + count z (drop_one x ys)) →
+      bit (is_same_tree z y) + count z ys ≡ bit (is_same_tree z x) + count z (cond (is_same_tree x y) ys (y ∷ drop_one x ys))
+  by true e ih = rw e (ap (λ w. bit (is_same_tree z w) + count z ys) (sym (same_is x y e)))
   by false e ih =
-      let more : 0 < bit (same x y) + count x ys = h in
+      let more : 0 < bit (is_same_tree x y) + count x ys = h in
       let more' : 0 < bit false + count x ys = rw e at more in
-      let rest : count z ys ≡ bit (same z x) + count z (drop_one x ys) = ih (omega arith) in
+      let rest : count z ys ≡ bit (is_same_tree z x) + count z (drop_one x ys) = ih (omega arith) in
       rw e (omega (arith, rest))
 
 dropped_length : (x : BindTree) (ys : List BindTree) → 0 < count x ys → length ys ≡ suc (length (drop_one x ys))
 dropped_length x [] h = absurd (omega arith)
-dropped_length x (y ∷ ys) h = by (same x y) refl (λ k. dropped_length x ys k) where
-  by : (b : Bool) → same x y ≡ b → (0 < count x ys → length ys ≡ suc (length (drop_one x ys))) → suc (length ys) ≡ suc (length (cond (same x y) ys (y ∷ drop_one x ys)))
+dropped_length x (y ∷ ys) h = by (is_same_tree x y) refl (λ k. dropped_length x ys k) where
+  by : (b : Bool) → is_same_tree x y ≡ b → (0 < count x ys → length ys ≡ suc (length (drop_one x ys))) → suc (length ys) ≡ suc (length (cond (is_same_tree x y) ys (y ∷ drop_one x ys)))
   by true e ih = rw e refl
   by false e ih =
-      let more : 0 < bit (same x y) + count x ys = h in
+      let more : 0 < bit (is_same_tree x y) + count x ys = h in
       let more' : 0 < bit false + count x ys = rw e at more in
       let rest : length ys ≡ suc (length (drop_one x ys)) = ih (omega arith) in
       rw e (ap suc rest)
@@ -126,16 +126,16 @@ dropped_length x (y ∷ ys) h = by (same x y) refl (λ k. dropped_length x ys k)
 pub same_length : (xs ys : List BindTree) → ((x : BindTree) → count x xs ≡ count x ys) → length xs ≡ length ys
 same_length [] [] h = refl
 same_length [] (y ∷ ys) h =
-    let e : 0 ≡ bit (same y y) + count y ys = h y in
+    let e : 0 ≡ bit (is_same_tree y y) + count y ys = h y in
     let e' : 0 ≡ 1 + count y ys = rw (same_self y) at e in
     absurd (omega arith)
 same_length (x ∷ xs) ys h =
-    let e : bit (same x x) + count x xs ≡ count x ys = h x in
+    let e : bit (is_same_tree x x) + count x xs ≡ count x ys = h x in
     let e' : 1 + count x xs ≡ count x ys = rw (same_self x) at e in
     let some : 0 < count x ys = omega arith in
     let rest : length xs ≡ length (drop_one x ys) = same_length xs (drop_one x ys) (λ z.
-    let k : bit (same z x) + count z xs ≡ count z ys = h z in
-    let d : count z ys ≡ bit (same z x) + count z (drop_one x ys) = dropped_count x ys some z in
+    let k : bit (is_same_tree z x) + count z xs ≡ count z ys = h z in
+    let d : count z ys ≡ bit (is_same_tree z x) + count z (drop_one x ys) = dropped_count x ys some z in
     omega arith) in
     ap suc rest ∙ sym (dropped_length x ys some)
 

@@ -9,7 +9,7 @@ use Rattle.match_bindings.specs.Log.{Observed, observed_in}
 use Rattle.match_bindings.specs.Span.{earliest}
 use Rattle.match_bindings.specs.Test.{are_repeats, is_binding}
 use Rattle.match_bindings.specs.Once.{bit, count}
-use Rattle.match_pruning.specs.Stores.{Part, a_side, a_level, Store, stores_of}
+use Rattle.match_pruning.specs.Stores.{StorePart, a_side, a_level, Store, stores_of}
 use Rattle.match_pruning.specs.PartialMatchTree.{PartialMatchTree, trees_in}
 use Rattle.match_stream.specs.RetainedPart.{MayHold, HoldsRetained, AreRetained, time_of, held_count}
 use Rattle.match_stream.specs.Answer.{EndsAtLast, IsAnswer, IsRetainedCount}
@@ -18,11 +18,11 @@ use Rattle.match_stream.proofs.ShapeLemmas.{Rule, to_held}
 use Rattle.match_stream.proofs.AnswerLemmas.{held_counts, same_length, trees_length}
 
 -- what a store may hold, as a test
-abbrev pub may_hold : Observed → Part → BindTree → Bool
+abbrev pub may_hold : Observed → StorePart → BindTree → Bool
 may_hold o (a_side p) x = is_binding o p x
 may_hold o (a_level p j) x = are_repeats (is_binding o p) j x
 
-pub may_rule : Rule → (o : Observed) (part : Part) (x : BindTree) → (may_hold o part x ≡ true) ↔ MayHold o part x
+pub may_rule : Rule → (o : Observed) (part : StorePart) (x : BindTree) → (may_hold o part x ≡ true) ↔ MayHold o part x
 may_rule rule o (a_side p) x = rule o p x
 may_rule rule o (a_level p j) x = rule o (Repeats p j) x
 

@@ -10,11 +10,11 @@ use Rattle.match_bindings.specs.BindTree.{BindTree, One, Pair, First, Second, Em
 use Rattle.match_bindings.specs.Log.{Observed}
 use Rattle.match_bindings.specs.Span.{earliest, latest, later_by}
 use Rattle.match_bindings.specs.Test.{are_repeats, is_binding}
-use Rattle.match_bindings.specs.Once.{same, count}
+use Rattle.match_bindings.specs.Once.{is_same_tree, count}
 use Rattle.match_pruning.specs.declared.window.Window.{Window}
 use Rattle.match_pruning.specs.Stores.{window_of}
 use Rattle.match_pruning.specs.declared.join.Join.TheVariants as join
-use Rattle.match_pruning.specs.PartialMatchTree.{PartialMatchTree, hold}
+use Rattle.match_pruning.specs.PartialMatchTree.{PartialMatchTree, partial_match_of}
 use Rattle.match_pruning.specs.inner.Retains.{retains}
 use Rattle.match_pruning.specs.inner.Steps.{SideStores, State, a_leaf, a_join, a_choice, a_limit, a_chain}
 use Rattle.match_bindings.proofs.OnceLemmas.{same_self}
@@ -28,7 +28,7 @@ pub record Continues (o o' : Observed) (n : ℕ) : Type 0 where
   pub first : (k i : ℕ) → o.holds k i ≡ true → o.first i ≡ o'.first i
   pub last : (k i : ℕ) → o.holds k i ≡ true → o.last i ≡ o'.last i
 
--- a tree has the same times in both
+-- a tree has the is_same_tree times in both
 abbrev pub SameTimes : Observed → Observed → BindTree → Type 0
 SameTimes o o' x = (earliest o.first x ≡ earliest o'.first x) × (latest o.last x ≡ latest o'.last x)
 
@@ -87,7 +87,7 @@ swap_bits true true false = refl
 swap_bits true false true = refl
 swap_bits true false false = refl
 
--- the same of sets
+-- the is_same_tree of sets
 many_lasting : (n : ℕ) (f f' : BindTree → Bool) → ((x : BindTree) → f x ≡ (f' x && not (has n x))) → (j : ℕ) (x : BindTree) → are_repeats f j x ≡ (are_repeats f' j x && not (has n x))
 many_lasting n f f' h zero x = refl
 many_lasting n f f' h (suc zero) (Single a) = h a
@@ -144,12 +144,12 @@ lasting o o' n g p x = refl
 map_same : (f g : BindTree → PartialMatchTree) (xs : List BindTree) → ((x : BindTree) → 0 < count x xs → f x ≡ g x) → map f xs ≡ map g xs
 map_same f g [] h = refl
 map_same f g (x ∷ xs) h =
-    let me : same x x ≡ true = same_self x in
+    let me : is_same_tree x x ≡ true = same_self x in
     let one : f x ≡ g x = h x (rw me (omega arith)) in
     let rest : map f xs ≡ map g xs = map_same f g xs (λ y k. h y (omega (arith, k))) in
     cc
 
-same_hold : (o o' : Observed) (x : BindTree) → SameTimes o o' x → hold o x ≡ hold o' x
+same_hold : (o o' : Observed) (x : BindTree) → SameTimes o o' x → partial_match_of o x ≡ partial_match_of o' x
 same_hold o o' x e = ap (λ z. record { tree = x; earliest = z; latest = latest o.last x }) e.0 ∙ ap (λ z. record { tree = x; earliest = earliest o'.first x; latest = z }) e.1
 
 lasting_store : (o o' : Observed) (n : ℕ) (s : ℤ) (v : Window) (f f' : BindTree → Bool) (held : List PartialMatchTree) →
@@ -158,7 +158,7 @@ lasting_store : (o o' : Observed) (n : ℕ) (s : ℤ) (v : Window) (f f' : BindT
     AreHeld o' (λ x. (f' x && not (has n x)) && retains v (earliest o'.first x) s) held
 lasting_store o o' n s v f f' held times still (xs, is, each) = (
   xs,
-  is ∙ map_same (hold o) (hold o') xs (λ x k.
+  is ∙ map_same (partial_match_of o) (partial_match_of o') xs (λ x k.
       let binding : f x ≡ true = (and_parts _ _ (bit_positive (f x && retains v (earliest o.first x) s) (count x xs) (each x) k)).0 in
       same_hold o o' x (times x binding)),
   exactly_same (λ x. f x && retains v (earliest o.first x) s) (λ x. (f' x && not (has n x)) && retains v (earliest o'.first x) s) xs

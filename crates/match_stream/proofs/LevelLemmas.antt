@@ -6,19 +6,19 @@ use Rattle.match_pruning.specs.declared.partial_match.PartialMatch.{PartialMatch
 use Rattle.match_pruning.specs.PartialMatchTree.{PartialMatchTree}
 use Rattle.match_pruning.specs.inner.PartialMatches.{partial_match_trees}
 use Rattle.match_stream.specs.RetainedPart.{held_count}
-use Rattle.match_pruning.specs.inner.Steps.{kept, stored, joins, levels_new, levels_after, no_levels, levels_above, all_levels, risen, raised, counted}
-use Rattle.match_pruning.specs.inner.Needed.{PendingLeftTrees, needed, chosen}
+use Rattle.match_pruning.specs.inner.Steps.{kept, stored, match_joins, levels_new, levels_after, no_levels, levels_above, all_levels, risen, raised, repeated_sets}
+use Rattle.match_pruning.specs.inner.Needed.{PendingLeftTrees, needed, needed_trees}
 use Rattle.match_stream.specs.inner.Totals.{AdmitLevels}
 
 pub new_append : (w : Window) (t : ℤ) (first new : List PartialMatchTree) (xs ys : List (List PartialMatchTree)) →
     levels_new w t first new (xs ++ ys) ≡ levels_new w t (levels_new w t first new xs) new ys
 new_append w t first new [] ys = refl
-new_append w t first new (x ∷ xs) ys = new_append w t (joins join.Repeats (kept w t x) new) new xs ys
+new_append w t first new (x ∷ xs) ys = new_append w t (match_joins join.Repeats (kept w t x) new) new xs ys
 
 pub after_append : (w : Window) (t : ℤ) (first new : List PartialMatchTree) (xs ys : List (List PartialMatchTree)) →
     levels_after w t first new (xs ++ ys) ≡ levels_after w t first new xs ++ levels_after w t (levels_new w t first new xs) new ys
 after_append w t first new [] ys = refl
-after_append w t first new (x ∷ xs) ys = ap (λ z. stored w t x first ∷ z) (after_append w t (joins join.Repeats (kept w t x) new) new xs ys)
+after_append w t first new (x ∷ xs) ys = ap (λ z. stored w t x first ∷ z) (after_append w t (match_joins join.Repeats (kept w t x) new) new xs ys)
 
 -- nothing is new above a level that holds nothing
 none_new : (w : Window) (t : ℤ) (new : List PartialMatchTree) (k : ℕ) → levels_new w t [] new (no_levels k) ≡ []
@@ -39,7 +39,7 @@ above_after w t first new (suc k) = ap (λ z. kept w t first ∷ z) (none_after 
 
 pub length_after : (w : Window) (t : ℤ) (first new : List PartialMatchTree) (xs : List (List PartialMatchTree)) → length (levels_after w t first new xs) ≡ length xs
 length_after w t first new [] = refl
-length_after w t first new (x ∷ xs) = ap suc (length_after w t (joins join.Repeats (kept w t x) new) new xs)
+length_after w t first new (x ∷ xs) = ap suc (length_after w t (match_joins join.Repeats (kept w t x) new) new xs)
 
 -- one level more
 pub after_more : (w : Window) (t : ℤ) (first new : List PartialMatchTree) (xs : List (List PartialMatchTree)) (x : List PartialMatchTree) (made : List (List PartialMatchTree)) (sets : List PartialMatchTree) →
@@ -50,7 +50,7 @@ after_more w t first new xs x made sets e f =
     ∙ sym (after_append w t first new xs (x ∷ []))
 
 pub new_more : (w : Window) (t : ℤ) (first new : List PartialMatchTree) (xs : List (List PartialMatchTree)) (x : List PartialMatchTree) →
-    joins join.Repeats (kept w t x) new ≡ levels_new w t first new (xs ++ x ∷ [])
+    match_joins join.Repeats (kept w t x) new ≡ levels_new w t first new (xs ++ x ∷ [])
 new_more w t first new xs x = sym (new_append w t first new xs (x ∷ []))
 
 -- the levels that are made, and those above them
@@ -97,15 +97,15 @@ levels_hold w t f n (z ∷ zs) a =
 
 admit_rest : (w : Window) (t : ℤ) (f n : List PartialMatchTree) (ys zs : List (List PartialMatchTree)) → AdmitLevels w t f n (ys ++ zs) → AdmitLevels w t (levels_new w t f n ys) n zs
 admit_rest w t f n [] zs a = a
-admit_rest w t f n (y ∷ ys) zs a = admit_rest w t (joins join.Repeats (kept w t y) n) n ys zs a.1
+admit_rest w t f n (y ∷ ys) zs a = admit_rest w t (match_joins join.Repeats (kept w t y) n) n ys zs a.1
 
 -- at a level that is made there is no budget
 pub made_full : (w : Window) (t : ℤ) (f n : List PartialMatchTree) (ys : List (List PartialMatchTree)) (x : List PartialMatchTree) (rest : List (List PartialMatchTree)) (budget left : ℕ) →
-    left + held_count (levels_after w t f n ys) ≡ budget → left < length (stored w t x (levels_new w t f n ys)) + length (joins join.Repeats (kept w t x) n) →
+    left + held_count (levels_after w t f n ys) ≡ budget → left < length (stored w t x (levels_new w t f n ys)) + length (match_joins join.Repeats (kept w t x) n) →
     AdmitLevels w t f n (ys ++ x ∷ rest) →
     budget < held_count (levels_after w t f n (ys ++ x ∷ rest)) + length (levels_new w t f n (ys ++ x ∷ rest))
 made_full w t f n ys x rest budget left is over a =
-    let g = joins join.Repeats (kept w t x) n in
+    let g = match_joins join.Repeats (kept w t x) n in
     let all = ap held_count (after_append w t f n ys (x ∷ rest)) ∙ held_append (levels_after w t f n ys) (levels_after w t (levels_new w t f n ys) n (x ∷ rest)) in
     let last = ap length (new_append w t f n ys (x ∷ rest)) in
     let hold = levels_hold w t g n rest (admit_rest w t f n ys (x ∷ rest) a).1 in
@@ -126,7 +126,7 @@ none_above : (count : ℕ) (xs : List (List PartialMatchTree)) → length xs + 1
 none_above count xs h = (let none : count - 1 - length xs ≡ 0 = omega arith in ap (λ k. xs ++ no_levels k) none) ∙ append-nil xs
 
 pub last_new : (w : Window) (t : ℤ) (ahead : List PendingLeftTrees) (f n : List PartialMatchTree) (count : ℕ) (ys : List (List PartialMatchTree)) (x : List PartialMatchTree) → length ys + 2 ≡ count →
-    needed t ahead (joins join.Repeats (kept w t x) n) ≡ chosen count t ahead (levels_new w t f n (all_levels count (ys ++ x ∷ [])))
+    needed t ahead (match_joins join.Repeats (kept w t x) n) ≡ needed_trees count t ahead (levels_new w t f n (all_levels count (ys ++ x ∷ [])))
 last_new w t ahead f n zero ys x h = absurd (omega arith)
 last_new w t ahead f n (suc zero) ys x h = absurd (omega arith)
 last_new w t ahead f n (suc (suc k)) ys x h =
@@ -149,10 +149,10 @@ all_made w t f n count ys x made h e =
 
 -- ---- not all are made
 
--- what is chosen of what ascends
+-- what is needed_trees of what ascends
 pub risen_chosen : (w : Window) (t : ℤ) (ahead : List PendingLeftTrees) (f n : List PartialMatchTree) (count : ℕ) (xs : List (List PartialMatchTree)) (sets : List PartialMatchTree) → length xs ≤ count - 1 →
     (2 ≤ count → length xs + 1 < count) → risen (levels_above count xs) sets ≡ levels_new w t f n (all_levels count xs) →
-    counted count (risen (levels_above count xs) sets) ≡ chosen count t ahead (levels_new w t f n (all_levels count xs))
+    repeated_sets count (risen (levels_above count xs) sets) ≡ needed_trees count t ahead (levels_new w t f n (all_levels count xs))
 risen_chosen w t ahead f n zero xs sets few more e = refl
 risen_chosen w t ahead f n (suc zero) xs sets few more e = e
 risen_chosen w t ahead f n (suc (suc k)) xs sets few more e =
@@ -214,7 +214,7 @@ last_full w t f n count ys x budget h over a =
 
 pub admit_part : (w : Window) (t : ℤ) (f n : List PartialMatchTree) (ys zs : List (List PartialMatchTree)) → AdmitLevels w t f n (ys ++ zs) → AdmitLevels w t f n ys
 admit_part w t f n [] zs a = tt
-admit_part w t f n (y ∷ ys) zs a = (a.0, admit_part w t (joins join.Repeats (kept w t y) n) n ys zs a.1)
+admit_part w t f n (y ∷ ys) zs a = (a.0, admit_part w t (match_joins join.Repeats (kept w t y) n) n ys zs a.1)
 
 -- ---- what ascends
 

@@ -9,7 +9,7 @@ use Rattle.match_bindings.specs.NumberedPattern.{NumberedPattern}
 use Rattle.match_bindings.specs.BindTree.{BindTree, has, greatest}
 use Rattle.match_bindings.specs.Log.{Observed, observed_in}
 use Rattle.match_bindings.specs.Test.{is_binding}
-use Rattle.match_bindings.specs.Once.{bit, same, count, Exactly}
+use Rattle.match_bindings.specs.Once.{bit, is_same_tree, count, Exactly}
 use Rattle.match_bindings.specs.Flat.{comes_before, Ascends}
 use Rattle.match_bindings.specs.Listing.{IsListing}
 use Rattle.match_stream.specs.Answer.{IsAnswer, AnswersAfter, AreAnswers, joined_answers}
@@ -37,7 +37,7 @@ pub ascends_append : (xs ys : List BindTree) → Ascends xs → Ascends ys → (
 ascends_append [] ys hx hy h = hy
 ascends_append (x ∷ []) [] hx hy h = tt
 ascends_append (x ∷ []) (y ∷ ys) hx hy h =
-    let me : same x x ≡ true = same_self x in let you : same y y ≡ true = same_self y in
+    let me : is_same_tree x x ≡ true = same_self x in let you : is_same_tree y y ≡ true = same_self y in
     (h x y (rw me (omega arith)) (rw you (omega arith)), hy)
 ascends_append (x ∷ z ∷ xs) ys hx hy h = (hx.0, ascends_append (z ∷ xs) ys hx.1 hy (λ a b ka kb. h a b (omega (arith, ka)) kb))
 

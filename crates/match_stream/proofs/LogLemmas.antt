@@ -7,7 +7,7 @@ use Rattle.match_bindings.specs.declared.bounds.Bounds.{Bounds}
 use Rattle.match_bindings.specs.Bounds.{no_bounds, within, between}
 use Rattle.match_bindings.specs.NumberedPattern.{NumberedPattern, Leaf, Both, Then, Either, Within, Between, Repeats}
 use Rattle.match_bindings.specs.BindTree.{BindTree, One, Pair, First, Second}
-use Rattle.match_bindings.specs.Log.{LastIsBy, IsInOrder, numbered, first_time, last_time, truth, observed_in}
+use Rattle.match_bindings.specs.Log.{LastIsBy, IsInOrder, numbered_row, first_time, last_time, truth, observed_in}
 use Rattle.match_bindings.specs.Span.{earliest}
 use Rattle.match_bindings.specs.Test.{are_repeats, is_binding}
 use Rattle.match_bindings.proofs.IsBindingLemmas.{le_true}
@@ -15,7 +15,7 @@ use Rattle.match_pruning.specs.declared.window.Window.{Window}
 use Rattle.match_pruning.specs.Stores.{window_of}
 use Rattle.match_pruning.specs.declared.row.Row.{Row}
 use Rattle.match_stream.specs.RetainedPart.{time_of}
-use Rattle.match_stream.specs.MatcherState.{last_of, Falls}
+use Rattle.match_stream.specs.MatcherState.{log_end, Falls}
 use Rattle.match_pruning.specs.inner.Retains.{retains}
 use Rattle.match_pruning.specs.inner.Steps.{State, step_new, step_state, no_levels, empty_sides, empty_state}
 use Rattle.match_pruning.proofs.RetainsLemmas.{le_false, le_trans, le_self}
@@ -108,7 +108,7 @@ time_by r [] t by = by
 time_by r (q ∷ log) t by = time_by q log t by
 
 -- what doesn't fall
-pub not_falls : (log : List LogEntry) (t : ℤ) → (Falls (last_of log) t → ⊥) → LastIsBy log t
+pub not_falls : (log : List LogEntry) (t : ℤ) → (Falls (log_end log) t → ⊥) → LastIsBy log t
 not_falls [] t h = tt
 not_falls (r ∷ []) t h = by (int_le r.last t) refl where
   by : (b : Bool) → int_le r.last t ≡ b → r.last ≤ℤ t
@@ -117,9 +117,9 @@ not_falls (r ∷ []) t h = by (int_le r.last t) refl where
 not_falls (r ∷ q ∷ log) t h = not_falls (q ∷ log) t h
 
 pub time_new : (log : List LogEntry) (r : LogEntry) → time_of (log ++ r ∷ []) ≡ r.last
-time_new log r = ap (λ n. last_time (numbered (log ++ r ∷ []) n)) (length_more log r) ∙ ap last_time (get_seam log r)
+time_new log r = ap (λ n. last_time (numbered_row (log ++ r ∷ []) n)) (length_more log r) ∙ ap last_time (get_seam log r)
 
-pub last_of_more : (log : List LogEntry) (r : LogEntry) → last_of (log ++ r ∷ []) ≡ Some r.last
+pub last_of_more : (log : List LogEntry) (r : LogEntry) → log_end (log ++ r ∷ []) ≡ Some r.last
 last_of_more [] r = refl
 last_of_more (x ∷ []) r = refl
 last_of_more (x ∷ y ∷ log) r = last_of_more (y ∷ log) r

@@ -14,10 +14,10 @@ use Rattle.match_bindings.proofs.OnceLemmas.{count_filter}
 use Rattle.match_stream.specs.declared.run.Run.{Run}
 use Rattle.match_pruning.specs.PartialMatchTree.{trees_in}
 use Rattle.match_stream.specs.RetainedPart.{held_count}
-use Rattle.match_stream.specs.MatcherState.{with_row}
+use Rattle.match_stream.specs.MatcherState.{with_log_row}
 use Rattle.match_stream.specs.Answer.{EndsAtLast, IsAnswer, IsRetainedCount}
 use Rattle.match_pruning.specs.inner.Steps.{step_new, step_state, contents_of}
-use Rattle.match_stream.specs.inner.Nodes.{state_of}
+use Rattle.match_stream.specs.inner.Nodes.{node_state}
 use Rattle.match_stream.specs.inner.Runs.{next_row, retained_after}
 use Rattle.match_stream.proofs.StepLemmas.{ends}
 use Rattle.match_stream.proofs.LogLemmas.{holds_inside, length_more}
@@ -53,17 +53,17 @@ answer_is rule test ordered p log xs listing = record {
   by x h false false eb ec = rw (eb, ec) refl
 
 pub count_over : Rule → ByTest → Ordered → Listed → (run : Run) (p : NumberedPattern) (log : List LogEntry) (first last : ℤ) (truths : List Bool) →
-    Goes p (state_of run.node) run.rows log last →
-    IsRetainedCount p (with_row log first last truths) (retained_after run (next_row run.rows first last) truths)
+    Goes p (node_state run.node) run.rows log last →
+    IsRetainedCount p (with_log_row log first last truths) (retained_after run (next_row run.rows first last) truths)
 count_over rule test ordered listed run p log first last truths g =
-    let longer = with_row log first last truths in
-    let new = step_new (next_row run.rows first last) truths (state_of run.node) in
-    let contents = contents_of (step_state (next_row run.rows first last) truths (state_of run.node)) in
+    let longer = with_log_row log first last truths in
+    let new = step_new (next_row run.rows first last) truths (node_state run.node) in
+    let contents = contents_of (step_state (next_row run.rows first last) truths (node_state run.node)) in
     let listing = listed longer p in
     let xs = last_of_it longer listing.0 in
     let answer = answer_is rule test ordered p longer listing.0 listing.1 in
     let long = length_more log (entry first last truths) in
-    let held = (both_laws rule p (state_of run.node) run.rows log first last truths g).0 in
+    let held = (both_laws rule p (node_state run.node) run.rows log first last truths g).0 in
     let inside : (k i : ℕ) → (observed_in longer).holds k i ≡ true → i ≤ suc (length log) = λ k i h. (let within_log = holds_inside longer k i h in let most : i ≤ suc (length log) = omega (arith, within_log, long) in most) in
     let many : length xs ≡ length new = same_length xs (trees_in new) (λ x.
     answer_counts rule p longer xs answer x
@@ -74,7 +74,7 @@ count_over rule test ordered listed run p log first last truths g =
     record {
       contents = contents;
       answer = xs;
-      retained = retained_then rule p (state_of run.node) run.rows log first last truths g;
+      retained = retained_then rule p (node_state run.node) run.rows log first last truths g;
       ending = answer;
       sum = (let e : length new + held_count contents ≡ held_count contents + length xs = omega (arith, many) in e);
     }

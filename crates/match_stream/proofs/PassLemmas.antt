@@ -5,7 +5,7 @@ use Rattle.std.proofs.lemmas.List.{length-map}
 use Rattle.match_bindings.specs.declared.log_entry.LogEntry.{LogEntry}
 use Rattle.match_bindings.specs.declared.bounds.Bounds.{Bounds}
 use Rattle.match_bindings.specs.Bounds.{no_bounds, within, between}
-use Rattle.match_stream.specs.inner.Shape.{fits}
+use Rattle.match_stream.specs.inner.Shape.{state_fits}
 use Rattle.match_bindings.specs.NumberedPattern.{NumberedPattern, Leaf, Both, Then, Either, Within, Between, Repeats}
 use Rattle.match_bindings.specs.BindTree.{First, Second, Single}
 use Rattle.match_bindings.specs.Log.{LastIsBy, IsInOrder, observed_in}
@@ -17,11 +17,11 @@ use Rattle.match_pruning.specs.declared.join.Join.TheVariants as join
 use Rattle.match_pruning.specs.declared.row.Row.{Row}
 use Rattle.match_pruning.specs.PartialMatchTree.{PartialMatchTree}
 use Rattle.match_stream.specs.RetainedPart.{time_of}
-use Rattle.match_stream.specs.MatcherState.{last_of}
+use Rattle.match_stream.specs.MatcherState.{log_end}
 use Rattle.match_stream.specs.Answer.{AnswersAfter}
 use Rattle.match_stream.specs.Passing.{AreNonmatching, no_answers}
 use Rattle.match_pruning.specs.inner.Retains.{retains}
-use Rattle.match_pruning.specs.inner.Steps.{held_with, joins, kept, SideStores, State, a_leaf, a_join, a_choice, a_limit, a_chain, truth_at, sides_kept, sides_after, joins_new, levels_new, levels_after, no_levels, counted, step_new, step_state, expired}
+use Rattle.match_pruning.specs.inner.Steps.{held_with, match_joins, kept, SideStores, State, a_leaf, a_join, a_choice, a_limit, a_chain, truth_at, sides_kept, sides_after, joins_new, levels_new, levels_after, no_levels, repeated_sets, step_new, step_state, expired}
 use Rattle.match_stream.proofs.AliveLemmas.{retains_before}
 use Rattle.match_stream.proofs.StepLemmas.{Stands, all_of}
 use Rattle.match_pruning.proofs.RetainsLemmas.{le_trans, le_self}
@@ -31,7 +31,7 @@ use Rattle.match_stream.proofs.AnswerLemmas.{Ascend, answer_law}
 
 -- ---- nothing is new
 
-no_joins : (j : Join) (xs : List PartialMatchTree) → joins j xs [] ≡ []
+no_joins : (j : Join) (xs : List PartialMatchTree) → match_joins j xs [] ≡ []
 no_joins j [] = refl
 no_joins j (x ∷ xs) = no_joins j xs
 
@@ -39,7 +39,7 @@ none_above : (w : Window) (t : ℤ) (levels : List (List PartialMatchTree)) → 
 none_above w t [] = refl
 none_above w t (held ∷ levels) = ap (λ z. levels_new w t z [] levels) (no_joins join.Repeats (kept w t held)) ∙ none_above w t levels
 
-none_counted : (n : ℕ) → counted n [] ≡ []
+none_counted : (n : ℕ) → repeated_sets n [] ≡ []
 none_counted zero = refl
 none_counted (suc n) = refl
 
@@ -54,14 +54,14 @@ nonmatching_new row truths h (a_choice l r) =
     ∙ ap (λ y. map (held_with Second) y) (nonmatching_new row truths h r)
 nonmatching_new row truths h (a_limit part) = nonmatching_new row truths h part
 nonmatching_new row truths h (a_chain part count w levels) =
-    ap (λ y. counted count (levels_new w row.last (map (held_with Single) y) y levels)) (nonmatching_new row truths h part)
-    ∙ ap (counted count) (none_above w row.last levels) ∙ none_counted count
+    ap (λ y. repeated_sets count (levels_new w row.last (map (held_with Single) y) y levels)) (nonmatching_new row truths h part)
+    ∙ ap (repeated_sets count) (none_above w row.last levels) ∙ none_counted count
 
 -- and what is kept hasn't expired
 levels_nonmatching : (w : Window) (t : ℤ) (levels : List (List PartialMatchTree)) → levels_after w t [] [] levels ≡ map (kept w t) levels
 levels_nonmatching w t [] = refl
 levels_nonmatching w t (held ∷ levels) =
-    ap (λ y. y ∷ levels_after w t (joins join.Repeats (kept w t held) []) [] levels) (append-nil (kept w t held))
+    ap (λ y. y ∷ levels_after w t (match_joins join.Repeats (kept w t held) []) [] levels) (append-nil (kept w t held))
     ∙ ap (λ y. kept w t held ∷ levels_after w t y [] levels) (no_joins join.Repeats (kept w t held))
     ∙ ap (λ y. kept w t held ∷ y) (levels_nonmatching w t levels)
 
@@ -130,7 +130,7 @@ first_in_order (x ∷ []) r rest h = (h.0, h.1)
 first_in_order (x ∷ y ∷ log) r rest h = let more = first_in_order (y ∷ log) r rest h.2 in ((h.0, h.1, more.0), more.1)
 
 -- the last row is the latest
-all_by_last : (r : LogEntry) (rest : List LogEntry) (last : ℤ) → IsInOrder (r ∷ rest) → last_of (r ∷ rest) ≡ Some last → r.last ≤ℤ last
+all_by_last : (r : LogEntry) (rest : List LogEntry) (last : ℤ) → IsInOrder (r ∷ rest) → log_end (r ∷ rest) ≡ Some last → r.last ≤ℤ last
 all_by_last r [] last h e = let same : r.last ≡ last = cc in subst (λ (t : ℤ). r.last ≤ℤ t) same (le_self r.last)
 all_by_last r (q ∷ rest) last h e = le_trans r.last q.last last h.1 (all_by_last q rest last h.2 e)
 
@@ -143,7 +143,7 @@ nothing_sorted : IsSortedBy comes_before []
 nothing_sorted k d low high = absurd (omega (arith, high))
 
 pub pass_law : Rule → Ascend → (p : NumberedPattern) (log : List LogEntry) (r : LogEntry) (rest : List LogEntry) (last : ℤ) (z : State) →
-    AreNonmatching (r ∷ rest) → IsInOrder (log ++ r ∷ rest) → last_of (r ∷ rest) ≡ Some last →
+    AreNonmatching (r ∷ rest) → IsInOrder (log ++ r ∷ rest) → log_end (r ∷ rest) ≡ Some last →
     Stands (observed_in log) (all_of (observed_in log)) (time_of log) no_bounds p z →
     Stands (observed_in (log ++ r ∷ rest)) (all_of (observed_in (log ++ r ∷ rest))) (time_of (log ++ r ∷ rest)) no_bounds p (expired last z)
     × AnswersAfter p log (r ∷ rest) (no_answers (r ∷ rest))
@@ -176,7 +176,7 @@ pass_law rule sift_up p log r (q ∷ rest) last z nonmatching order e st =
 
 -- ---- what is kept is made for the same pattern
 
-pub fits_expired : (t : ℤ) (p : NumberedPattern) (w : Bounds) (z : State) → fits w p (expired t z) ≡ fits w p z
+pub fits_expired : (t : ℤ) (p : NumberedPattern) (w : Bounds) (z : State) → state_fits w p (expired t z) ≡ state_fits w p z
 fits_expired t (Leaf k) w (a_leaf leaf window) = refl
 fits_expired t (Both p q) w (a_join join.Both l r sides) =
     let left = fits_expired t p w l in let right = fits_expired t q w r in rw (left, right) refl
@@ -189,7 +189,7 @@ fits_expired t (Repeats p n) w (a_chain part count window levels) =
     let one = fits_expired t p w part in let many = length-map levels (kept window t) in rw (one, many) refl
 fits_expired t p w z = refl
 
-pub last_of_append : (log nonmatching : List LogEntry) (last : ℤ) → last_of nonmatching ≡ Some last → last_of (log ++ nonmatching) ≡ Some last
+pub last_of_append : (log nonmatching : List LogEntry) (last : ℤ) → log_end nonmatching ≡ Some last → log_end (log ++ nonmatching) ≡ Some last
 last_of_append [] nonmatching last h = h
 last_of_append (x ∷ []) [] last h = absurd (cc)
 last_of_append (x ∷ []) (q ∷ nonmatching) last h = h

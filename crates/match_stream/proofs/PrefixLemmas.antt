@@ -7,7 +7,7 @@ use Rattle.match_bindings.specs.NumberedPattern.{NumberedPattern}
 use Rattle.match_bindings.specs.BindTree.{BindTree, has, greatest}
 use Rattle.match_bindings.specs.Log.{Observed, observed_in}
 use Rattle.match_bindings.specs.Test.{is_binding}
-use Rattle.match_bindings.specs.Once.{bit, same, count, Exactly}
+use Rattle.match_bindings.specs.Once.{bit, is_same_tree, count, Exactly}
 use Rattle.match_bindings.specs.Flat.{comes_before, Ascends}
 use Rattle.match_bindings.specs.Listing.{IsListing}
 use Rattle.match_bindings.proofs.OnceLemmas.{same_self, count_append, count_filter}
@@ -37,7 +37,7 @@ above m n e = by (cases_order m n) where
   no h = let yes_it_is : nat_le m n ≡ true = le-leb m n h in let both : true ≡ false = sym yes_it_is ∙ e in cc
 
   by : (m ≡ n) ⊎ ((m < n) ⊎ (n < m)) → n < m
-  by (inl same) = absurd (no (omega arith))
+  by (inl is_same_tree) = absurd (no (omega arith))
   by (inr (inl less)) = absurd (no (omega arith))
   by (inr (inr more)) = more
 
@@ -76,7 +76,7 @@ lasting_long (r ∷ more) log p x =
 
 ascends_cons : (x : BindTree) (zs : List BindTree) → Ascends zs → ((y : BindTree) → 0 < count y zs → comes_before x y ≡ true) → Ascends (x ∷ zs)
 ascends_cons x [] ascends h = tt
-ascends_cons x (z ∷ zs) ascends h = let me : same z z ≡ true = same_self z in (h z (rw me (omega arith)), ascends)
+ascends_cons x (z ∷ zs) ascends h = let me : is_same_tree z z ≡ true = same_self z in (h z (rw me (omega arith)), ascends)
 
 some_left : (b n m : ℕ) → n ≡ b * m → 0 < n → 0 < m
 some_left b n zero e h = absurd (omega (arith, e, h))

@@ -14,14 +14,14 @@ use Rattle.match_bindings.specs.Test.{are_repeats, is_binding}
 use Rattle.match_bindings.specs.Once.{bit, count}
 use Rattle.match_bindings.proofs.IsBindingLemmas.{le_true, true_le}
 use Rattle.match_pruning.specs.declared.window.Window.{Window}
-use Rattle.match_pruning.specs.Stores.{Part, a_side, Store, window_of, side, level, levels, stores_under}
+use Rattle.match_pruning.specs.Stores.{StorePart, a_side, Store, window_of, side, store_level, levels, stores_under}
 use Rattle.match_pruning.specs.declared.row.Row.{Row}
 use Rattle.match_pruning.specs.declared.join.Join.TheVariants as join
-use Rattle.match_pruning.specs.PartialMatchTree.{PartialMatchTree, hold, trees_in}
+use Rattle.match_pruning.specs.PartialMatchTree.{PartialMatchTree, partial_match_of, trees_in}
 use Rattle.match_stream.specs.RetainedPart.{MayHold, IsRetained, HoldsRetained, AreRetained}
 use Rattle.match_pruning.specs.inner.Retains.{retains}
 use Rattle.match_pruning.specs.inner.Steps.{held_with, SideStores, State, a_leaf, a_join, a_choice, a_limit, a_chain, step_new, step_state, levels_after, no_levels, empty_state, contents_of}
-use Rattle.match_stream.specs.inner.Shape.{same_bool, same_count, same_time, same_window, have_windows, fits}
+use Rattle.match_stream.specs.inner.Shape.{same_bool, same_count, same_time, same_window, have_windows, state_fits}
 use Rattle.match_pruning.proofs.RetainsLemmas.{gone_expired, expired_gone, le_both, le_self}
 use Rattle.match_stream.proofs.LevelLemmas.{length_after}
 use Rattle.match_stream.proofs.StoreLemmas.{AreHeld}
@@ -33,7 +33,7 @@ use Rattle.match_stream.proofs.StepLemmas.{SidesStand, LevelsStand, AllLevelsSta
 abbrev pub Rule : Type 0
 Rule = (o : Observed) (p : NumberedPattern) (x : BindTree) → (is_binding o p x ≡ true) ↔ IsBinding o p x
 
-pub trees_held : (o : Observed) (xs : List BindTree) → trees_in (map (hold o) xs) ≡ xs
+pub trees_held : (o : Observed) (xs : List BindTree) → trees_in (map (partial_match_of o) xs) ≡ xs
 trees_held o [] = refl
 trees_held o (x ∷ xs) = ap (λ ys. x ∷ ys) (trees_held o xs)
 
@@ -69,7 +69,7 @@ to_held o now store f h held retained = (trees_in held, retained.times, each) wh
 pub from_held : (o : Observed) (now : ℤ) (store : Store) (f : BindTree → Bool) → ((x : BindTree) → (f x ≡ true) ↔ MayHold o store.part x) → (held : List PartialMatchTree) →
     AreHeld o (λ x. f x && retains store.window (earliest o.first x) now) held → HoldsRetained o now store held
 from_held o now store f h held (xs, is, each) = record {
-  times = is ∙ sym (ap (map (hold o)) same);
+  times = is ∙ sym (ap (map (partial_match_of o)) same);
   each_once = λ x k. ap (count x) same ∙ each x ∙ ap bit (yes_it_is x k (f x && retains store.window (earliest o.first x) now) refl);
   no_other = λ x k. ap (count x) same ∙ each x ∙ ap bit (no_it_isnt x k (f x && retains store.window (earliest o.first x) now) refl);
 } where
@@ -148,19 +148,19 @@ window_self a = and_from _ _ (and_from _ _ (count_self a.seconds) (time_self a.s
 -- so many levels, from j on
 abbrev levels_from : ℕ → ℕ → Bounds → NumberedPattern → List Store
 levels_from j zero w p = []
-levels_from j (suc k) w p = level w p j ∷ levels_from (suc j) k w p
+levels_from j (suc k) w p = store_level w p j ∷ levels_from (suc j) k w p
 
-levels_from_more : (j k : ℕ) (w : Bounds) (p : NumberedPattern) → levels_from j (suc k) w p ≡ levels_from j k w p ++ level w p (j + k) ∷ []
-levels_from_more j zero w p = ap (λ n. level w p n ∷ []) (let e : j ≡ j + 0 = omega arith in e)
+levels_from_more : (j k : ℕ) (w : Bounds) (p : NumberedPattern) → levels_from j (suc k) w p ≡ levels_from j k w p ++ store_level w p (j + k) ∷ []
+levels_from_more j zero w p = ap (λ n. store_level w p n ∷ []) (let e : j ≡ j + 0 = omega arith in e)
 levels_from_more j (suc k) w p =
-    ap (λ z. level w p j ∷ z) (levels_from_more (suc j) k w p)
-    ∙ ap (λ n. level w p j ∷ (levels_from (suc j) k w p ++ level w p n ∷ [])) (let e : suc j + k ≡ j + suc k = omega arith in e)
+    ap (λ z. store_level w p j ∷ z) (levels_from_more (suc j) k w p)
+    ∙ ap (λ n. store_level w p j ∷ (levels_from (suc j) k w p ++ store_level w p n ∷ [])) (let e : suc j + k ≡ j + suc k = omega arith in e)
 
 levels_are : (n : ℕ) (w : Bounds) (p : NumberedPattern) → levels w p (suc n) ≡ levels_from 1 n w p
 levels_are zero w p = refl
 levels_are (suc n) w p =
-    ap (λ z. z ++ level w p (suc n) ∷ []) (levels_are n w p)
-    ∙ ap (λ m. levels_from 1 n w p ++ level w p m ∷ []) (let e : suc n ≡ 1 + n = omega arith in e)
+    ap (λ z. z ++ store_level w p (suc n) ∷ []) (levels_are n w p)
+    ∙ ap (λ m. levels_from 1 n w p ++ store_level w p m ∷ []) (let e : suc n ≡ 1 + n = omega arith in e)
     ∙ sym (levels_from_more 1 n w p)
 
 to_levels : Rule → (o : Observed) (s : ℤ) (w : Bounds) (p : NumberedPattern) (n k j : ℕ) (held : List (List PartialMatchTree)) → n ≡ k + j →
@@ -169,7 +169,7 @@ to_levels rule o s w p n zero j [] e h = omega arith
 to_levels rule o s w p n zero j (u ∷ us) e h = absurd h
 to_levels rule o s w p n (suc k) j [] e h = absurd h
 to_levels rule o s w p n (suc k) j (u ∷ us) e h =
-    (to_held o s (level w p j) (are_repeats (is_binding o p) j) (λ x. rule o (Repeats p j) x) u h.0, to_levels rule o s w p n k (suc j) us (omega arith) h.1)
+    (to_held o s (store_level w p j) (are_repeats (is_binding o p) j) (λ x. rule o (Repeats p j) x) u h.0, to_levels rule o s w p n k (suc j) us (omega arith) h.1)
 
 levels_length : (o : Observed) (f : ℕ → BindTree → Bool) (s : ℤ) (w : Bounds) (n j : ℕ) (held : List (List PartialMatchTree)) → LevelsStand o f s w n j held → n ≡ length held + j
 levels_length o f s w n j [] st = omega (arith, st)
@@ -181,7 +181,7 @@ from_levels rule o s w p n zero j [] e st = tt
 from_levels rule o s w p n (suc k) j [] e st = absurd (omega (arith, st))
 from_levels rule o s w p n zero j (u ∷ us) e st = absurd (omega (arith, levels_length o (are_repeats (is_binding o p)) s w n (suc j) us st.1))
 from_levels rule o s w p n (suc k) j (u ∷ us) e st =
-    (from_held o s (level w p j) (are_repeats (is_binding o p) j) (λ x. rule o (Repeats p j) x) u st.0, from_levels rule o s w p n k (suc j) us (omega arith) st.1)
+    (from_held o s (store_level w p j) (are_repeats (is_binding o p) j) (λ x. rule o (Repeats p j) x) u st.0, from_levels rule o s w p n k (suc j) us (omega arith) st.1)
 
 to_all_levels : Rule → (o : Observed) (s : ℤ) (w : Bounds) (p : NumberedPattern) (n : ℕ) (held : List (List PartialMatchTree)) →
     AreRetained o s (levels w p n) held → AllLevelsStand o (are_repeats (is_binding o p)) s w n held
@@ -208,24 +208,24 @@ levels_count w p (suc n) = omega (arith, ap length (levels_are n w p), from_leng
 -- ---- patterns
 
 -- a pattern has as many stores as what is made for it
-stores_length : (p : NumberedPattern) (w : Bounds) (z : State) → fits w p z ≡ true → length (stores_under w p) ≡ length (contents_of z)
+stores_length : (p : NumberedPattern) (w : Bounds) (z : State) → state_fits w p z ≡ true → length (stores_under w p) ≡ length (contents_of z)
 stores_length (Leaf k) w (a_leaf leaf window) h = refl
 stores_length (Both p q) w (a_join join.Both l r sides) h =
-    let parts = and_parts (fits w p l && fits w q r) (have_windows sides (window_of w false) (window_of w false)) h in
-    let both = and_parts (fits w p l) (fits w q r) parts.0 in
+    let parts = and_parts (state_fits w p l && state_fits w q r) (have_windows sides (window_of w false) (window_of w false)) h in
+    let both = and_parts (state_fits w p l) (state_fits w q r) parts.0 in
     omega (arith, length-append (stores_under w p) (stores_under w q), length-append (contents_of l) (contents_of r), stores_length p w l both.0, stores_length q w r both.1)
 stores_length (Then p q) w (a_join join.Then l r sides) h =
-    let parts = and_parts (fits w p l && fits w q r) (have_windows sides (window_of w false) (window_of w true)) h in
-    let both = and_parts (fits w p l) (fits w q r) parts.0 in
+    let parts = and_parts (state_fits w p l && state_fits w q r) (have_windows sides (window_of w false) (window_of w true)) h in
+    let both = and_parts (state_fits w p l) (state_fits w q r) parts.0 in
     omega (arith, length-append (stores_under w p) (stores_under w q), length-append (contents_of l) (contents_of r), stores_length p w l both.0, stores_length q w r both.1)
 stores_length (Either p q) w (a_choice l r) h =
-    let both = and_parts (fits w p l) (fits w q r) h in
+    let both = and_parts (state_fits w p l) (state_fits w q r) h in
     omega (arith, length-append (stores_under w p) (stores_under w q), length-append (contents_of l) (contents_of r), stores_length p w l both.0, stores_length q w r both.1)
 stores_length (Within p x) w (a_limit part) h = stores_length p (within w x) part h
 stores_length (Between p x y) w (a_limit part) h = stores_length p (between w x y) part h
 stores_length (Repeats p n) w (a_chain part count window held) h =
-    let parts = and_parts (fits w p part && same_window window (window_of w false)) (nat_eq count n && nat_eq (length held) (n - 1)) h in
-    let two = and_parts (fits w p part) (same_window window (window_of w false)) parts.0 in
+    let parts = and_parts (state_fits w p part && same_window window (window_of w false)) (nat_eq count n && nat_eq (length held) (n - 1)) h in
+    let two = and_parts (state_fits w p part) (same_window window (window_of w false)) parts.0 in
     let last = and_parts (nat_eq count n) (nat_eq (length held) (n - 1)) parts.1 in
     let many : length held ≡ n - 1 = eqb-true (length held) (n - 1) last.1 in
     omega (arith, length-append (levels w p n) (stores_under w p), length-append held (contents_of part), stores_length p w part two.0, levels_count w p n, many)
@@ -240,38 +240,38 @@ sides_from rule o s p q w v right part window sides h left_retained right_retain
       right_window = same_window_is sides.right_window v parts.1;
       left = to_held o s (side w false p) (is_binding o p) (λ x. rule o p x) sides.left left_retained;
       right = subst (λ (u : Window). AreHeld o (λ x. is_binding o q x && retains u (earliest o.first x) s) sides.right) window
-          (to_held o s right (is_binding o q) (λ x. subst (λ (u : Part). (is_binding o q x ≡ true) ↔ MayHold o u x) (sym part) (rule o q x)) sides.right right_retained);
+          (to_held o s right (is_binding o q) (λ x. subst (λ (u : StorePart). (is_binding o q x ≡ true) ↔ MayHold o u x) (sym part) (rule o q x)) sides.right right_retained);
     }
 
-pub stands_from : Rule → (o : Observed) (s : ℤ) (p : NumberedPattern) (w : Bounds) (z : State) → fits w p z ≡ true → AreRetained o s (stores_under w p) (contents_of z) →
+pub stands_from : Rule → (o : Observed) (s : ℤ) (p : NumberedPattern) (w : Bounds) (z : State) → state_fits w p z ≡ true → AreRetained o s (stores_under w p) (contents_of z) →
     Stands o (all_of o) s w p z
 stands_from rule o s (Leaf k) w (a_leaf leaf window) h retained =
     let parts = and_parts (nat_eq leaf k) (same_window window (window_of w false)) h in (eqb-true leaf k parts.0, same_window_is window (window_of w false) parts.1)
 stands_from rule o s (Both p q) w (a_join join.Both l r sides) h retained =
-    let parts = and_parts (fits w p l && fits w q r) (have_windows sides (window_of w false) (window_of w false)) h in
-    let both = and_parts (fits w p l) (fits w q r) parts.0 in
+    let parts = and_parts (state_fits w p l && state_fits w q r) (have_windows sides (window_of w false) (window_of w false)) h in
+    let both = and_parts (state_fits w p l) (state_fits w q r) parts.0 in
     let rest = retained_split o s (stores_under w p) (stores_under w q) (contents_of l) (contents_of r) (stores_length p w l both.0) retained.1.1 in (
       stands_from rule o s p w l both.0 rest.0,
       stands_from rule o s q w r both.1 rest.1,
       sides_from rule o s p q w (window_of w false) (side w false q) refl refl sides parts.1 retained.0 retained.1.0,
     )
 stands_from rule o s (Then p q) w (a_join join.Then l r sides) h retained =
-    let parts = and_parts (fits w p l && fits w q r) (have_windows sides (window_of w false) (window_of w true)) h in
-    let both = and_parts (fits w p l) (fits w q r) parts.0 in
+    let parts = and_parts (state_fits w p l && state_fits w q r) (have_windows sides (window_of w false) (window_of w true)) h in
+    let both = and_parts (state_fits w p l) (state_fits w q r) parts.0 in
     let rest = retained_split o s (stores_under w p) (stores_under w q) (contents_of l) (contents_of r) (stores_length p w l both.0) retained.1.1 in (
       stands_from rule o s p w l both.0 rest.0,
       stands_from rule o s q w r both.1 rest.1,
       sides_from rule o s p q w (window_of w true) (side w true q) refl refl sides parts.1 retained.0 retained.1.0,
     )
 stands_from rule o s (Either p q) w (a_choice l r) h retained =
-    let both = and_parts (fits w p l) (fits w q r) h in
+    let both = and_parts (state_fits w p l) (state_fits w q r) h in
     let rest = retained_split o s (stores_under w p) (stores_under w q) (contents_of l) (contents_of r) (stores_length p w l both.0) retained in
     (stands_from rule o s p w l both.0 rest.0, stands_from rule o s q w r both.1 rest.1)
 stands_from rule o s (Within p x) w (a_limit part) h retained = stands_from rule o s p (within w x) part h retained
 stands_from rule o s (Between p x y) w (a_limit part) h retained = stands_from rule o s p (between w x y) part h retained
 stands_from rule o s (Repeats p n) w (a_chain part count window held) h retained =
-    let parts = and_parts (fits w p part && same_window window (window_of w false)) (nat_eq count n && nat_eq (length held) (n - 1)) h in
-    let two = and_parts (fits w p part) (same_window window (window_of w false)) parts.0 in
+    let parts = and_parts (state_fits w p part && same_window window (window_of w false)) (nat_eq count n && nat_eq (length held) (n - 1)) h in
+    let two = and_parts (state_fits w p part) (same_window window (window_of w false)) parts.0 in
     let last = and_parts (nat_eq count n) (nat_eq (length held) (n - 1)) parts.1 in
     let many : length held ≡ n - 1 = eqb-true (length held) (n - 1) last.1 in
     let rest = retained_split o s (levels w p n) (stores_under w p) held (contents_of part) (levels_count w p n ∙ sym many) retained in (
@@ -310,28 +310,28 @@ retained_from rule o s p w z st = absurd st
 both_same : (a b c d : Bool) → a ≡ c → b ≡ d → (a && b) ≡ (c && d)
 both_same a b c d e f = cc
 
-pub fits_step : (row : Row) (truths : List Bool) (p : NumberedPattern) (w : Bounds) (z : State) → fits w p (step_state row truths z) ≡ fits w p z
+pub fits_step : (row : Row) (truths : List Bool) (p : NumberedPattern) (w : Bounds) (z : State) → state_fits w p (step_state row truths z) ≡ state_fits w p z
 fits_step row truths (Leaf k) w (a_leaf leaf window) = refl
 fits_step row truths (Both p q) w (a_join join.Both l r sides) =
     ap (λ b. b && have_windows sides (window_of w false) (window_of w false))
-    (both_same (fits w p (step_state row truths l)) (fits w q (step_state row truths r)) (fits w p l) (fits w q r) (fits_step row truths p w l) (fits_step row truths q w r))
+    (both_same (state_fits w p (step_state row truths l)) (state_fits w q (step_state row truths r)) (state_fits w p l) (state_fits w q r) (fits_step row truths p w l) (fits_step row truths q w r))
 fits_step row truths (Then p q) w (a_join join.Then l r sides) =
     ap (λ b. b && have_windows sides (window_of w false) (window_of w true))
-    (both_same (fits w p (step_state row truths l)) (fits w q (step_state row truths r)) (fits w p l) (fits w q r) (fits_step row truths p w l) (fits_step row truths q w r))
+    (both_same (state_fits w p (step_state row truths l)) (state_fits w q (step_state row truths r)) (state_fits w p l) (state_fits w q r) (fits_step row truths p w l) (fits_step row truths q w r))
 fits_step row truths (Either p q) w (a_choice l r) =
-    both_same (fits w p (step_state row truths l)) (fits w q (step_state row truths r)) (fits w p l) (fits w q r) (fits_step row truths p w l) (fits_step row truths q w r)
+    both_same (state_fits w p (step_state row truths l)) (state_fits w q (step_state row truths r)) (state_fits w p l) (state_fits w q r) (fits_step row truths p w l) (fits_step row truths q w r)
 fits_step row truths (Within p x) w (a_limit part) = fits_step row truths p (within w x) part
 fits_step row truths (Between p x y) w (a_limit part) = fits_step row truths p (between w x y) part
 fits_step row truths (Repeats p n) w (a_chain part count window held) =
     ap (λ b. (b && same_window window (window_of w false)) && (nat_eq count n && nat_eq (length (levels_after window row.last (map (held_with Single) (step_new row truths part)) (step_new row truths part) held)) (n - 1))) (fits_step row truths p w part)
-    ∙ ap (λ m. (fits w p part && same_window window (window_of w false)) && (nat_eq count n && nat_eq m (n - 1))) (length_after window row.last (map (held_with Single) (step_new row truths part)) (step_new row truths part) held)
+    ∙ ap (λ m. (state_fits w p part && same_window window (window_of w false)) && (nat_eq count n && nat_eq m (n - 1))) (length_after window row.last (map (held_with Single) (step_new row truths part)) (step_new row truths part) held)
 fits_step row truths p w z = refl
 
 no_levels_length : (k : ℕ) → length (no_levels k) ≡ k
 no_levels_length zero = refl
 no_levels_length (suc k) = ap suc (no_levels_length k)
 
-pub fits_empty : (p : NumberedPattern) (w : Bounds) → fits w p (empty_state w p) ≡ true
+pub fits_empty : (p : NumberedPattern) (w : Bounds) → state_fits w p (empty_state w p) ≡ true
 fits_empty (Leaf k) w = and_from _ _ (eq-eqb k k refl) (window_self (window_of w false))
 fits_empty (Both p q) w = and_from _ _ (and_from _ _ (fits_empty p w) (fits_empty q w)) (and_from _ _ (window_self (window_of w false)) (window_self (window_of w false)))
 fits_empty (Then p q) w = and_from _ _ (and_from _ _ (fits_empty p w) (fits_empty q w)) (and_from _ _ (window_self (window_of w false)) (window_self (window_of w true)))

@@ -10,7 +10,7 @@ use Rattle.match_bindings.specs.BindTree.{BindTree, One, Pair, First, Second, Em
 use Rattle.match_bindings.specs.Log.{Observed}
 use Rattle.match_bindings.specs.Span.{earliest, latest, later_by}
 use Rattle.match_bindings.specs.Test.{are_repeats, is_binding}
-use Rattle.match_bindings.specs.Once.{bit, same, count, Exactly}
+use Rattle.match_bindings.specs.Once.{bit, is_same_tree, count, Exactly}
 use Rattle.match_bindings.proofs.IsBindingLemmas.{le_true}
 use Rattle.match_bindings.proofs.CandidatesLemmas.{pair_joins, more_joins}
 use Rattle.match_pruning.specs.declared.window.Window.{Window}
@@ -18,9 +18,9 @@ use Rattle.match_pruning.specs.Stores.{window_of}
 use Rattle.match_pruning.specs.declared.join.Join.{Join}
 use Rattle.match_pruning.specs.declared.join.Join.TheVariants as join
 use Rattle.match_pruning.specs.declared.row.Row.{Row}
-use Rattle.match_pruning.specs.PartialMatchTree.{PartialMatchTree, hold}
+use Rattle.match_pruning.specs.PartialMatchTree.{PartialMatchTree, partial_match_of}
 use Rattle.match_pruning.specs.inner.Retains.{alive, retains}
-use Rattle.match_pruning.specs.inner.Steps.{held_with, joined_tree, may_join, joins, kept, SideStores, State, a_leaf, a_join, a_choice, a_limit, a_chain, truth_at, new_at_leaf, joins_new, sides_after, levels_new, levels_after, counted, step_new, step_state}
+use Rattle.match_pruning.specs.inner.Steps.{held_with, joined_tree, may_join, match_joins, kept, SideStores, State, a_leaf, a_join, a_choice, a_limit, a_chain, truth_at, new_at_leaf, joins_new, sides_after, levels_new, levels_after, repeated_sets, step_new, step_state}
 use Rattle.match_bindings.proofs.ListLemmas.{map_append}
 use Rattle.match_bindings.proofs.PairsLemmas.{pairs}
 use Rattle.match_bindings.proofs.OnceLemmas.{same_self, count_append, count_others, count_under, count_not_under}
@@ -48,7 +48,7 @@ without n o = record {
   level = λ p j x. are_repeats (is_binding o p) j x && not (has n x);
 }
 
--- the stores of two sides hold what counts and retains at s
+-- the stores of two sides partial_match_of what counts and retains at s
 pub record SidesStand (o : Observed) (f g : BindTree → Bool) (s : ℤ) (w : Bounds) (v : Window) (sides : SideStores) : Type 0 where
   pub left_window : sides.left_window ≡ window_of w false
   pub right_window : sides.right_window ≡ v
@@ -65,7 +65,7 @@ abbrev pub AllLevelsStand : Observed → (ℕ → BindTree → Bool) → ℤ →
 AllLevelsStand o f s w zero levels = levels ≡ []
 AllLevelsStand o f s w (suc n) levels = LevelsStand o f s w (suc n) 1 levels
 
--- the stores hold what counts and retains at s
+-- the stores partial_match_of what counts and retains at s
 abbrev pub Stands : Observed → Counted → ℤ → Bounds → NumberedPattern → State → Type 0
 Stands o b s w (Leaf k) (a_leaf leaf window) = (leaf ≡ k) × (window ≡ window_of w false)
 Stands o b s w (Both p q) (a_join join.Both l r sides) = Stands o b s w p l × Stands o b s w q r × SidesStand o (b.binding p) (b.binding q) s w (window_of w false) sides
@@ -94,13 +94,13 @@ pub record Given (o : Observed) (row : Row) (truths : List Bool) (s : ℤ) : Typ
 
 leaf_count : (n i : ℕ) (b q e : Bool) → nat_eq n i ≡ e → (n ≡ i → q ≡ b) → count (One i) (cond b (One n ∷ []) []) ≡ bit (q && nat_eq n i)
 leaf_count n i true q true h k =
-    let same : n ≡ i = eqb-true n i h in
-    let back : nat_eq i n ≡ true = eq-eqb i n (sym same) in
-    let e : q ≡ true = k same in
+    let is_same_tree : n ≡ i = eqb-true n i h in
+    let back : nat_eq i n ≡ true = eq-eqb i n (sym is_same_tree) in
+    let e : q ≡ true = k is_same_tree in
     rw (back, h, e) refl
 leaf_count n i false q true h k =
-    let same : n ≡ i = eqb-true n i h in
-    let e : q ≡ false = k same in
+    let is_same_tree : n ≡ i = eqb-true n i h in
+    let e : q ≡ false = k is_same_tree in
     rw (h, e) refl
 leaf_count n i true q false h k =
     let back : nat_eq i n ≡ false = ne_eqb i n (λ z. eqb-false n i h (sym z)) in
@@ -113,12 +113,12 @@ leaf_count n i false q false h k = rw h (none q) where
   none true = refl
   none false = refl
 
-leaf_other : (n : ℕ) (b : Bool) (x : BindTree) → same x (One n) ≡ false → count x (cond b (One n ∷ []) []) ≡ 0
+leaf_other : (n : ℕ) (b : Bool) (x : BindTree) → is_same_tree x (One n) ≡ false → count x (cond b (One n ∷ []) []) ≡ 0
 leaf_other n true x h = rw h refl
 leaf_other n false x h = refl
 
 leaf_map : (o : Observed) (row : Row) (b : Bool) → o.first row.number ≡ row.first → o.last row.number ≡ row.last →
-    cond b (record { tree = One row.number; earliest = row.first; latest = row.last } ∷ []) [] ≡ map (hold o) (cond b (One row.number ∷ []) [])
+    cond b (record { tree = One row.number; earliest = row.first; latest = row.last } ∷ []) [] ≡ map (partial_match_of o) (cond b (One row.number ∷ []) [])
 leaf_map o row true h k =
     ap (λ z. record { tree = One row.number; earliest = z; latest = row.last } ∷ []) (sym h)
     ∙ ap (λ z. record { tree = One row.number; earliest = o.first row.number; latest = z } ∷ []) (sym k)
@@ -203,13 +203,13 @@ side_bits true true true true true h = refl
 side_bits true true true true false h = refl
 side_bits true true true false y h = refl
 
--- how a node that joins two sides tells its bindings: f by the join j
+-- how a node that match_joins two sides tells its bindings: f by the join j
 pub record Joined (o : Observed) (n : ℕ) (t : ℤ) (w : Bounds) (v : Window) (j : Join) (p q f : BindTree → Bool) : Type 0 where
   pub makes : (a b : BindTree) → joined_tree j a b ≡ Pair a b
-  pub other : (x : BindTree) → ((c d : BindTree) → same x (Pair c d) ≡ false) → f x ≡ false
-  pub pair : (a b : BindTree) → f (Pair a b) ≡ (p a && q b && may_join j (hold o a) (hold o b))
-  pub distinct : (a b : BindTree) → may_join j (hold o a) (hold o b) ≡ true → (has n a && has n b) ≡ false
-  pub completion_bound : (a b : BindTree) → has n a ≡ true → may_join j (hold o a) (hold o b) ≡ true → retains v (earliest o.first b) t ≡ alive w (earliest o.first b) t
+  pub other : (x : BindTree) → ((c d : BindTree) → is_same_tree x (Pair c d) ≡ false) → f x ≡ false
+  pub pair : (a b : BindTree) → f (Pair a b) ≡ (p a && q b && may_join j (partial_match_of o a) (partial_match_of o b))
+  pub distinct : (a b : BindTree) → may_join j (partial_match_of o a) (partial_match_of o b) ≡ true → (has n a && has n b) ≡ false
+  pub completion_bound : (a b : BindTree) → has n a ≡ true → may_join j (partial_match_of o a) (partial_match_of o b) ≡ true → retains v (earliest o.first b) t ≡ alive w (earliest o.first b) t
   pub lasting : (e : ℤ) → retains v e t ≡ true → alive w e t ≡ true
 
 join_node : (o : Observed) (n : ℕ) (t : ℤ) (w : Bounds) (v : Window) (j : Join) (p q f : BindTree → Bool) → Joined o n t w v j p q f →
@@ -218,29 +218,29 @@ join_node : (o : Observed) (n : ℕ) (t : ℤ) (w : Bounds) (v : Window) (j : Jo
     AreHeld o (λ x. (p x && alive w (earliest o.first x) t) && not (has n x)) left →
     AreHeld o (λ x. (q x && alive w (earliest o.first x) t) && has n x) new_r →
     AreHeld o (λ x. (q x && retains v (earliest o.first x) t) && not (has n x)) right →
-    AreHeld o (λ x. (f x && alive w (earliest o.first x) t) && has n x) (joins j new_l right ++ joins j left new_r)
+    AreHeld o (λ x. (f x && alive w (earliest o.first x) t) && has n x) (match_joins j new_l right ++ match_joins j left new_r)
 join_node o n t w v j p q f k new_l left new_r right (us, u_is, u_each) (cs, c_is, c_each) (ds, d_is, d_each) (bs, b_is, b_each) = (
-  pairs Pair (λ a b. may_join j (hold o a) (hold o b)) us bs ++ pairs Pair (λ a b. may_join j (hold o a) (hold o b)) cs ds,
-  ap (λ z. joins j z right ++ joins j left new_r) u_is
-      ∙ ap (λ z. joins j (map (hold o) us) z ++ joins j left new_r) b_is
-      ∙ ap (λ z. joins j (map (hold o) us) (map (hold o) bs) ++ joins j z new_r) c_is
-      ∙ ap (λ z. joins j (map (hold o) us) (map (hold o) bs) ++ joins j (map (hold o) cs) z) d_is
+  pairs Pair (λ a b. may_join j (partial_match_of o a) (partial_match_of o b)) us bs ++ pairs Pair (λ a b. may_join j (partial_match_of o a) (partial_match_of o b)) cs ds,
+  ap (λ z. match_joins j z right ++ match_joins j left new_r) u_is
+      ∙ ap (λ z. match_joins j (map (partial_match_of o) us) z ++ match_joins j left new_r) b_is
+      ∙ ap (λ z. match_joins j (map (partial_match_of o) us) (map (partial_match_of o) bs) ++ match_joins j z new_r) c_is
+      ∙ ap (λ z. match_joins j (map (partial_match_of o) us) (map (partial_match_of o) bs) ++ match_joins j (map (partial_match_of o) cs) z) d_is
       ∙ both_joins_are o j Pair (record { early = λ a b. refl; late = λ a b. refl }) k.makes us bs cs ds,
   each,
 ) where
-  none : (x : BindTree) → ((a b : BindTree) → same x (Pair a b) ≡ false) →
-      count x (pairs Pair (λ a b. may_join j (hold o a) (hold o b)) us bs ++ pairs Pair (λ a b. may_join j (hold o a) (hold o b)) cs ds)
+  none : (x : BindTree) → ((a b : BindTree) → is_same_tree x (Pair a b) ≡ false) →
+      count x (pairs Pair (λ a b. may_join j (partial_match_of o a) (partial_match_of o b)) us bs ++ pairs Pair (λ a b. may_join j (partial_match_of o a) (partial_match_of o b)) cs ds)
       ≡ bit ((f x && alive w (earliest o.first x) t) && has n x)
   none x h = let no = k.other x h in
       rw no (omega (
         arith,
-        count_append x (pairs Pair (λ a b. may_join j (hold o a) (hold o b)) us bs) (pairs Pair (λ a b. may_join j (hold o a) (hold o b)) cs ds),
-        count_others Pair (λ a b. may_join j (hold o a) (hold o b)) x h us bs,
-        count_others Pair (λ a b. may_join j (hold o a) (hold o b)) x h cs ds,
+        count_append x (pairs Pair (λ a b. may_join j (partial_match_of o a) (partial_match_of o b)) us bs) (pairs Pair (λ a b. may_join j (partial_match_of o a) (partial_match_of o b)) cs ds),
+        count_others Pair (λ a b. may_join j (partial_match_of o a) (partial_match_of o b)) x h us bs,
+        count_others Pair (λ a b. may_join j (partial_match_of o a) (partial_match_of o b)) x h cs ds,
       ))
 
   each : (x : BindTree) →
-      count x (pairs Pair (λ a b. may_join j (hold o a) (hold o b)) us bs ++ pairs Pair (λ a b. may_join j (hold o a) (hold o b)) cs ds)
+      count x (pairs Pair (λ a b. may_join j (partial_match_of o a) (partial_match_of o b)) us bs ++ pairs Pair (λ a b. may_join j (partial_match_of o a) (partial_match_of o b)) cs ds)
       ≡ bit ((f x && alive w (earliest o.first x) t) && has n x)
   each (Pair a b) =
       join_law Pair pair_joins n
@@ -248,13 +248,13 @@ join_node o n t w v j p q f k new_l left new_r right (us, u_is, u_each) (cs, c_i
       (λ x. q x && alive w (earliest o.first x) t)
       (λ x. (q x && retains v (earliest o.first x) t) && not (has n x))
       (λ x. (p x && alive w (earliest o.first x) t) && not (has n x))
-      (λ a b. may_join j (hold o a) (hold o b)) us cs ds bs u_each c_each d_each b_each
+      (λ a b. may_join j (partial_match_of o a) (partial_match_of o b)) us cs ds bs u_each c_each d_each b_each
       (λ a b hp hn hc. ap (λ z. (q b && z) && not (has n b)) (k.completion_bound a b hn hc))
       (λ a b hq hn hc. refl)
       (λ a b hc. k.distinct a b hc) a b
-      ∙ ap bit (side_bits (p a) (q b) (may_join j (hold o a) (hold o b)) (alive w (earliest o.first a) t) (alive w (earliest o.first b) t) (has n a || has n b))
+      ∙ ap bit (side_bits (p a) (q b) (may_join j (partial_match_of o a) (partial_match_of o b)) (alive w (earliest o.first a) t) (alive w (earliest o.first b) t) (has n a || has n b))
       ∙ sym (ap bit (ap (λ z. (z && alive w (earliest o.first (Pair a b)) t) && (has n a || has n b)) (k.pair a b)
-      ∙ ap (λ z. ((p a && q b && may_join j (hold o a) (hold o b)) && z) && (has n a || has n b)) (alive_min w (earliest o.first a) (earliest o.first b) t)))
+      ∙ ap (λ z. ((p a && q b && may_join j (partial_match_of o a) (partial_match_of o b)) && z) && (has n a || has n b)) (alive_min w (earliest o.first a) (earliest o.first b) t)))
   each (One i) = none (One i) (λ a b. refl)
   each (First x) = none (First x) (λ a b. refl)
   each (Second x) = none (Second x) (λ a b. refl)
@@ -262,7 +262,7 @@ join_node o n t w v j p q f k new_l left new_r right (us, u_is, u_each) (cs, c_i
   each (Single x) = none (Single x) (λ a b. refl)
   each (More x y) = none (More x y) (λ a b. refl)
 
--- what ends at a node that joins two sides, and what is kept there
+-- what ends at a node that match_joins two sides, and what is kept there
 sides_law : (o : Observed) (n : ℕ) (s t : ℤ) (w : Bounds) (v : Window) (j : Join) (p q f : BindTree → Bool) → Joined o n t w v j p q f → s ≤ℤ t →
     (sides : SideStores) → SidesStand o (λ x. p x && not (has n x)) (λ x. q x && not (has n x)) s w v sides → (new_l new_r : List PartialMatchTree) →
     AreHeld o (λ x. (p x && alive w (earliest o.first x) t) && has n x) new_l →
@@ -290,10 +290,10 @@ sides_law o n s t w v j p q f k h sides st new_l new_r hl hr =
       },
     )
 
-no_pair : (x : BindTree) → ((c d : BindTree) → same x (Pair c d) ≡ false) → (a b : BindTree) → x ≡ Pair a b → ⊥
+no_pair : (x : BindTree) → ((c d : BindTree) → is_same_tree x (Pair c d) ≡ false) → (a b : BindTree) → x ≡ Pair a b → ⊥
 no_pair x h a b e =
-    let no : same (Pair a b) (Pair a b) ≡ false = ap (λ z. same z (Pair a b)) (sym e) ∙ h a b in
-    let is : same (Pair a b) (Pair a b) ≡ true = same_self (Pair a b) in
+    let no : is_same_tree (Pair a b) (Pair a b) ≡ false = ap (λ z. is_same_tree z (Pair a b)) (sym e) ∙ h a b in
+    let is : is_same_tree (Pair a b) (Pair a b) ≡ true = same_self (Pair a b) in
     let both : true ≡ false = sym is ∙ no in
     cc
 
@@ -306,7 +306,7 @@ both_joined o n t w p q = record {
   completion_bound = λ a b h k. refl;
   lasting = λ e h. h;
 } where
-  other : (x : BindTree) → ((c d : BindTree) → same x (Pair c d) ≡ false) → is_binding o (Both p q) x ≡ false
+  other : (x : BindTree) → ((c d : BindTree) → is_same_tree x (Pair c d) ≡ false) → is_binding o (Both p q) x ≡ false
   other (Pair a b) h = absurd (no_pair (Pair a b) h a b refl)
   other x h = refl
 
@@ -323,7 +323,7 @@ then_joined o row truths s g w p q = record {
       (le_true (latest o.last a) (earliest o.first b) (and_parts (int_le (latest o.last a) (earliest o.first b)) (disjoint a b) k).0));
   lasting = λ e h. after_left_alive w e row.last h;
 } where
-  other : (x : BindTree) → ((c d : BindTree) → same x (Pair c d) ≡ false) → is_binding o (Then p q) x ≡ false
+  other : (x : BindTree) → ((c d : BindTree) → is_same_tree x (Pair c d) ≡ false) → is_binding o (Then p q) x ≡ false
   other (Pair a b) h = absurd (no_pair (Pair a b) h a b refl)
   other x h = refl
 
@@ -342,17 +342,17 @@ swap_bits p q false false x h = refl
 level_node : (o : Observed) (row : Row) (truths : List Bool) (s : ℤ) → Given o row truths s → (p : NumberedPattern) (w : Bounds) (j : ℕ) (held new : List PartialMatchTree) →
     AreHeld o (λ x. (are_repeats (is_binding o p) (suc j) x && alive w (earliest o.first x) row.last) && not (has row.number x)) held →
     AreHeld o (ends o row.number row.last w p) new →
-    AreHeld o (λ x. (are_repeats (is_binding o p) (suc (suc j)) x && alive w (earliest o.first x) row.last) && has row.number x) (joins join.Repeats held new)
+    AreHeld o (λ x. (are_repeats (is_binding o p) (suc (suc j)) x && alive w (earliest o.first x) row.last) && has row.number x) (match_joins join.Repeats held new)
 level_node o row truths s g p w j held new (xs, x_is, x_each) (ys, y_is, y_each) = (
   pairs More (λ a b. disjoint a b) xs ys,
-  ap (λ z. joins join.Repeats z new) x_is ∙ ap (λ z. joins join.Repeats (map (hold o) xs) z) y_is
+  ap (λ z. match_joins join.Repeats z new) x_is ∙ ap (λ z. match_joins join.Repeats (map (partial_match_of o) xs) z) y_is
       ∙ joins_are o join.Repeats More (record { early = λ a b. refl; late = λ a b. refl }) xs ys (sets_made (is_binding o p) (suc j) xs excludes),
   each,
 ) where
   excludes : (x : BindTree) → 0 < count x xs → are_repeats (is_binding o p) (suc j) x ≡ true
   excludes x k = (and_parts _ _ (and_parts _ _ (bit_positive ((are_repeats (is_binding o p) (suc j) x && alive w (earliest o.first x) row.last) && not (has row.number x)) (count x xs) (x_each x) k)).0).0
 
-  none : (x : BindTree) → ((a b : BindTree) → same x (More a b) ≡ false) → are_repeats (is_binding o p) (suc (suc j)) x ≡ false →
+  none : (x : BindTree) → ((a b : BindTree) → is_same_tree x (More a b) ≡ false) → are_repeats (is_binding o p) (suc (suc j)) x ≡ false →
       count x (pairs More (λ a b. disjoint a b) xs ys) ≡ bit ((are_repeats (is_binding o p) (suc (suc j)) x && alive w (earliest o.first x) row.last) && has row.number x)
   none x h isnt = rw isnt (count_others More (λ a b. disjoint a b) x h xs ys)
 
@@ -413,7 +413,7 @@ levels_law o row truths s g p w n j first new (held ∷ levels) hf hn st =
     let old = kept_law o (window_of w false) s row.last row.number (λ x. are_repeats (is_binding o p) (suc j) x) held g.earlier st.0 in
     let add = added_law o (window_of w false) w row.last row.number (λ x. are_repeats (is_binding o p) (suc j) x) first (λ e z. z) hf in
     let up = level_node o row truths s g p w j (kept (window_of w false) row.last held) new old hn in
-    let rest = levels_law o row truths s g p w n (suc j) (joins join.Repeats (kept (window_of w false) row.last held) new) new levels up hn st.1 in (
+    let rest = levels_law o row truths s g p w n (suc j) (match_joins join.Repeats (kept (window_of w false) row.last held) new) new levels up hn st.1 in (
       rest.0,
       (
         stored_law o row.number (λ x. are_repeats (is_binding o p) (suc j) x && alive w (earliest o.first x) row.last) (kept (window_of w false) row.last held) (kept (window_of w false) row.last first) old add,
@@ -425,7 +425,7 @@ levels_law o row truths s g p w n j first new (held ∷ levels) hf hn st =
 chain_law : (o : Observed) (row : Row) (truths : List Bool) (s : ℤ) → Given o row truths s → (p : NumberedPattern) (w : Bounds) (n : ℕ)
     (new : List PartialMatchTree) (levels : List (List PartialMatchTree)) → AreHeld o (ends o row.number row.last w p) new →
     AllLevelsStand o (λ i x. are_repeats (is_binding o p) i x && not (has row.number x)) s w n levels →
-    AreHeld o (ends o row.number row.last w (Repeats p n)) (counted n (levels_new (window_of w false) row.last (map (held_with Single) new) new levels))
+    AreHeld o (ends o row.number row.last w (Repeats p n)) (repeated_sets n (levels_new (window_of w false) row.last (map (held_with Single) new) new levels))
     × AllLevelsStand o (λ i x. are_repeats (is_binding o p) i x) row.last w n (levels_after (window_of w false) row.last (map (held_with Single) new) new levels)
 chain_law o row truths s g p w zero new levels hn st =
     (([], refl, λ x. refl), ap (levels_after (window_of w false) row.last (map (held_with Single) new) new) st)
@@ -440,13 +440,13 @@ either_node : (o : Observed) (n : ℕ) (t : ℤ) (p q : NumberedPattern) (w : Bo
 either_node o n t p q w new_l new_r (xs, x_is, x_each) (ys, y_is, y_each) = (
   map First xs ++ map Second ys,
   ap (λ z. map (held_with First) z ++ map (held_with Second) new_r) x_is
-      ∙ ap (λ z. map (held_with First) (map (hold o) xs) ++ map (held_with Second) z) y_is
-      ∙ ap (λ z. z ++ map (held_with Second) (map (hold o) ys)) (under_are o First (λ x. refl) xs)
-      ∙ ap (λ z. map (hold o) (map First xs) ++ z) (under_are o Second (λ x. refl) ys)
-      ∙ sym (map_append (hold o) (map First xs) (map Second ys)),
+      ∙ ap (λ z. map (held_with First) (map (partial_match_of o) xs) ++ map (held_with Second) z) y_is
+      ∙ ap (λ z. z ++ map (held_with Second) (map (partial_match_of o) ys)) (under_are o First (λ x. refl) xs)
+      ∙ ap (λ z. map (partial_match_of o) (map First xs) ++ z) (under_are o Second (λ x. refl) ys)
+      ∙ sym (map_append (partial_match_of o) (map First xs) (map Second ys)),
   λ x. count_append x (map First xs) (map Second ys) ∙ each x,
 ) where
-  none : (x : BindTree) → ((b : BindTree) → same x (First b) ≡ false) → ((b : BindTree) → same x (Second b) ≡ false) → count x (map First xs) + count x (map Second ys) ≡ 0
+  none : (x : BindTree) → ((b : BindTree) → is_same_tree x (First b) ≡ false) → ((b : BindTree) → is_same_tree x (Second b) ≡ false) → count x (map First xs) + count x (map Second ys) ≡ 0
   none x h k = omega (arith, count_not_under First x h xs, count_not_under Second x k ys)
 
   each : (x : BindTree) → count x (map First xs) + count x (map Second ys) ≡ bit (ends o n t w (Either p q) x)
@@ -460,7 +460,7 @@ either_node o n t p q w new_l new_r (xs, x_is, x_each) (ys, y_is, y_each) = (
 
 -- ---- patterns
 
--- From stores that hold what lived before the row: what ends at it, and stores that hold what retains after it.
+-- From stores that partial_match_of what lived before the row: what ends at it, and stores that partial_match_of what retains after it.
 pub step_law : (o : Observed) (row : Row) (truths : List Bool) (s : ℤ) → Given o row truths s →
     (p : NumberedPattern) (w : Bounds) (z : State) → Stands o (without row.number o) s w p z →
     AreHeld o (ends o row.number row.last w p) (step_new row truths z) × Stands o (all_of o) row.last w p (step_state row truths z)
@@ -501,8 +501,8 @@ step_law o row truths s g (Repeats p n) w (a_chain part count window levels) st 
     let one = step_law o row truths s g p w part st.0 in
     let law = chain_law o row truths s g p w n (step_new row truths part) levels one.0 st.3 in
     let new = step_new row truths part in let first = map (held_with Single) new in (
-      subst (λ (c : ℕ). AreHeld o (ends o row.number row.last w (Repeats p n)) (counted c (levels_new window row.last first new levels))) (sym st.1)
-          (subst (λ (u : Window). AreHeld o (ends o row.number row.last w (Repeats p n)) (counted n (levels_new u row.last first new levels))) (sym st.2) law.0),
+      subst (λ (c : ℕ). AreHeld o (ends o row.number row.last w (Repeats p n)) (repeated_sets c (levels_new window row.last first new levels))) (sym st.1)
+          (subst (λ (u : Window). AreHeld o (ends o row.number row.last w (Repeats p n)) (repeated_sets n (levels_new u row.last first new levels))) (sym st.2) law.0),
       (
         one.1,
         st.1,

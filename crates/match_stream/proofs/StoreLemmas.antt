@@ -1,4 +1,4 @@
--- What a store holds after a row, and the joins of things with their times.
+-- What a store holds after a row, and the match_joins of things with their times.
 use Rattle.std.proofs.Common.{◌≡◌, ℕ, zero, suc, ◌+◌, ◌*◌, ◌<◌, ℤ, ◌≤ℤ◌, List, [], ◌∷◌, ◌++◌, refl, sym, ◌∙◌, ap, arith}
 use Rattle.std.specs.Prelude.{Bool, true, false, ◌&&◌, not, map, filter}
 use Rattle.std.specs.Int.{int_min, int_max}
@@ -6,14 +6,14 @@ use Rattle.match_bindings.specs.BindTree.{BindTree, Single, More, add_part, has}
 use Rattle.match_bindings.specs.Log.{Observed}
 use Rattle.match_bindings.specs.Span.{earliest, latest}
 use Rattle.match_bindings.specs.Test.{are_repeats}
-use Rattle.match_bindings.specs.Once.{bit, same, count, Exactly}
+use Rattle.match_bindings.specs.Once.{bit, is_same_tree, count, Exactly}
 use Rattle.match_bindings.specs.declared.bounds.Bounds.{Bounds}
 use Rattle.match_pruning.specs.declared.window.Window.{Window}
 use Rattle.match_pruning.specs.declared.join.Join.{Join}
 use Rattle.match_pruning.specs.declared.join.Join.TheVariants as join
-use Rattle.match_pruning.specs.PartialMatchTree.{PartialMatchTree, hold}
+use Rattle.match_pruning.specs.PartialMatchTree.{PartialMatchTree, partial_match_of}
 use Rattle.match_pruning.specs.inner.Retains.{alive, retains}
-use Rattle.match_pruning.specs.inner.Steps.{held_with, joined_tree, joined, may_join, join_row, joins, kept}
+use Rattle.match_pruning.specs.inner.Steps.{held_with, joined_tree, joined_matches, may_join, match_join_row, match_joins, kept}
 use Rattle.match_bindings.proofs.ListLemmas.{map_append, map_map, map_agree, filter_map}
 use Rattle.match_bindings.proofs.PairsLemmas.{pairs}
 use Rattle.match_bindings.proofs.OnceLemmas.{same_self, count_append, count_filter}
@@ -21,7 +21,7 @@ use Rattle.match_stream.proofs.AliveLemmas.{retains_before}
 
 -- the things are the trees that pass, each once, with their times
 abbrev pub AreHeld : Observed → (BindTree → Bool) → List PartialMatchTree → Type 0
-AreHeld o f held = (xs : List BindTree) × (held ≡ map (hold o) xs) × Exactly f xs
+AreHeld o f held = (xs : List BindTree) × (held ≡ map (partial_match_of o) xs) × Exactly f xs
 
 pub exactly_same : (f g : BindTree → Bool) (xs : List BindTree) → ((x : BindTree) → f x ≡ g x) → Exactly f xs → Exactly g xs
 exactly_same f g xs h e x = e x ∙ ap bit (h x)
@@ -29,9 +29,9 @@ exactly_same f g xs h e x = e x ∙ ap bit (h x)
 pub held_same : (o : Observed) (f g : BindTree → Bool) (held : List PartialMatchTree) → ((x : BindTree) → f x ≡ g x) → AreHeld o f held → AreHeld o g held
 held_same o f g held h (xs, is, each) = (xs, is, exactly_same f g xs h each)
 
--- ---- joins
+-- ---- match_joins
 
--- each of the trees is joined as mk joins it
+-- each of the trees is joined_matches as mk match_joins it
 abbrev pub AreMade : Join → (BindTree → BindTree → BindTree) → List BindTree → Type 0
 AreMade j mk [] = Unit {0}
 AreMade j mk (x ∷ xs) = ((b : BindTree) → joined_tree j x b ≡ mk x b) × AreMade j mk xs
@@ -46,37 +46,37 @@ pub record Makes (o : Observed) (mk : BindTree → BindTree → BindTree) : Type
   pub late : (a b : BindTree) → int_max (latest o.last a) (latest o.last b) ≡ latest o.last (mk a b)
 
 row_is : (o : Observed) (j : Join) (mk : BindTree → BindTree → BindTree) → Makes o mk → (x : BindTree) → ((b : BindTree) → joined_tree j x b ≡ mk x b) → (ys : List BindTree) →
-    join_row j (hold o x) (map (hold o) ys) ≡ map (hold o) (map (mk x) (filter (λ y. may_join j (hold o x) (hold o y)) ys))
+    match_join_row j (partial_match_of o x) (map (partial_match_of o) ys) ≡ map (partial_match_of o) (map (mk x) (filter (λ y. may_join j (partial_match_of o x) (partial_match_of o y)) ys))
 row_is o j mk k x made ys =
-    ap (map (joined j (hold o x))) (filter_map (hold o) (may_join j (hold o x)) ys)
-    ∙ map_map (hold o) (joined j (hold o x)) (filter (λ y. may_join j (hold o x) (hold o y)) ys)
-    ∙ map_agree (λ y. joined j (hold o x) (hold o y)) (λ y. hold o (mk x y)) each (filter (λ y. may_join j (hold o x) (hold o y)) ys)
-    ∙ sym (map_map (mk x) (hold o) (filter (λ y. may_join j (hold o x) (hold o y)) ys)) where
-      each : (y : BindTree) → joined j (hold o x) (hold o y) ≡ hold o (mk x y)
+    ap (map (joined_matches j (partial_match_of o x))) (filter_map (partial_match_of o) (may_join j (partial_match_of o x)) ys)
+    ∙ map_map (partial_match_of o) (joined_matches j (partial_match_of o x)) (filter (λ y. may_join j (partial_match_of o x) (partial_match_of o y)) ys)
+    ∙ map_agree (λ y. joined_matches j (partial_match_of o x) (partial_match_of o y)) (λ y. partial_match_of o (mk x y)) each (filter (λ y. may_join j (partial_match_of o x) (partial_match_of o y)) ys)
+    ∙ sym (map_map (mk x) (partial_match_of o) (filter (λ y. may_join j (partial_match_of o x) (partial_match_of o y)) ys)) where
+      each : (y : BindTree) → joined_matches j (partial_match_of o x) (partial_match_of o y) ≡ partial_match_of o (mk x y)
       each y = let t = made y in let e = k.early x y in let l = k.late x y in λ i. record { tree = t i; earliest = e i; latest = l i }
 
 pub joins_are : (o : Observed) (j : Join) (mk : BindTree → BindTree → BindTree) → Makes o mk → (xs ys : List BindTree) → AreMade j mk xs →
-    joins j (map (hold o) xs) (map (hold o) ys) ≡ map (hold o) (pairs mk (λ a b. may_join j (hold o a) (hold o b)) xs ys)
+    match_joins j (map (partial_match_of o) xs) (map (partial_match_of o) ys) ≡ map (partial_match_of o) (pairs mk (λ a b. may_join j (partial_match_of o a) (partial_match_of o b)) xs ys)
 joins_are o j mk k [] ys made = refl
 joins_are o j mk k (x ∷ xs) ys made =
-    ap (λ z. z ++ joins j (map (hold o) xs) (map (hold o) ys)) (row_is o j mk k x made.0 ys)
-    ∙ ap (λ z. map (hold o) (map (mk x) (filter (λ y. may_join j (hold o x) (hold o y)) ys)) ++ z) (joins_are o j mk k xs ys made.1)
-    ∙ sym (map_append (hold o) (map (mk x) (filter (λ y. may_join j (hold o x) (hold o y)) ys)) (pairs mk (λ a b. may_join j (hold o a) (hold o b)) xs ys))
+    ap (λ z. z ++ match_joins j (map (partial_match_of o) xs) (map (partial_match_of o) ys)) (row_is o j mk k x made.0 ys)
+    ∙ ap (λ z. map (partial_match_of o) (map (mk x) (filter (λ y. may_join j (partial_match_of o x) (partial_match_of o y)) ys)) ++ z) (joins_are o j mk k xs ys made.1)
+    ∙ sym (map_append (partial_match_of o) (map (mk x) (filter (λ y. may_join j (partial_match_of o x) (partial_match_of o y)) ys)) (pairs mk (λ a b. may_join j (partial_match_of o a) (partial_match_of o b)) xs ys))
 
 -- both halves of a join of sides
 pub both_joins_are : (o : Observed) (j : Join) (mk : BindTree → BindTree → BindTree) → Makes o mk → ((a b : BindTree) → joined_tree j a b ≡ mk a b) → (us bs cs ds : List BindTree) →
-    joins j (map (hold o) us) (map (hold o) bs) ++ joins j (map (hold o) cs) (map (hold o) ds)
-    ≡ map (hold o) (pairs mk (λ a b. may_join j (hold o a) (hold o b)) us bs ++ pairs mk (λ a b. may_join j (hold o a) (hold o b)) cs ds)
+    match_joins j (map (partial_match_of o) us) (map (partial_match_of o) bs) ++ match_joins j (map (partial_match_of o) cs) (map (partial_match_of o) ds)
+    ≡ map (partial_match_of o) (pairs mk (λ a b. may_join j (partial_match_of o a) (partial_match_of o b)) us bs ++ pairs mk (λ a b. may_join j (partial_match_of o a) (partial_match_of o b)) cs ds)
 both_joins_are o j mk k made us bs cs ds =
-    let c = λ (a : BindTree) (b : BindTree). may_join j (hold o a) (hold o b) in
-    ap (λ z. z ++ joins j (map (hold o) cs) (map (hold o) ds)) (joins_are o j mk k us bs (all_made j mk made us))
-    ∙ ap (λ z. map (hold o) (pairs mk c us bs) ++ z) (joins_are o j mk k cs ds (all_made j mk made cs))
-    ∙ sym (map_append (hold o) (pairs mk c us bs) (pairs mk c cs ds))
+    let c = λ (a : BindTree) (b : BindTree). may_join j (partial_match_of o a) (partial_match_of o b) in
+    ap (λ z. z ++ match_joins j (map (partial_match_of o) cs) (map (partial_match_of o) ds)) (joins_are o j mk k us bs (all_made j mk made us))
+    ∙ ap (λ z. map (partial_match_of o) (pairs mk c us bs) ++ z) (joins_are o j mk k cs ds (all_made j mk made cs))
+    ∙ sym (map_append (partial_match_of o) (pairs mk c us bs) (pairs mk c cs ds))
 
 -- things under one constructor
-pub under_are : (o : Observed) (mk : BindTree → BindTree) → ((x : BindTree) → held_with mk (hold o x) ≡ hold o (mk x)) → (xs : List BindTree) →
-    map (held_with mk) (map (hold o) xs) ≡ map (hold o) (map mk xs)
-under_are o mk h xs = map_map (hold o) (held_with mk) xs ∙ map_agree (λ x. held_with mk (hold o x)) (λ x. hold o (mk x)) h xs ∙ sym (map_map mk (hold o) xs)
+pub under_are : (o : Observed) (mk : BindTree → BindTree) → ((x : BindTree) → held_with mk (partial_match_of o x) ≡ partial_match_of o (mk x)) → (xs : List BindTree) →
+    map (held_with mk) (map (partial_match_of o) xs) ≡ map (partial_match_of o) (map mk xs)
+under_are o mk h xs = map_map (partial_match_of o) (held_with mk) xs ∙ map_agree (λ x. held_with mk (partial_match_of o x)) (λ x. partial_match_of o (mk x)) h xs ∙ sym (map_map mk (partial_match_of o) xs)
 
 -- sets are chains
 chain_more : (f : BindTree → Bool) (j : ℕ) (x : BindTree) → are_repeats f j x ≡ true → (b : BindTree) → add_part x b ≡ More x b
@@ -93,7 +93,7 @@ bit_positive false n e h = absurd (omega arith)
 pub sets_made : (f : BindTree → Bool) (j : ℕ) (xs : List BindTree) → ((x : BindTree) → 0 < count x xs → are_repeats f j x ≡ true) → AreMade join.Repeats More xs
 sets_made f j [] h = tt
 sets_made f j (x ∷ xs) h =
-    let me : same x x ≡ true = same_self x in
+    let me : is_same_tree x x ≡ true = same_self x in
     (chain_more f j x (h x (rw me (omega arith))), sets_made f j xs (λ y k. h y (omega (arith, k))))
 
 -- ---- stores
@@ -122,7 +122,7 @@ pub kept_law : (o : Observed) (v : Window) (s t : ℤ) (n : ℕ) (b : BindTree �
     AreHeld o (λ x. (b x && retains v (earliest o.first x) t) && not (has n x)) (kept v t held)
 kept_law o v s t n b held h (xs, is, each) = (
   filter (λ x. retains v (earliest o.first x) t) xs,
-  ap (kept v t) is ∙ filter_map (hold o) (λ k. retains v k.earliest t) xs,
+  ap (kept v t) is ∙ filter_map (partial_match_of o) (λ k. retains v k.earliest t) xs,
   λ x. count_filter x (λ x. retains v (earliest o.first x) t) xs
       ∙ ap (λ z. bit (retains v (earliest o.first x) t) * z) (each x)
       ∙ old_bits (retains v (earliest o.first x) t) (b x) (has n x) (retains v (earliest o.first x) s) (retains_before v (earliest o.first x) s t h),
@@ -135,7 +135,7 @@ pub added_law : (o : Observed) (v : Window) (w : Bounds) (t : ℤ) (n : ℕ) (b 
     AreHeld o (λ x. (b x && retains v (earliest o.first x) t) && has n x) (kept v t held)
 added_law o v w t n b held h (xs, is, each) = (
   filter (λ x. retains v (earliest o.first x) t) xs,
-  ap (kept v t) is ∙ filter_map (hold o) (λ k. retains v k.earliest t) xs,
+  ap (kept v t) is ∙ filter_map (partial_match_of o) (λ k. retains v k.earliest t) xs,
   λ x. count_filter x (λ x. retains v (earliest o.first x) t) xs
       ∙ ap (λ z. bit (retains v (earliest o.first x) t) * z) (each x)
       ∙ new_bits (retains v (earliest o.first x) t) (b x) (has n x) (alive w (earliest o.first x) t) (h (earliest o.first x)),
@@ -146,6 +146,6 @@ pub stored_law : (o : Observed) (n : ℕ) (p : BindTree → Bool) (old new : Lis
     AreHeld o (λ x. p x && not (has n x)) old → AreHeld o (λ x. p x && has n x) new → AreHeld o p (old ++ new)
 stored_law o n p old new (xs, is, each) (ys, is', each') = (
   xs ++ ys,
-  ap (λ z. z ++ new) is ∙ ap (λ z. map (hold o) xs ++ z) is' ∙ sym (map_append (hold o) xs ys),
+  ap (λ z. z ++ new) is ∙ ap (λ z. map (partial_match_of o) xs ++ z) is' ∙ sym (map_append (partial_match_of o) xs ys),
   λ x. count_append x xs ys ∙ (let e = each x in let e' = each' x in rw (e, e') (sum_bits (p x) (has n x))),
 )

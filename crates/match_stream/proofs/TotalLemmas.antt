@@ -13,9 +13,9 @@ use Rattle.match_pruning.specs.declared.join.Join.TheVariants as join
 use Rattle.match_pruning.specs.declared.row.Row.{Row}
 use Rattle.match_pruning.specs.PartialMatchTree.{PartialMatchTree}
 use Rattle.match_stream.specs.RetainedPart.{held_count}
-use Rattle.match_pruning.specs.inner.Retains.{retains, is_ahead, in_seconds, from_start}
-use Rattle.match_pruning.specs.inner.Steps.{held_with, joined, may_join, join_row, joins, kept, SideStores, State, a_join, a_choice, a_chain, sides_kept, sides_count, sides_stored, joins_both, levels_new, levels_after, all_levels, no_levels, levels_above, counted, step_new, step_state, contents_of}
-use Rattle.match_pruning.specs.inner.Needed.{PendingLeftTrees, is_needed, needed, closed, pending_lefts_right, pending_lefts_part, chosen}
+use Rattle.match_pruning.specs.inner.Retains.{retains, is_ahead, lasts_at_most, ends_from_start}
+use Rattle.match_pruning.specs.inner.Steps.{held_with, joined_matches, may_join, match_join_row, match_joins, kept, SideStores, State, a_join, a_choice, a_chain, sides_kept, sides_count, sides_stored, joins_both, levels_new, levels_after, all_levels, no_levels, levels_above, repeated_sets, step_new, step_state, contents_of}
+use Rattle.match_pruning.specs.inner.Needed.{PendingLeftTrees, is_needed, needed, closed, pending_lefts_right, pending_lefts_part, needed_trees}
 use Rattle.match_stream.specs.inner.Totals.{held_after, retained_at, AdmitsRight, AdmitLevels, Admits}
 use Rattle.match_pruning.proofs.NeededLemmas.{needed_all}
 
@@ -53,15 +53,15 @@ kept_some w t f (x ∷ xs) = by (retains w x.earliest t) (f x) refl refl (kept_s
 
 pub kept_needed : (t : ℤ) (j : Join) (s : SideStores) (ahead : List PendingLeftTrees) (xs : List PartialMatchTree) →
     kept s.right_window t (needed t (pending_lefts_right j s ahead) xs) ≡ kept s.right_window t xs
-kept_needed t join.Then s ahead xs = kept_some s.right_window t (λ p. list_any (λ l. may_join join.Then l p && is_needed t ahead (joined join.Then l p)) s.left) xs
+kept_needed t join.Then s ahead xs = kept_some s.right_window t (λ p. list_any (λ l. may_join join.Then l p && is_needed t ahead (joined_matches join.Then l p)) s.left) xs
 kept_needed t join.Both s ahead xs = ap (kept s.right_window t) (needed_all t xs)
 kept_needed t join.Repeats s ahead xs = ap (kept s.right_window t) (needed_all t xs)
 
--- ---- what is joined to something that is needed is needed
+-- ---- what is joined_matches to something that is needed is needed
 
 -- the test of a pair
 abbrev pub pairs_up : ℤ → List PendingLeftTrees → Join → PartialMatchTree → PartialMatchTree → Bool
-pairs_up t ahead j l p = may_join j l p && is_needed t ahead (joined j l p)
+pairs_up t ahead j l p = may_join j l p && is_needed t ahead (joined_matches j l p)
 
 or_more : (a b : Bool) → b ≡ true → (a || b) ≡ true
 or_more true b h = refl
@@ -71,13 +71,13 @@ or_first : (a b : Bool) → a ≡ true → (a || b) ≡ true
 or_first a b h = rw h refl
 
 row_needed : (t : ℤ) (ahead : List PendingLeftTrees) (j : Join) (l : PartialMatchTree) (g : PartialMatchTree → Bool) (xs : List PartialMatchTree) → ((p : PartialMatchTree) → pairs_up t ahead j l p ≡ true → g p ≡ true) →
-    needed t ahead (join_row j l (filter g xs)) ≡ needed t ahead (join_row j l xs)
+    needed t ahead (match_join_row j l (filter g xs)) ≡ needed t ahead (match_join_row j l xs)
 row_needed t ahead j l g [] h = refl
-row_needed t ahead j l g (x ∷ xs) h = by (g x) (may_join j l x) (is_needed t ahead (joined j l x)) refl refl refl (row_needed t ahead j l g xs h) where
-  by : (a b c : Bool) → g x ≡ a → may_join j l x ≡ b → is_needed t ahead (joined j l x) ≡ c →
-      needed t ahead (join_row j l (filter g xs)) ≡ needed t ahead (join_row j l xs) →
-      needed t ahead (join_row j l (filter g (x ∷ xs))) ≡ needed t ahead (join_row j l (x ∷ xs))
-  by true true true ea eb ec ih = rw (ea, eb, ec) (ap (λ z. joined j l x ∷ z) ih)
+row_needed t ahead j l g (x ∷ xs) h = by (g x) (may_join j l x) (is_needed t ahead (joined_matches j l x)) refl refl refl (row_needed t ahead j l g xs h) where
+  by : (a b c : Bool) → g x ≡ a → may_join j l x ≡ b → is_needed t ahead (joined_matches j l x) ≡ c →
+      needed t ahead (match_join_row j l (filter g xs)) ≡ needed t ahead (match_join_row j l xs) →
+      needed t ahead (match_join_row j l (filter g (x ∷ xs))) ≡ needed t ahead (match_join_row j l (x ∷ xs))
+  by true true true ea eb ec ih = rw (ea, eb, ec) (ap (λ z. joined_matches j l x ∷ z) ih)
   by true true false ea eb ec ih = rw (ea, eb, ec) ih
   by true false c ea eb ec ih = rw (ea, eb) ih
   by false true true ea eb ec ih = absurd (let excludes : pairs_up t ahead j l x ≡ true = rw (eb, ec) refl in let no : true ≡ false = sym (h x excludes) ∙ ea in cc)
@@ -86,66 +86,66 @@ row_needed t ahead j l g (x ∷ xs) h = by (g x) (may_join j l x) (is_needed t a
 
 some_needed : (t : ℤ) (ahead : List PendingLeftTrees) (j : Join) (g : PartialMatchTree → Bool) (ls xs : List PartialMatchTree) →
     ((p : PartialMatchTree) → list_any (λ l. pairs_up t ahead j l p) ls ≡ true → g p ≡ true) →
-    needed t ahead (joins j ls (filter g xs)) ≡ needed t ahead (joins j ls xs)
+    needed t ahead (match_joins j ls (filter g xs)) ≡ needed t ahead (match_joins j ls xs)
 some_needed t ahead j g [] xs h = refl
 some_needed t ahead j g (l ∷ ls) xs h =
-    filter-append (is_needed t ahead) (join_row j l (filter g xs)) (joins j ls (filter g xs))
-    ∙ ap (λ z. z ++ needed t ahead (joins j ls (filter g xs))) (row_needed t ahead j l g xs (λ p k. h p (or_first (pairs_up t ahead j l p) (list_any (λ l. pairs_up t ahead j l p) ls) k)))
-    ∙ ap (λ z. needed t ahead (join_row j l xs) ++ z) (some_needed t ahead j g ls xs (λ p k. h p (or_more (pairs_up t ahead j l p) (list_any (λ l. pairs_up t ahead j l p) ls) k)))
-    ∙ sym (filter-append (is_needed t ahead) (join_row j l xs) (joins j ls xs))
+    filter-append (is_needed t ahead) (match_join_row j l (filter g xs)) (match_joins j ls (filter g xs))
+    ∙ ap (λ z. z ++ needed t ahead (match_joins j ls (filter g xs))) (row_needed t ahead j l g xs (λ p k. h p (or_first (pairs_up t ahead j l p) (list_any (λ l. pairs_up t ahead j l p) ls) k)))
+    ∙ ap (λ z. needed t ahead (match_join_row j l xs) ++ z) (some_needed t ahead j g ls xs (λ p k. h p (or_more (pairs_up t ahead j l p) (list_any (λ l. pairs_up t ahead j l p) ls) k)))
+    ∙ sym (filter-append (is_needed t ahead) (match_join_row j l xs) (match_joins j ls xs))
 
 pub joins_needed : (t : ℤ) (j : Join) (s : SideStores) (ahead : List PendingLeftTrees) (left right : List PartialMatchTree) →
     needed t ahead (joins_both j s left (needed t (pending_lefts_right j s ahead) right)) ≡ needed t ahead (joins_both j s left right)
 joins_needed t j s ahead left right =
-    filter-append (is_needed t ahead) (joins j left s.right) (joins j s.left (needed t (pending_lefts_right j s ahead) right))
-    ∙ ap (λ z. needed t ahead (joins j left s.right) ++ z) (by j)
-    ∙ sym (filter-append (is_needed t ahead) (joins j left s.right) (joins j s.left right)) where
-      by : (j : Join) → needed t ahead (joins j s.left (needed t (pending_lefts_right j s ahead) right)) ≡ needed t ahead (joins j s.left right)
+    filter-append (is_needed t ahead) (match_joins j left s.right) (match_joins j s.left (needed t (pending_lefts_right j s ahead) right))
+    ∙ ap (λ z. needed t ahead (match_joins j left s.right) ++ z) (by j)
+    ∙ sym (filter-append (is_needed t ahead) (match_joins j left s.right) (match_joins j s.left right)) where
+      by : (j : Join) → needed t ahead (match_joins j s.left (needed t (pending_lefts_right j s ahead) right)) ≡ needed t ahead (match_joins j s.left right)
       by join.Then = some_needed t ahead join.Then (is_needed t (pending_lefts_right join.Then s ahead)) s.left right
           (λ p k. or_more (retains s.right_window p.earliest t) (list_any (λ l. pairs_up t ahead join.Then l p) s.left) k)
-      by join.Both = ap (λ z. needed t ahead (joins join.Both s.left z)) (needed_all t right)
-      by join.Repeats = ap (λ z. needed t ahead (joins join.Repeats s.left z)) (needed_all t right)
+      by join.Both = ap (λ z. needed t ahead (match_joins join.Both s.left z)) (needed_all t right)
+      by join.Repeats = ap (λ z. needed t ahead (match_joins join.Repeats s.left z)) (needed_all t right)
 
 -- ---- and counts
 
--- one more on the right is joined as often as something on the left pairs up with it
+-- one more on the right is joined_matches as often as something on the left pairs up with it
 one_more : (t : ℤ) (ahead : List PendingLeftTrees) (j : Join) (ls : List PartialMatchTree) (x : PartialMatchTree) (xs : List PartialMatchTree) →
-    length (needed t ahead (joins j ls xs)) + cond (list_any (λ l. pairs_up t ahead j l x) ls) 1 0 ≤ length (needed t ahead (joins j ls (x ∷ xs)))
+    length (needed t ahead (match_joins j ls xs)) + cond (list_any (λ l. pairs_up t ahead j l x) ls) 1 0 ≤ length (needed t ahead (match_joins j ls (x ∷ xs)))
 one_more t ahead j [] x xs = omega arith
-one_more t ahead j (l ∷ ls) x xs = by (may_join j l x) (is_needed t ahead (joined j l x)) refl refl (one_more t ahead j ls x xs) where
-  both : (ys : List PartialMatchTree) → length (needed t ahead (joins j (l ∷ ls) ys)) ≡ length (needed t ahead (join_row j l ys)) + length (needed t ahead (joins j ls ys))
-  both ys = ap length (filter-append (is_needed t ahead) (join_row j l ys) (joins j ls ys)) ∙ length-append (needed t ahead (join_row j l ys)) (needed t ahead (joins j ls ys))
+one_more t ahead j (l ∷ ls) x xs = by (may_join j l x) (is_needed t ahead (joined_matches j l x)) refl refl (one_more t ahead j ls x xs) where
+  both : (ys : List PartialMatchTree) → length (needed t ahead (match_joins j (l ∷ ls) ys)) ≡ length (needed t ahead (match_join_row j l ys)) + length (needed t ahead (match_joins j ls ys))
+  both ys = ap length (filter-append (is_needed t ahead) (match_join_row j l ys) (match_joins j ls ys)) ∙ length-append (needed t ahead (match_join_row j l ys)) (needed t ahead (match_joins j ls ys))
 
   at_most : (a : Bool) → cond a 1 0 ≤ 1
   at_most true = omega arith
   at_most false = omega arith
 
-  by : (a b : Bool) → may_join j l x ≡ a → is_needed t ahead (joined j l x) ≡ b →
-      length (needed t ahead (joins j ls xs)) + cond (list_any (λ l. pairs_up t ahead j l x) ls) 1 0 ≤ length (needed t ahead (joins j ls (x ∷ xs))) →
-      length (needed t ahead (joins j (l ∷ ls) xs)) + cond (list_any (λ l. pairs_up t ahead j l x) (l ∷ ls)) 1 0 ≤ length (needed t ahead (joins j (l ∷ ls) (x ∷ xs)))
+  by : (a b : Bool) → may_join j l x ≡ a → is_needed t ahead (joined_matches j l x) ≡ b →
+      length (needed t ahead (match_joins j ls xs)) + cond (list_any (λ l. pairs_up t ahead j l x) ls) 1 0 ≤ length (needed t ahead (match_joins j ls (x ∷ xs))) →
+      length (needed t ahead (match_joins j (l ∷ ls) xs)) + cond (list_any (λ l. pairs_up t ahead j l x) (l ∷ ls)) 1 0 ≤ length (needed t ahead (match_joins j (l ∷ ls) (x ∷ xs)))
   by true true ea eb ih =
-      let row : length (needed t ahead (join_row j l (x ∷ xs))) ≡ suc (length (needed t ahead (join_row j l xs))) = rw (ea, eb) refl in
+      let row : length (needed t ahead (match_join_row j l (x ∷ xs))) ≡ suc (length (needed t ahead (match_join_row j l xs))) = rw (ea, eb) refl in
       let most = at_most (list_any (λ l. pairs_up t ahead j l x) (l ∷ ls)) in
       omega (arith, both xs, both (x ∷ xs), row, ih, most)
   by true false ea eb ih =
-      let row : length (needed t ahead (join_row j l (x ∷ xs))) ≡ length (needed t ahead (join_row j l xs)) = rw (ea, eb) refl in
+      let row : length (needed t ahead (match_join_row j l (x ∷ xs))) ≡ length (needed t ahead (match_join_row j l xs)) = rw (ea, eb) refl in
       let same : list_any (λ l. pairs_up t ahead j l x) (l ∷ ls) ≡ list_any (λ l. pairs_up t ahead j l x) ls = rw (ea, eb) refl in
       let bit : cond (list_any (λ l. pairs_up t ahead j l x) (l ∷ ls)) 1 0 ≡ cond (list_any (λ l. pairs_up t ahead j l x) ls) 1 0 = ap {B = ℕ} (λ z. cond z 1 0) same in
       omega (arith, both xs, both (x ∷ xs), row, ih, bit)
   by false b ea eb ih =
-      let row : length (needed t ahead (join_row j l (x ∷ xs))) ≡ length (needed t ahead (join_row j l xs)) = rw ea refl in
+      let row : length (needed t ahead (match_join_row j l (x ∷ xs))) ≡ length (needed t ahead (match_join_row j l xs)) = rw ea refl in
       let same : list_any (λ l. pairs_up t ahead j l x) (l ∷ ls) ≡ list_any (λ l. pairs_up t ahead j l x) ls = rw ea refl in
       let bit : cond (list_any (λ l. pairs_up t ahead j l x) (l ∷ ls)) 1 0 ≡ cond (list_any (λ l. pairs_up t ahead j l x) ls) 1 0 = ap {B = ℕ} (λ z. cond z 1 0) same in
       omega (arith, both xs, both (x ∷ xs), row, ih, bit)
 
 after_left_count : (t : ℤ) (ahead : List PendingLeftTrees) (w : Window) (ls xs : List PartialMatchTree) →
-    length (filter (λ p. retains w p.earliest t || list_any (λ l. pairs_up t ahead join.Then l p) ls) xs) ≤ length (kept w t xs) + length (needed t ahead (joins join.Then ls xs))
+    length (filter (λ p. retains w p.earliest t || list_any (λ l. pairs_up t ahead join.Then l p) ls) xs) ≤ length (kept w t xs) + length (needed t ahead (match_joins join.Then ls xs))
 after_left_count t ahead w ls [] = omega arith
 after_left_count t ahead w ls (x ∷ xs) = by (retains w x.earliest t) (list_any (λ l. pairs_up t ahead join.Then l x) ls) refl refl (after_left_count t ahead w ls xs) (one_more t ahead join.Then ls x xs) where
   by : (a b : Bool) → retains w x.earliest t ≡ a → list_any (λ l. pairs_up t ahead join.Then l x) ls ≡ b →
-      length (filter (λ p. retains w p.earliest t || list_any (λ l. pairs_up t ahead join.Then l p) ls) xs) ≤ length (kept w t xs) + length (needed t ahead (joins join.Then ls xs)) →
-      length (needed t ahead (joins join.Then ls xs)) + cond (list_any (λ l. pairs_up t ahead join.Then l x) ls) 1 0 ≤ length (needed t ahead (joins join.Then ls (x ∷ xs))) →
-      length (filter (λ p. retains w p.earliest t || list_any (λ l. pairs_up t ahead join.Then l p) ls) (x ∷ xs)) ≤ length (kept w t (x ∷ xs)) + length (needed t ahead (joins join.Then ls (x ∷ xs)))
+      length (filter (λ p. retains w p.earliest t || list_any (λ l. pairs_up t ahead join.Then l p) ls) xs) ≤ length (kept w t xs) + length (needed t ahead (match_joins join.Then ls xs)) →
+      length (needed t ahead (match_joins join.Then ls xs)) + cond (list_any (λ l. pairs_up t ahead join.Then l x) ls) 1 0 ≤ length (needed t ahead (match_joins join.Then ls (x ∷ xs))) →
+      length (filter (λ p. retains w p.earliest t || list_any (λ l. pairs_up t ahead join.Then l p) ls) (x ∷ xs)) ≤ length (kept w t (x ∷ xs)) + length (needed t ahead (match_joins join.Then ls (x ∷ xs)))
   by true b ea eb ih more =
       let one : length (filter (λ p. retains w p.earliest t || list_any (λ l. pairs_up t ahead join.Then l p) ls) (x ∷ xs))
       ≡ suc (length (filter (λ p. retains w p.earliest t || list_any (λ l. pairs_up t ahead join.Then l p) ls) xs)) = rw ea refl in
@@ -167,11 +167,11 @@ after_left_count t ahead w ls (x ∷ xs) = by (retains w x.earliest t) (list_any
 pub right_count : (t : ℤ) (j : Join) (s : SideStores) (ahead : List PendingLeftTrees) (left right : List PartialMatchTree) → AdmitsRight j s.right_window t right →
     length (needed t (pending_lefts_right j s ahead) right) ≤ length (kept s.right_window t right) + length (needed t ahead (joins_both j s left right))
 right_count t j s ahead left right a =
-    let both = ap length (filter-append (is_needed t ahead) (joins j left s.right) (joins j s.left right))
-    ∙ length-append (needed t ahead (joins j left s.right)) (needed t ahead (joins j s.left right)) in
+    let both = ap length (filter-append (is_needed t ahead) (match_joins j left s.right) (match_joins j s.left right))
+    ∙ length-append (needed t ahead (match_joins j left s.right)) (needed t ahead (match_joins j s.left right)) in
     omega (arith, both, by j a) where
       by : (j : Join) → AdmitsRight j s.right_window t right →
-          length (needed t (pending_lefts_right j s ahead) right) ≤ length (kept s.right_window t right) + length (needed t ahead (joins j s.left right))
+          length (needed t (pending_lefts_right j s ahead) right) ≤ length (kept s.right_window t right) + length (needed t ahead (match_joins j s.left right))
       by join.Then a = after_left_count t ahead s.right_window s.left right
       by join.Both a = let same = ap length a in let all = ap length (needed_all t right) in omega (arith, same, all)
       by join.Repeats a = let same = ap length a in let all = ap length (needed_all t right) in omega (arith, same, all)
@@ -214,7 +214,7 @@ any_agree : (f g : PartialMatchTree → Bool) → ((x : PartialMatchTree) → f 
 any_agree f g h [] = refl
 any_agree f g h (x ∷ xs) = let one = h x in let rest = any_agree f g h xs in rw (one, rest) refl
 
-joined_alike : (l p q : PartialMatchTree) → Alike p q → Alike (joined join.Then l p) (joined join.Then l q)
+joined_alike : (l p q : PartialMatchTree) → Alike p q → Alike (joined_matches join.Then l p) (joined_matches join.Then l q)
 joined_alike l p q h = record {
   early = ap (int_min l.earliest) h.early;
   late = ap (int_max l.latest) h.late;
@@ -224,13 +224,13 @@ joined_alike l p q h = record {
 pub needed_alike : (t : ℤ) (ahead : List PendingLeftTrees) (p q : PartialMatchTree) → Alike p q → is_needed t ahead p ≡ is_needed t ahead q
 needed_alike t [] p q h = refl
 needed_alike t (a ∷ ahead) p q h =
-    ap (λ z. retains a.window z t || list_any (λ l. may_join join.Then l p && is_needed t ahead (joined join.Then l p)) a.left) h.early
+    ap (λ z. retains a.window z t || list_any (λ l. may_join join.Then l p && is_needed t ahead (joined_matches join.Then l p)) a.left) h.early
     ∙ ap (λ z. retains a.window q.earliest t || z)
-    (any_agree (λ l. may_join join.Then l p && is_needed t ahead (joined join.Then l p)) (λ l. may_join join.Then l q && is_needed t ahead (joined join.Then l q))
+    (any_agree (λ l. may_join join.Then l p && is_needed t ahead (joined_matches join.Then l p)) (λ l. may_join join.Then l q && is_needed t ahead (joined_matches join.Then l q))
     (λ l.
-    ap (λ z. (int_le l.latest z && disjoint l.tree p.tree) && is_needed t ahead (joined join.Then l p)) h.early
-    ∙ ap (λ z. (int_le l.latest q.earliest && z) && is_needed t ahead (joined join.Then l p)) (h.apart l.tree)
-    ∙ ap (λ z. may_join join.Then l q && z) (needed_alike t ahead (joined join.Then l p) (joined join.Then l q) (joined_alike l p q h))) a.left)
+    ap (λ z. (int_le l.latest z && disjoint l.tree p.tree) && is_needed t ahead (joined_matches join.Then l p)) h.early
+    ∙ ap (λ z. (int_le l.latest q.earliest && z) && is_needed t ahead (joined_matches join.Then l p)) (h.apart l.tree)
+    ∙ ap (λ z. may_join join.Then l q && z) (needed_alike t ahead (joined_matches join.Then l p) (joined_matches join.Then l q) (joined_alike l p q h))) a.left)
 
 -- under a constructor that has the numbers of its part
 pub needed_under : (t : ℤ) (ahead : List PendingLeftTrees) (mk : BindTree → BindTree) → ((u x : BindTree) → disjoint u (mk x) ≡ disjoint u x) → (xs : List PartialMatchTree) →
@@ -298,7 +298,7 @@ now_isnt t = grind (arith, ints)
 pub closed_needed : (t : ℤ) (w : Window) (ahead : List PendingLeftTrees) (xs : List PartialMatchTree) → needed t (record { left = []; window = closed w t } ∷ ahead) xs ≡ []
 closed_needed t w ahead [] = refl
 closed_needed t w ahead (x ∷ xs) =
-    let no = gone (is_ahead w.after_left x.earliest t) (in_seconds w.seconds x.earliest t) (from_start w.start x.earliest) (int_lt t t) (now_isnt t) in
+    let no = gone (is_ahead w.after_left x.earliest t) (lasts_at_most w.seconds x.earliest t) (ends_from_start w.start x.earliest) (int_lt t t) (now_isnt t) in
     rw no (closed_needed t w ahead xs) where
       gone : (a b c d : Bool) → d ≡ false → ((a && (b && (c && d))) || false) ≡ false
       gone true true true d h = rw h refl
@@ -310,7 +310,7 @@ few_none : (xs : List (List PartialMatchTree)) → length xs ≤ 0 → xs ≡ []
 few_none [] h = refl
 few_none (x ∷ xs) h = absurd (omega arith)
 
--- what is new at a level, what is held there and what is chosen, given what is needed of the part
+-- what is new at a level, what is held there and what is needed_trees, given what is needed of the part
 pub part_after : (w : Window) (t : ℤ) (count : ℕ) (ahead : List PendingLeftTrees) (new : List PartialMatchTree) (xs : List (List PartialMatchTree)) → length xs ≤ count - 1 →
     levels_after w t (map (held_with Single) (needed t (pending_lefts_part count w t ahead) new)) (needed t (pending_lefts_part count w t ahead) new) (all_levels count xs)
     ≡ levels_after w t (map (held_with Single) new) new (all_levels count xs)
@@ -319,8 +319,8 @@ part_after w t (suc zero) ahead new xs few = let none = few_none xs (omega (arit
 part_after w t (suc (suc k)) ahead new xs few = ap (λ z. levels_after w t (map (held_with Single) z) z (all_levels (suc (suc k)) xs)) (needed_all t new)
 
 pub part_new : (w : Window) (t : ℤ) (count : ℕ) (ahead : List PendingLeftTrees) (new : List PartialMatchTree) (xs : List (List PartialMatchTree)) → length xs ≤ count - 1 →
-    chosen count t ahead (levels_new w t (map (held_with Single) (needed t (pending_lefts_part count w t ahead) new)) (needed t (pending_lefts_part count w t ahead) new) (all_levels count xs))
-    ≡ needed t ahead (counted count (levels_new w t (map (held_with Single) new) new (all_levels count xs)))
+    needed_trees count t ahead (levels_new w t (map (held_with Single) (needed t (pending_lefts_part count w t ahead) new)) (needed t (pending_lefts_part count w t ahead) new) (all_levels count xs))
+    ≡ needed t ahead (repeated_sets count (levels_new w t (map (held_with Single) new) new (all_levels count xs)))
 part_new w t zero ahead new xs few = refl
 part_new w t (suc zero) ahead new xs few =
     let none = few_none xs (omega (arith, few)) in
@@ -328,12 +328,12 @@ part_new w t (suc zero) ahead new xs few =
 part_new w t (suc (suc k)) ahead new xs few =
     ap (λ z. needed t ahead (levels_new w t (map (held_with Single) z) z (all_levels (suc (suc k)) xs))) (needed_all t new)
 
--- what is needed of the part is held at the first level, or is chosen
+-- what is needed of the part is held at the first level, or is needed_trees
 pub part_count : (w : Window) (t : ℤ) (count : ℕ) (ahead : List PendingLeftTrees) (new : List PartialMatchTree) (xs : List (List PartialMatchTree)) → length xs ≤ count - 1 →
     AdmitLevels w t (map (held_with Single) new) new (all_levels count xs) →
     length (needed t (pending_lefts_part count w t ahead) new)
     ≤ held_count (levels_after w t (map (held_with Single) new) new (all_levels count xs))
-    + length (needed t ahead (counted count (levels_new w t (map (held_with Single) new) new (all_levels count xs))))
+    + length (needed t ahead (repeated_sets count (levels_new w t (map (held_with Single) new) new (all_levels count xs))))
 part_count w t zero ahead new xs few a = let none = ap length (closed_needed t w ahead new) in omega (arith, none)
 part_count w t (suc zero) ahead new xs few a =
     let none = few_none xs (omega (arith, few)) in
@@ -367,7 +367,7 @@ pub held_chain : (row : Row) (truths : List Bool) (part : State) (count : ℕ) (
 held_chain row truths part count w levels =
     held_append (levels_after w row.last (map (held_with Single) (step_new row truths part)) (step_new row truths part) levels) (contents_of (step_state row truths part))
 
--- ---- a node that joins two sides, step by step: what its stores keep, what is new on the left and held there, the same on the right
+-- ---- a node that match_joins two sides, step by step: what its stores keep, what is new on the left and held there, the same on the right
 
 module _ (row : Row) (truths : List Bool) (ahead : List PendingLeftTrees) (j : Join) (l r z : State) (s k m : SideStores) (is : z ≡ a_join j l r s) (kept_is : k ≡ sides_kept row.last s) (same : m ≡ k) where
   join_held : held_after row truths z
@@ -487,7 +487,7 @@ module _ (row : Row) (truths : List Bool) (ahead : List PendingLeftTrees) (part 
   chain_held = ap (held_after row truths) is ∙ held_chain row truths part count w (all_levels count xs)
 
   chain_new : length (needed row.last ahead (step_new row truths z))
-      ≡ length (needed row.last ahead (counted count (levels_new w row.last (map (held_with Single) (step_new row truths part)) (step_new row truths part) (all_levels count xs))))
+      ≡ length (needed row.last ahead (repeated_sets count (levels_new w row.last (map (held_with Single) (step_new row truths part)) (step_new row truths part) (all_levels count xs))))
   chain_new = ap (λ y. length (needed row.last ahead (step_new row truths y))) is
 
   pub over_part : Admits row truths z → (budget : ℕ) → (Admits row truths part → budget < retained_at row truths (pending_lefts_part count w row.last ahead) part) → budget < retained_at row truths ahead z
@@ -499,21 +499,21 @@ module _ (row : Row) (truths : List Bool) (ahead : List PendingLeftTrees) (part 
       room1 + held_after row truths part ≡ budget →
       (AdmitLevels w row.last (map (held_with Single) new) new (all_levels count xs) →
       room1 < held_count (levels_after w row.last (map (held_with Single) new) new (all_levels count xs))
-      + length (chosen count row.last ahead (levels_new w row.last (map (held_with Single) new) new (all_levels count xs)))) →
+      + length (needed_trees count row.last ahead (levels_new w row.last (map (held_with Single) new) new (all_levels count xs)))) →
       budget < retained_at row truths ahead z
   over_levels new f a budget room1 e over =
       let b = subst (Admits row truths) is a in
       let c = part_admits w row.last count ahead (step_new row truths part) xs few b.1 in
       let d = over (subst (λ (y : List PartialMatchTree). AdmitLevels w row.last (map (held_with Single) y) y (all_levels count xs)) (sym f) c) in
       let held = ap (λ y. held_count (levels_after w row.last (map (held_with Single) y) y (all_levels count xs))) f ∙ ap held_count (part_after w row.last count ahead (step_new row truths part) xs few) in
-      let new_is = ap (λ y. length (chosen count row.last ahead (levels_new w row.last (map (held_with Single) y) y (all_levels count xs)))) f
+      let new_is = ap (λ y. length (needed_trees count row.last ahead (levels_new w row.last (map (held_with Single) y) y (all_levels count xs)))) f
       ∙ ap length (part_new w row.last count ahead (step_new row truths part) xs few) in
       omega (arith, chain_held, chain_new, d, e, held, new_is)
 
   pub chain_is : (new : List PartialMatchTree) → new ≡ needed row.last (pending_lefts_part count w row.last ahead) (step_new row truths part) →
-      chosen count row.last ahead (levels_new w row.last (map (held_with Single) new) new (all_levels count xs)) ≡ needed row.last ahead (step_new row truths z)
+      needed_trees count row.last ahead (levels_new w row.last (map (held_with Single) new) new (all_levels count xs)) ≡ needed row.last ahead (step_new row truths z)
   chain_is new f =
-      ap (λ y. chosen count row.last ahead (levels_new w row.last (map (held_with Single) y) y (all_levels count xs))) f
+      ap (λ y. needed_trees count row.last ahead (levels_new w row.last (map (held_with Single) y) y (all_levels count xs))) f
       ∙ part_new w row.last count ahead (step_new row truths part) xs few
       ∙ sym (ap (λ y. needed row.last ahead (step_new row truths y)) is)
 

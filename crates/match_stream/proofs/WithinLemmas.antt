@@ -11,13 +11,13 @@ use Rattle.match_bindings.specs.NumberedPattern.{NumberedPattern, Leaf, Both, Th
 use Rattle.match_bindings.specs.BindTree.{BindTree, One, Pair, First, Second, Empty, Single, More, has}
 use Rattle.match_bindings.specs.Log.{Observed, observed_in}
 use Rattle.match_bindings.specs.Span.{earliest, later_by}
-use Rattle.match_bindings.specs.Once.{same, count}
+use Rattle.match_bindings.specs.Once.{is_same_tree, count}
 use Rattle.match_bindings.proofs.IsBindingLemmas.{lt_true}
-use Rattle.match_pruning.specs.Stores.{Store, level, levels, stores_under}
-use Rattle.match_pruning.specs.PartialMatchTree.{PartialMatchTree, hold}
+use Rattle.match_pruning.specs.Stores.{Store, store_level, levels, stores_under}
+use Rattle.match_pruning.specs.PartialMatchTree.{PartialMatchTree, partial_match_of}
 use Rattle.match_stream.specs.RetainedPart.{HoldsRetained, AreRetained, IsRetainedPart, time_of}
 use Rattle.match_pruning.specs.RowNumbers.{any_has, is_kept}
-use Rattle.match_pruning.specs.inner.Retains.{in_seconds, from_start, before_stop, is_ahead, retains}
+use Rattle.match_pruning.specs.inner.Retains.{lasts_at_most, ends_from_start, begins_before_stop, is_ahead, retains}
 use Rattle.match_bindings.proofs.OnceLemmas.{same_self}
 use Rattle.match_stream.proofs.StoreLemmas.{bit_positive}
 use Rattle.match_stream.proofs.ShapeLemmas.{Rule, to_held}
@@ -50,7 +50,7 @@ narrow_within x z seconds h = record {
 narrow_levels : (x : ℕ) (w : Bounds) (p : NumberedPattern) (n : ℕ) → IsNarrow x w.seconds → AreNarrow x (levels w p n)
 narrow_levels x w p zero h = tt
 narrow_levels x w p (suc zero) h = tt
-narrow_levels x w p (suc (suc n)) h = narrow_append x (levels w p (suc n)) (level w p (suc n) ∷ []) (narrow_levels x w p (suc n) h) (h, tt)
+narrow_levels x w p (suc (suc n)) h = narrow_append x (levels w p (suc n)) (store_level w p (suc n) ∷ []) (narrow_levels x w p (suc n) h) (h, tt)
 
 narrow_stores : (x : ℕ) (p : NumberedPattern) (w : Bounds) → IsNarrow x w.seconds → AreNarrow x (stores_under w p)
 narrow_stores x (Leaf k) w h = tt
@@ -70,7 +70,7 @@ min_right : (a b t : ℤ) → b ≤ℤ t → int_min a b ≤ℤ t
 min_right a b t h = omega (arith, ints, clamps)
 
 earliest_has : (time : ℕ → ℤ) (n : ℕ) (x : BindTree) → has n x ≡ true → earliest time x ≤ℤ time n
-earliest_has time n (One m) h = let same : n ≡ m = eqb-true n m h in rw same (le_self (time m))
+earliest_has time n (One m) h = let is_same_tree : n ≡ m = eqb-true n m h in rw is_same_tree (le_self (time m))
 earliest_has time n (Pair a b) h = elim (or_cases (has n a) (has n b) h) [
   | inl l ↦ min_left (earliest time a) (earliest time b) (time n) (earliest_has time n a l)
   | inr r ↦ min_right (earliest time a) (earliest time b) (time n) (earliest_has time n b r)
@@ -90,10 +90,10 @@ later_than now e t y x h k l = omega (arith, ints)
 -- ---- what is held
 
 -- one of the trees has it
-who_has : (o : Observed) (n : ℕ) (xs : List BindTree) → any_has n (map (hold o) xs) ≡ true → (x : BindTree) × (0 < count x xs) × (has n x ≡ true)
+who_has : (o : Observed) (n : ℕ) (xs : List BindTree) → any_has n (map (partial_match_of o) xs) ≡ true → (x : BindTree) × (0 < count x xs) × (has n x ≡ true)
 who_has o n [] h = absurd (cc)
-who_has o n (x ∷ xs) h = elim (or_cases (has n x) (any_has n (map (hold o) xs)) h) [
-  | inl l ↦ (let me : same x x ≡ true = same_self x in (x, rw me (omega arith), l))
+who_has o n (x ∷ xs) h = elim (or_cases (has n x) (any_has n (map (partial_match_of o) xs)) h) [
+  | inl l ↦ (let me : is_same_tree x x ≡ true = same_self x in (x, rw me (omega arith), l))
   | inr r ↦ (let rest = who_has o n xs r in (rest.0, omega (arith, rest.1), rest.2))
 ]
 
@@ -105,9 +105,9 @@ store_recent rule o now x n store held narrow retained h =
     let excludes = bit_positive (may_hold o store.part who.0 && retains store.window (earliest o.first who.0) now) (count who.0 all.0) (all.2 who.0) who.1 in
     let alive = (and_parts (may_hold o store.part who.0) (retains store.window (earliest o.first who.0) now) excludes).1 in
     let rest = and_parts (is_ahead store.window.after_left (earliest o.first who.0) now)
-    (in_seconds store.window.seconds (earliest o.first who.0) now && (from_start store.window.start (earliest o.first who.0) && before_stop store.window.stop now)) alive in
-    let soon = (and_parts (in_seconds store.window.seconds (earliest o.first who.0) now) (from_start store.window.start (earliest o.first who.0) && before_stop store.window.stop now) rest.1).0 in
-    let within_least = subst (λ (s : Option ℕ). in_seconds s (earliest o.first who.0) now ≡ true) narrow.is soon in
+    (lasts_at_most store.window.seconds (earliest o.first who.0) now && (ends_from_start store.window.start (earliest o.first who.0) && begins_before_stop store.window.stop now)) alive in
+    let soon = (and_parts (lasts_at_most store.window.seconds (earliest o.first who.0) now) (ends_from_start store.window.start (earliest o.first who.0) && begins_before_stop store.window.stop now) rest.1).0 in
+    let within_least = subst (λ (s : Option ℕ). lasts_at_most s (earliest o.first who.0) now ≡ true) narrow.is soon in
     later_than now (earliest o.first who.0) (o.first n) narrow.least x
     (lt_true now (later_by narrow.least (earliest o.first who.0)) within_least) (earliest_has o.first n who.0 who.2) narrow.most
 

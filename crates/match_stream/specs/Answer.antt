@@ -9,7 +9,7 @@ use Rattle.match_bindings.specs.Once.{count}
 use Rattle.match_bindings.specs.Flat.{Ascends}
 use Rattle.match_pruning.specs.PartialMatchTree.{PartialMatchTree}
 use Rattle.match_stream.specs.RetainedPart.{IsRetainedPart, held_count}
-use Rattle.match_stream.specs.MatcherState.{MatcherState, Represents}
+use Rattle.match_stream.specs.MatcherState.{MatcherState, MatcherRepresents}
 
 -- a binding whose greatest observation number is the last row's
 abbrev pub EndsAtLast : NumberedPattern → List LogEntry → BindTree → Type 0
@@ -41,7 +41,7 @@ IsWithinLimit p log retained_limit = (n : ℕ) × IsRetainedCount p log n × (n 
 -- a matcher answers the last row of a log: it then represents the log, whose rows are in order, and
 -- the retained count is within its limit
 pub record AnswersRow (before after : MatcherState) (log : List LogEntry) (answer : List BindTree) : Type 0 where
-  pub represents : Represents after log
+  pub represents : MatcherRepresents after log
   pub order : IsInOrder log
   pub answers : IsAnswer (numbered_pattern before.pattern) log answer
   pub within_limit : IsWithinLimit (numbered_pattern before.pattern) log before.retained_limit

@@ -22,21 +22,21 @@ pub record MatcherState : Type 0 where
   pub contents : List (List PartialMatchTree)
 
 -- the end of the last row
-abbrev pub last_of : List LogEntry → Option ℤ
-last_of [] = None
-last_of (row ∷ []) = Some row.last
-last_of (row ∷ next ∷ rows) = last_of (next ∷ rows)
+abbrev pub log_end : List LogEntry → Option ℤ
+log_end [] = None
+log_end (row ∷ []) = Some row.last
+log_end (row ∷ next ∷ rows) = log_end (next ∷ rows)
 
 -- a matcher that hasn't ended represents a log: its stores hold exactly the retained part
-pub record Represents (state : MatcherState) (log : List LogEntry) : Type 0 where
+pub record MatcherRepresents (state : MatcherState) (log : List LogEntry) : Type 0 where
   pub runs : state.ended ≡ None
   pub rows : state.rows ≡ length log
-  pub last : state.last ≡ last_of log
+  pub last : state.last ≡ log_end log
   pub retained : IsRetainedPart (numbered_pattern state.pattern) log state.contents
 
 -- a log with one more row
-abbrev pub with_row : List LogEntry → ℤ → ℤ → List Bool → List LogEntry
-with_row log first last truths = log ++ record { first = first; last = last; truths = truths } ∷ []
+abbrev pub with_log_row : List LogEntry → ℤ → ℤ → List Bool → List LogEntry
+with_log_row log first last truths = log ++ record { first = first; last = last; truths = truths } ∷ []
 
 -- a row ends earlier than the row before it
 abbrev pub Falls : Option ℤ → ℤ → Type 0

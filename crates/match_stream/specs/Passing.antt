@@ -3,7 +3,7 @@ use Rattle.std.specs.Prelude.{◌≡◌, ℕ, ℤ, ⊤, false, Some, List, [], �
 use Rattle.match_bindings.specs.declared.log_entry.LogEntry.{LogEntry}
 use Rattle.match_bindings.specs.BindTree.{BindTree}
 use Rattle.match_bindings.specs.Log.{IsInOrder, truth}
-use Rattle.match_stream.specs.MatcherState.{last_of}
+use Rattle.match_stream.specs.MatcherState.{log_end}
 
 -- no leaf holds at the row
 abbrev pub IsNonmatching : LogEntry → Type 0
@@ -19,7 +19,7 @@ pub record ContinuesWithoutMatch (log nonmatching : List LogEntry) (rows : ℕ) 
   pub count : length nonmatching ≡ rows
   pub none_holds : AreNonmatching nonmatching
   pub order : IsInOrder (log ++ nonmatching)
-  pub last_is : last_of nonmatching ≡ Some last
+  pub last_is : log_end nonmatching ≡ Some last
 
 -- an empty answer for each row
 abbrev pub no_answers : List LogEntry → List (List BindTree)

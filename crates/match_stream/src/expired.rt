@@ -2,7 +2,7 @@
 
 ghost use Rattle.std.specs.Prelude.{◌≡◌, map, length};
 ghost use Rattle.match_pruning.specs.inner.Steps.{kept, all_levels, expired};
-ghost use Rattle.match_stream.specs.inner.Nodes.{store_lists, state_of};
+ghost use Rattle.match_stream.specs.inner.Nodes.{store_lists, node_state};
 ghost use Rattle.match_pruning.specs.inner.UpToOrder.{AreSameLevels, IsSameUpToOrder};
 
 use crate::levels::Levels;
@@ -15,7 +15,7 @@ use stix_times::Instant;
 /// order. Takes no memory. Each kind of node is handled in a function that isn't inlined, so that a
 /// frame of the recursion stays small: a pattern nests up to 1,024 brackets.
 pub(crate) fn clear(node: &mut Node, now: Instant)
-    ensures { IsSameUpToOrder (expired now (state_of node.old)) (state_of node.new) }
+    ensures { IsSameUpToOrder (expired now (node_state node.old)) (node_state node.new) }
 {
     match node {
         Node::Leaves(_) => {}

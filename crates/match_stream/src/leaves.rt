@@ -11,7 +11,7 @@ ghost use Rattle.match_bindings.specs.BindTree.{Second, firsts, tree_of};
 ghost use Rattle.match_pruning.specs.inner.PartialMatches.{partial_match_tree, partial_match_trees};
 ghost use Rattle.match_pruning.specs.inner.Retains.{retains};
 ghost use Rattle.match_pruning.specs.inner.Steps.{held_with, a_leaf, a_choice, row_alone, truth_at};
-ghost use Rattle.match_pruning.specs.inner.Steps.{IsNonmatching, step_new};
+ghost use Rattle.match_pruning.specs.inner.Steps.{IsNonmatchingChain, step_new};
 ghost use Rattle.match_pruning.specs.inner.Needed.{is_needed, needed};
 ghost use Rattle.match_pruning.specs.inner.PendingLefts.{pending_lefts_of};
 ghost use Rattle.match_pruning.specs.inner.Numbers.{numbers};
@@ -75,7 +75,7 @@ impl Leaves {
 
     /// Whether some leaf holds at the row.
     pub fn any_holds(&self, truths: &[bool]) -> bool
-        ensures { result ≡ false → IsNonmatching truths.now (leaves_of self.now) }
+        ensures { result ≡ false → IsNonmatchingChain truths.now (leaves_of self.now) }
     {
         if holds(truths, self.first) {
             return true;

@@ -12,10 +12,10 @@ ghost use Rattle.match_pruning.specs.declared.join.Join.TheVariants as join;
 ghost use Rattle.match_pruning.specs.declared.stop.Stop.TheVariants as stop;
 ghost use Rattle.match_stream.specs.RetainedPart.{held_count};
 ghost use Rattle.match_pruning.specs.inner.PartialMatches.{partial_match_tree, partial_match_trees};
-ghost use Rattle.match_pruning.specs.inner.Steps.{held_with, kept, stored, joins, levels_new};
+ghost use Rattle.match_pruning.specs.inner.Steps.{held_with, kept, stored, match_joins, levels_new};
 ghost use Rattle.match_pruning.specs.inner.Steps.{levels_after, levels_above, all_levels, risen};
-ghost use Rattle.match_pruning.specs.inner.Steps.{raised, counted};
-ghost use Rattle.match_pruning.specs.inner.Needed.{needed, chosen};
+ghost use Rattle.match_pruning.specs.inner.Steps.{raised, repeated_sets};
+ghost use Rattle.match_pruning.specs.inner.Needed.{needed, needed_trees};
 ghost use Rattle.match_pruning.specs.inner.PendingLefts.{pending_lefts_of};
 ghost use Rattle.match_stream.specs.inner.Totals.{AdmitLevels};
 ghost use Rattle.match_stream.specs.inner.Nodes.{store_list, store_lists};
@@ -47,7 +47,7 @@ impl Levels {
         budget: &mut Budget,
     ) -> Result<Vec<PartialMatch>, Stop>
         ensures new { IfOk result (λ sets. partial_match_trees sets.items
-            ≡ chosen self.old.count now (pending_lefts_of pending_lefts.now)
+            ≡ needed_trees self.old.count now (pending_lefts_of pending_lefts.now)
             (levels_new self.old.window now (map (held_with Single) (partial_match_trees new.now))
             (partial_match_trees new.now)
             (all_levels self.old.count (store_lists self.old.stores.items)))) }
@@ -70,7 +70,7 @@ impl Levels {
             (levels_after self.old.window now
             (map (held_with Single) (partial_match_trees new.now)) (partial_match_trees new.now)
             (all_levels self.old.count (store_lists self.old.stores.items)))
-            + length (chosen self.old.count now (pending_lefts_of pending_lefts.now)
+            + length (needed_trees self.old.count now (pending_lefts_of pending_lefts.now)
             (levels_new self.old.window now (map (held_with Single) (partial_match_trees new.now))
             (partial_match_trees new.now)
             (all_levels self.old.count (store_lists self.old.stores.items)))) }
@@ -106,7 +106,7 @@ impl Levels {
         requires { length self.old.stores.items + 1 ≤ self.old.count - 1 }
         ensures new { IfOk result (λ answer. partial_match_trees answer.items
             ≡ needed now (pending_lefts_of pending_lefts.now)
-            (joins join.Repeats (kept self.old.window now (store_list level))
+            (match_joins join.Repeats (kept self.old.window now (store_list level))
             (partial_match_trees new.now))) }
         ensures kept { OnOk result (store_lists self.new.stores.items
             ≡ store_lists self.old.stores.items
@@ -121,7 +121,7 @@ impl Levels {
             → budget.old.left < length (stored self.old.window now (store_list level)
             (partial_match_trees sets.items))
             + length (needed now (pending_lefts_of pending_lefts.now)
-            (joins join.Repeats (kept self.old.window now (store_list level))
+            (match_joins join.Repeats (kept self.old.window now (store_list level))
             (partial_match_trees new.now))) }
     {
         let mut store = level;
@@ -149,7 +149,7 @@ impl Levels {
         budget: &mut Budget,
     ) -> Result<Vec<PartialMatch>, Stop>
         ensures new { IfOk result (λ answer. partial_match_trees answer.items
-            ≡ counted self.old.count (risen
+            ≡ repeated_sets self.old.count (risen
             (levels_above self.old.count (store_lists self.old.stores.items))
             (partial_match_trees sets.items))) }
         ensures kept { OnOk result (all_levels self.new.count (store_lists self.new.stores.items)
@@ -252,7 +252,7 @@ fn step_level(
 ) -> Result<Vec<PartialMatch>, Stop>
     ensures new { IfOk result (λ above. partial_match_trees above.items
         ≡ needed now (pending_lefts_of pending_lefts.now)
-        (joins join.Repeats (kept window.now now (store_list level.old))
+        (match_joins join.Repeats (kept window.now now (store_list level.old))
         (partial_match_trees new.now))) }
     ensures kept { OnOk result (store_list level.new
         ≡ stored window.now now (store_list level.old) (partial_match_trees sets.items)) }
@@ -263,7 +263,7 @@ fn step_level(
         → budget.old.left < length (stored window.now now (store_list level.old)
         (partial_match_trees sets.items))
         + length (needed now (pending_lefts_of pending_lefts.now)
-        (joins join.Repeats (kept window.now now (store_list level.old))
+        (match_joins join.Repeats (kept window.now now (store_list level.old))
         (partial_match_trees new.now))) }
 {
     level.expire(window, now);

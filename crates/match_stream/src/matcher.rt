@@ -7,7 +7,7 @@ ghost use Rattle.match_bindings.specs.Log.{IsInOrder};
 ghost use Rattle.match_stream.specs.declared.ending.Ending.{Ending};
 ghost use Rattle.match_stream.specs.declared.ending.Ending.TheVariants as ending;
 ghost use Rattle.match_stream.specs.declared.ending.MatchRefusal.TheVariants as refusal;
-ghost use Rattle.match_stream.specs.MatcherState.{Represents, with_row};
+ghost use Rattle.match_stream.specs.MatcherState.{MatcherRepresents, with_log_row};
 ghost use Rattle.match_stream.specs.Answer.{AnswersRow, IsOverLimitAtRow, AnswersAfter};
 ghost use Rattle.match_stream.specs.Passing.{ContinuesWithoutMatch, no_answers};
 ghost use Rattle.match_bindings.specs.NumberedPattern.{numbered_pattern};
@@ -59,7 +59,7 @@ impl<'p> Matcher<'p> {
         retained_limit: u64,
     ) -> Result<Matcher<'p>, NoMemory>
         requires { leaves pattern.now < 2 ^ 32 }
-        ensures represents { IfOk result (λ matcher. Represents matcher []) }
+        ensures represents { IfOk result (λ matcher. MatcherRepresents matcher []) }
         ensures pattern { IfOk result (λ matcher. matcher.pattern ≡ pattern.now) }
         ensures retained_limit { IfOk result (λ matcher. matcher.retained_limit ≡ retained_limit) }
     {
@@ -97,14 +97,14 @@ impl<'p> Matcher<'p> {
         requires counts { self.old.ended ≡ None → self.old.rows + 1 < 2 ^ 64 }
         // For every log that the matcher represented: it represents the log with this row, and
         // answers it.
-        ensures answers { (log : List LogEntry) → Represents self.old log → IsInOrder log
+        ensures answers { (log : List LogEntry) → MatcherRepresents self.old log → IsInOrder log
             → IfOk result (λ binds. AnswersRow self.old self.new
-            (with_row log first last truths.now) (map tree_of binds)) }
+            (with_log_row log first last truths.now) (map tree_of binds)) }
         // The limit is reported only where the retained count really exceeds it.
-        ensures over_limit { (log : List LogEntry) → Represents self.old log → IsInOrder log
+        ensures over_limit { (log : List LogEntry) → MatcherRepresents self.old log → IsInOrder log
             → (number retained_limit : ℕ)
             → result ≡ Err (refusal.Stopped (ending.OverLimit number retained_limit))
-            → IsOverLimitAtRow self.old (with_row log first last truths.now) number retained_limit }
+            → IsOverLimitAtRow self.old (with_log_row log first last truths.now) number retained_limit }
         ensures out_of_order { (before now : ℤ)
             → (result ≡ Err (refusal.Stopped (ending.OutOfOrder before now)))
             ↔ ((self.old.ended ≡ None) × (self.old.last ≡ Some before) × (now ≡ last)
@@ -146,10 +146,10 @@ impl<'p> Matcher<'p> {
         requires some { 1 ≤ rows }
         requires counts { self.old.ended ≡ None → self.old.rows + rows < 2 ^ 64 }
         // The same state as after `rows` calls of `take` at which no bracket holds.
-        ensures represents { (log nonmatching : List LogEntry) → Represents self.old log
+        ensures represents { (log nonmatching : List LogEntry) → MatcherRepresents self.old log
             → ContinuesWithoutMatch log nonmatching rows last
-            → OnOk result (Represents self.new (log ++ nonmatching)) }
-        ensures nothing_ends { (log nonmatching : List LogEntry) → Represents self.old log
+            → OnOk result (MatcherRepresents self.new (log ++ nonmatching)) }
+        ensures nothing_ends { (log nonmatching : List LogEntry) → MatcherRepresents self.old log
             → ContinuesWithoutMatch log nonmatching rows last
             → OnOk result (AnswersAfter (numbered_pattern self.old.pattern) log nonmatching
             (no_answers nonmatching)) }

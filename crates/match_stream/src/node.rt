@@ -17,12 +17,12 @@ ghost use Rattle.match_pruning.specs.inner.PartialMatches.{partial_match_tree, p
 ghost use Rattle.match_pruning.specs.Stores.{window_of};
 ghost use Rattle.match_pruning.specs.inner.Steps.{held_with, a_leaf, a_join, a_choice, a_limit};
 ghost use Rattle.match_pruning.specs.inner.Steps.{a_chain, all_levels, empty_sides, step_new};
-ghost use Rattle.match_pruning.specs.inner.Steps.{step_state, empty_state, IsNonmatching};
+ghost use Rattle.match_pruning.specs.inner.Steps.{step_state, empty_state, IsNonmatchingChain};
 ghost use Rattle.match_pruning.specs.inner.Needed.{needed, closed, pending_lefts_right};
 ghost use Rattle.match_pruning.specs.inner.Needed.{pending_lefts_part};
 ghost use Rattle.match_pruning.specs.inner.PendingLefts.{pending_left_trees, pending_lefts_of};
 ghost use Rattle.match_stream.specs.inner.Totals.{held_after, retained_at, Admits, IsOverAt};
-ghost use Rattle.match_stream.specs.inner.Nodes.{side_stores, leaves_of, levels_state, state_of};
+ghost use Rattle.match_stream.specs.inner.Nodes.{side_stores, leaves_of, levels_state, node_state};
 ghost use Rattle.match_pruning.specs.declared.stop.Stop.TheVariants as stop;
 
 use crate::budget::Budget;
@@ -71,7 +71,7 @@ pub(crate) fn empty_node(
     above: &Bounds,
 ) -> Result<Box<Node>, NoMemory>
     requires { leaf + leaves pattern.now < 2 ^ 32 }
-    ensures { IfOk result (λ node. state_of (box_value node)
+    ensures { IfOk result (λ node. node_state (box_value node)
         ≡ empty_state above.now (numbered_from leaf pattern.now)) }
 {
     match pattern {
@@ -111,7 +111,7 @@ fn empty_sides(
     after_left: bool,
 ) -> Result<Box<Node>, NoMemory>
     requires { leaf + (leaves left.now + leaves right.now) < 2 ^ 32 }
-    ensures { IfOk result (λ node. state_of (box_value node)
+    ensures { IfOk result (λ node. node_state (box_value node)
         ≡ a_join join (empty_state above.now (numbered_from leaf left.now))
         (empty_state above.now (numbered_from (leaf + leaves left.now) right.now))
         (empty_sides (window_of above.now false) (window_of above.now after_left))) }
@@ -131,7 +131,7 @@ fn empty_either(
     above: &Bounds,
 ) -> Result<Box<Node>, NoMemory>
     requires { leaf + (leaves left.now + leaves right.now) < 2 ^ 32 }
-    ensures { IfOk result (λ node. state_of (box_value node)
+    ensures { IfOk result (λ node. node_state (box_value node)
         ≡ a_choice (empty_state above.now (numbered_from leaf left.now))
         (empty_state above.now (numbered_from (leaf + leaves left.now) right.now))) }
 {
@@ -143,7 +143,7 @@ fn empty_either(
 /// The node of a leaf.
 #[inline(never)]
 fn leaf_node(alloc: Global, leaf: u32, above: &Bounds) -> Result<Box<Node>, NoMemory>
-    ensures { IfOk result (λ node. state_of (box_value node)
+    ensures { IfOk result (λ node. node_state (box_value node)
         ≡ a_leaf leaf (window_of above.now false)) }
 {
     let leaves = Leaves::one(leaf, store_window(above, false));
@@ -160,8 +160,8 @@ fn sides_node(
     above: &Bounds,
     after_left: bool,
 ) -> Result<Box<Node>, NoMemory>
-    ensures { IfOk result (λ node. state_of (box_value node)
-        ≡ a_join join (state_of (box_value left)) (state_of (box_value right))
+    ensures { IfOk result (λ node. node_state (box_value node)
+        ≡ a_join join (node_state (box_value left)) (node_state (box_value right))
         (empty_sides (window_of above.now false) (window_of above.now after_left))) }
 {
     let sides = Box::new(alloc, Sides::new(alloc, above, after_left))?;
@@ -171,8 +171,8 @@ fn sides_node(
 /// The node of an `OR`. Where the right operand is the next leaf of a chain, extends the chain.
 #[inline(never)]
 fn either_node(alloc: Global, left: Box<Node>, right: Box<Node>) -> Result<Box<Node>, NoMemory>
-    ensures { IfOk result (λ node. state_of (box_value node)
-        ≡ a_choice (state_of (box_value left)) (state_of (box_value right))) }
+    ensures { IfOk result (λ node. node_state (box_value node)
+        ≡ a_choice (node_state (box_value left)) (node_state (box_value right))) }
 {
     match with_leaf(&left, &right) {
         Some(leaves) => Ok(Box::new(alloc, Node::Leaves(leaves))?),
@@ -183,7 +183,7 @@ fn either_node(alloc: Global, left: Box<Node>, right: Box<Node>) -> Result<Box<N
 /// The chain of leaves extended by the leaf on its right, where it is the next one.
 fn with_leaf(left: &Node, right: &Node) -> Option<Leaves>
     ensures { IfSome result (λ leaves. leaves_of leaves
-        ≡ a_choice (state_of left.now) (state_of right.now)) }
+        ≡ a_choice (node_state left.now) (node_state right.now)) }
 {
     match (left, right) {
         (Node::Leaves(leaves), Node::Leaves(next)) => leaves.with(next),
@@ -194,8 +194,8 @@ fn with_leaf(left: &Node, right: &Node) -> Option<Leaves>
 /// The node of a `WITHIN`, or of a `START` and `STOP`.
 #[inline(never)]
 fn under_node(alloc: Global, part: Box<Node>) -> Result<Box<Node>, NoMemory>
-    ensures { IfOk result (λ node. state_of (box_value node)
-        ≡ a_limit (state_of (box_value part))) }
+    ensures { IfOk result (λ node. node_state (box_value node)
+        ≡ a_limit (node_state (box_value part))) }
 {
     Ok(Box::new(alloc, Node::Under(part))?)
 }
@@ -208,8 +208,8 @@ fn repeats_node(
     count: u32,
     above: &Bounds,
 ) -> Result<Box<Node>, NoMemory>
-    ensures { IfOk result (λ node. state_of (box_value node)
-        ≡ a_chain (state_of (box_value part)) count (window_of above.now false)
+    ensures { IfOk result (λ node. node_state (box_value node)
+        ≡ a_chain (node_state (box_value part)) count (window_of above.now false)
         (all_levels count [])) }
 {
     let levels = Box::new(alloc, Levels::new(alloc, count, store_window(above, false)))?;
@@ -232,18 +232,18 @@ fn step(
     // The reference implementation, followed by the filter.
     ensures new { IfOk result (λ new. partial_match_trees new.items
         ≡ needed row.now.last (pending_lefts_of pending_lefts.old.items)
-        (step_new row.now truths.now (state_of node.old))) }
-    ensures kept { OnOk result (state_of node.new
-        ≡ step_state row.now truths.now (state_of node.old)) }
+        (step_new row.now truths.now (node_state node.old))) }
+    ensures kept { OnOk result (node_state node.new
+        ≡ step_state row.now truths.now (node_state node.old)) }
     // What is pushed for an inner `FOLLOWEDBY` is popped again.
     ensures pending_lefts { OnOk result (pending_lefts.new.items ≡ pending_lefts.old.items) }
     // The charge is exactly what the stores hold after the row.
     ensures counted { OnOk result (budget.new.left
-        + held_after row.now truths.now (state_of node.old) ≡ budget.old.left) }
+        + held_after row.now truths.now (node_state node.old) ≡ budget.old.left) }
     // It never stops early: the retained count exceeds the budget.
     ensures over_limit { result ≡ Err stop.OverLimit
         → IsOverAt row.now truths.now (pending_lefts_of pending_lefts.old.items)
-        (state_of node.old) budget.old.left }
+        (node_state node.old) budget.old.left }
 {
     match node {
         Node::Leaves(leaves) => {
@@ -290,13 +290,13 @@ pub(crate) fn step_alone(
 ) -> Result<Vec<PartialMatch>, Stop>
     requires span { row.now.first ≤ℤ row.now.last }
     ensures new { IfOk result (λ new. partial_match_trees new.items
-        ≡ needed row.now.last [] (step_new row.now truths.now (state_of node.old))) }
-    ensures kept { OnOk result (state_of node.new
-        ≡ step_state row.now truths.now (state_of node.old)) }
+        ≡ needed row.now.last [] (step_new row.now truths.now (node_state node.old))) }
+    ensures kept { OnOk result (node_state node.new
+        ≡ step_state row.now truths.now (node_state node.old)) }
     ensures counted { OnOk result (budget.new.left
-        + held_after row.now truths.now (state_of node.old) ≡ budget.old.left) }
+        + held_after row.now truths.now (node_state node.old) ≡ budget.old.left) }
     ensures over_limit { result ≡ Err stop.OverLimit
-        → IsOverAt row.now truths.now [] (state_of node.old) budget.old.left }
+        → IsOverAt row.now truths.now [] (node_state node.old) budget.old.left }
 {
     let mut none = Vec::new(alloc);
     let new = step(alloc, node, row, truths, &mut none, budget)?;
@@ -319,20 +319,20 @@ fn step_sides(
     requires span { row.now.first ≤ℤ row.now.last }
     ensures new { IfOk result (λ new. partial_match_trees new.items
         ≡ needed row.now.last (pending_lefts_of pending_lefts.old.items)
-        (step_new row.now truths.now (a_join join (state_of left.old) (state_of right.old)
+        (step_new row.now truths.now (a_join join (node_state left.old) (node_state right.old)
         (side_stores sides.old)))) }
-    ensures kept { OnOk result (a_join join (state_of left.new) (state_of right.new)
+    ensures kept { OnOk result (a_join join (node_state left.new) (node_state right.new)
         (side_stores sides.new)
         ≡ step_state row.now truths.now
-        (a_join join (state_of left.old) (state_of right.old) (side_stores sides.old))) }
+        (a_join join (node_state left.old) (node_state right.old) (side_stores sides.old))) }
     ensures pending_lefts { OnOk result (pending_lefts.new.items ≡ pending_lefts.old.items) }
     ensures counted { OnOk result (budget.new.left
         + held_after row.now truths.now
-        (a_join join (state_of left.old) (state_of right.old) (side_stores sides.old))
+        (a_join join (node_state left.old) (node_state right.old) (side_stores sides.old))
         ≡ budget.old.left) }
     ensures over_limit { result ≡ Err stop.OverLimit
         → IsOverAt row.now truths.now (pending_lefts_of pending_lefts.old.items)
-        (a_join join (state_of left.old) (state_of right.old) (side_stores sides.old))
+        (a_join join (node_state left.old) (node_state right.old) (side_stores sides.old))
         budget.old.left }
 {
     sides.expire(row.last, budget)?;
@@ -372,16 +372,16 @@ fn step_either(
     requires span { row.now.first ≤ℤ row.now.last }
     ensures new { IfOk result (λ new. partial_match_trees new.items
         ≡ needed row.now.last (pending_lefts_of pending_lefts.old.items)
-        (step_new row.now truths.now (a_choice (state_of left.old) (state_of right.old)))) }
-    ensures kept { OnOk result (a_choice (state_of left.new) (state_of right.new)
-        ≡ step_state row.now truths.now (a_choice (state_of left.old) (state_of right.old))) }
+        (step_new row.now truths.now (a_choice (node_state left.old) (node_state right.old)))) }
+    ensures kept { OnOk result (a_choice (node_state left.new) (node_state right.new)
+        ≡ step_state row.now truths.now (a_choice (node_state left.old) (node_state right.old))) }
     ensures pending_lefts { OnOk result (pending_lefts.new.items ≡ pending_lefts.old.items) }
     ensures counted { OnOk result (budget.new.left
-        + held_after row.now truths.now (a_choice (state_of left.old) (state_of right.old))
+        + held_after row.now truths.now (a_choice (node_state left.old) (node_state right.old))
         ≡ budget.old.left) }
     ensures over_limit { result ≡ Err stop.OverLimit
         → IsOverAt row.now truths.now (pending_lefts_of pending_lefts.old.items)
-        (a_choice (state_of left.old) (state_of right.old)) budget.old.left }
+        (a_choice (node_state left.old) (node_state right.old)) budget.old.left }
 {
     let mut new = Vec::new(alloc);
     step_first(alloc, 1, left, row, truths, pending_lefts, budget, &mut new)?;
@@ -412,16 +412,16 @@ fn step_repeats(
     requires span { row.now.first ≤ℤ row.now.last }
     ensures new { IfOk result (λ new. partial_match_trees new.items
         ≡ needed row.now.last (pending_lefts_of pending_lefts.old.items)
-        (step_new row.now truths.now (levels_state (state_of part.old) levels.old))) }
-    ensures kept { OnOk result (levels_state (state_of part.new) levels.new
-        ≡ step_state row.now truths.now (levels_state (state_of part.old) levels.old)) }
+        (step_new row.now truths.now (levels_state (node_state part.old) levels.old))) }
+    ensures kept { OnOk result (levels_state (node_state part.new) levels.new
+        ≡ step_state row.now truths.now (levels_state (node_state part.old) levels.old)) }
     ensures pending_lefts { OnOk result (pending_lefts.new.items ≡ pending_lefts.old.items) }
     ensures counted { OnOk result (budget.new.left
-        + held_after row.now truths.now (levels_state (state_of part.old) levels.old)
+        + held_after row.now truths.now (levels_state (node_state part.old) levels.old)
         ≡ budget.old.left) }
     ensures over_limit { result ≡ Err stop.OverLimit
         → IsOverAt row.now truths.now (pending_lefts_of pending_lefts.old.items)
-        (levels_state (state_of part.old) levels.old) budget.old.left }
+        (levels_state (node_state part.old) levels.old) budget.old.left }
 {
     let new = step_part(alloc, part, levels, row, truths, pending_lefts, budget)?;
     let answer = levels.step(alloc, row.last, &new, pending_lefts, budget)?;
@@ -445,16 +445,16 @@ fn step_first(
     ensures new { OnOk result (partial_match_trees out.new.items
         ≡ partial_match_trees out.old.items ++ map (held_with (firsts count))
         (needed row.now.last (pending_lefts_of pending_lefts.old.items)
-        (step_new row.now truths.now (state_of node.old)))) }
-    ensures kept { OnOk result (state_of node.new
-        ≡ step_state row.now truths.now (state_of node.old)) }
+        (step_new row.now truths.now (node_state node.old)))) }
+    ensures kept { OnOk result (node_state node.new
+        ≡ step_state row.now truths.now (node_state node.old)) }
     ensures pending_lefts { OnOk result (pending_lefts.new.items ≡ pending_lefts.old.items) }
     ensures counted { OnOk result (budget.new.left
-        + held_after row.now truths.now (state_of node.old) ≡ budget.old.left) }
-    ensures over_limit { result ≡ Err stop.OverLimit → Admits row.now truths.now (state_of node.old)
+        + held_after row.now truths.now (node_state node.old) ≡ budget.old.left) }
+    ensures over_limit { result ≡ Err stop.OverLimit → Admits row.now truths.now (node_state node.old)
         → budget.old.left < length out.old.items
         + retained_at row.now truths.now (pending_lefts_of pending_lefts.old.items)
-        (state_of node.old) }
+        (node_state node.old) }
 {
     if count < u32::MAX {
         if let Node::Either(left, right) = node {
@@ -495,16 +495,16 @@ fn step_second(
     ensures new { OnOk result (partial_match_trees out.new.items
         ≡ partial_match_trees out.old.items ++ map (held_with (firsts count))
         (map (held_with Second) (needed row.now.last (pending_lefts_of pending_lefts.old.items)
-        (step_new row.now truths.now (state_of node.old))))) }
-    ensures kept { OnOk result (state_of node.new
-        ≡ step_state row.now truths.now (state_of node.old)) }
+        (step_new row.now truths.now (node_state node.old))))) }
+    ensures kept { OnOk result (node_state node.new
+        ≡ step_state row.now truths.now (node_state node.old)) }
     ensures pending_lefts { OnOk result (pending_lefts.new.items ≡ pending_lefts.old.items) }
     ensures counted { OnOk result (budget.new.left
-        + held_after row.now truths.now (state_of node.old) ≡ budget.old.left) }
-    ensures over_limit { result ≡ Err stop.OverLimit → Admits row.now truths.now (state_of node.old)
+        + held_after row.now truths.now (node_state node.old) ≡ budget.old.left) }
+    ensures over_limit { result ≡ Err stop.OverLimit → Admits row.now truths.now (node_state node.old)
         → budget.old.left < length out.old.items
         + retained_at row.now truths.now (pending_lefts_of pending_lefts.old.items)
-        (state_of node.old) }
+        (node_state node.old) }
 {
     if is_nonmatching(node, truths) {
         return Ok(());
@@ -535,17 +535,17 @@ fn step_right(
     ensures new { IfOk result (λ new. partial_match_trees new.items
         ≡ needed row.now.last (pending_lefts_right join (side_stores sides.old)
         (pending_lefts_of pending_lefts.old.items))
-        (step_new row.now truths.now (state_of right.old))) }
-    ensures kept { OnOk result (state_of right.new
-        ≡ step_state row.now truths.now (state_of right.old)) }
+        (step_new row.now truths.now (node_state right.old))) }
+    ensures kept { OnOk result (node_state right.new
+        ≡ step_state row.now truths.now (node_state right.old)) }
     // The left store is lent to the pending left, and returned.
     ensures sides { OnOk result (side_stores sides.new ≡ side_stores sides.old) }
     ensures pending_lefts { OnOk result (pending_lefts.new.items ≡ pending_lefts.old.items) }
     ensures counted { OnOk result (budget.new.left
-        + held_after row.now truths.now (state_of right.old) ≡ budget.old.left) }
+        + held_after row.now truths.now (node_state right.old) ≡ budget.old.left) }
     ensures over_limit { result ≡ Err stop.OverLimit
         → IsOverAt row.now truths.now (pending_lefts_right join (side_stores sides.old)
-        (pending_lefts_of pending_lefts.old.items)) (state_of right.old) budget.old.left }
+        (pending_lefts_of pending_lefts.old.items)) (node_state right.old) budget.old.left }
 {
     match join {
         Join::Then => {
@@ -579,16 +579,16 @@ fn step_part(
     ensures new { IfOk result (λ new. partial_match_trees new.items
         ≡ needed row.now.last (pending_lefts_part levels.now.count levels.now.window row.now.last
         (pending_lefts_of pending_lefts.old.items))
-        (step_new row.now truths.now (state_of part.old))) }
-    ensures kept { OnOk result (state_of part.new
-        ≡ step_state row.now truths.now (state_of part.old)) }
+        (step_new row.now truths.now (node_state part.old))) }
+    ensures kept { OnOk result (node_state part.new
+        ≡ step_state row.now truths.now (node_state part.old)) }
     ensures pending_lefts { OnOk result (pending_lefts.new.items ≡ pending_lefts.old.items) }
     ensures counted { OnOk result (budget.new.left
-        + held_after row.now truths.now (state_of part.old) ≡ budget.old.left) }
+        + held_after row.now truths.now (node_state part.old) ≡ budget.old.left) }
     ensures over_limit { result ≡ Err stop.OverLimit
         → IsOverAt row.now truths.now (pending_lefts_part levels.now.count levels.now.window
         row.now.last (pending_lefts_of pending_lefts.old.items))
-        (state_of part.old) budget.old.left }
+        (node_state part.old) budget.old.left }
 {
     match levels.count {
         0 => {
@@ -620,7 +620,7 @@ fn no_pending_left(alloc: Global, window: &Window, now: Instant) -> PendingLeft
 
 /// Whether a node is a chain of leaves of which none holds at the row.
 fn is_nonmatching(node: &Node, truths: &[bool]) -> bool
-    ensures { IsTrue result → IsNonmatching truths.now (state_of node.now) }
+    ensures { IsTrue result → IsNonmatchingChain truths.now (node_state node.now) }
 {
     match node {
         Node::Leaves(leaves) => !leaves.any_holds(truths),

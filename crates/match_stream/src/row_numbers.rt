@@ -3,7 +3,7 @@
 ghost use Rattle.std.specs.Prelude.{◌≡◌, ◌++◌, IfOk, OnOk};
 ghost use Rattle.match_pruning.specs.RowNumbers.{AreKept};
 ghost use Rattle.match_pruning.specs.inner.Steps.{all_levels, contents_of};
-ghost use Rattle.match_stream.specs.inner.Nodes.{store_list, store_lists, state_of};
+ghost use Rattle.match_stream.specs.inner.Nodes.{store_list, store_lists, node_state};
 ghost use Rattle.match_pruning.specs.inner.Numbers.{store_numbers, all_numbers};
 
 use crate::levels::Levels;
@@ -15,7 +15,7 @@ use std::alloc::Global;
 
 /// The numbers in the stores of a node, ascending, each once.
 pub(crate) fn kept_numbers(alloc: Global, node: &Node) -> Result<Vec<u64>, NoMemory>
-    ensures { IfOk result (λ kept. AreKept (contents_of (state_of node.now)) kept.items) }
+    ensures { IfOk result (λ kept. AreKept (contents_of (node_state node.now)) kept.items) }
 {
     let mut kept = Vec::new(alloc);
     push_node(node, &mut kept)?;
@@ -28,7 +28,7 @@ pub(crate) fn kept_numbers(alloc: Global, node: &Node) -> Result<Vec<u64>, NoMem
 #[tactic(auto, using(match_pruning::proofs::RowNumbersLemmas::numbers_append))]
 fn push_node(node: &Node, out: &mut Vec<u64>) -> Result<(), NoMemory>
     ensures { OnOk result (out.new.items ≡ out.old.items
-        ++ all_numbers (contents_of (state_of node.now))) }
+        ++ all_numbers (contents_of (node_state node.now))) }
 {
     match node {
         Node::Leaves(_) => {}

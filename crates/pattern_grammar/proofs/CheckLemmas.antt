@@ -6,20 +6,20 @@ use Rattle.pattern_grammar.specs.declared.class.TokenClass.TheVariants.{Only, Eq
 use Rattle.pattern_grammar.specs.declared.comparison.CheckTree.TheVariants as check_tree
 use Rattle.pattern_grammar.specs.Grammar.{AreConstants, constants_one, constants_more, IsCheck, check_equality, check_order, check_among, check_textual}
 use Rattle.pattern_grammar.specs.inner.Machine.{Expected, one, line, tail, check, commas, expects_constants, expects_check, go}
-use Rattle.pattern_grammar.specs.inner.Machine.{BeginsLine, Lacks, LacksOperator, Found, Stuck, done, open_for}
+use Rattle.pattern_grammar.specs.inner.Machine.{BeginsLine, LacksTokenClass, LacksOperator, Found, Stuck, done, open_for}
 use Rattle.pattern_grammar.proofs.SameKindLemmas.{only, order_apart, textual_apart, textual_apart_order}
 use Rattle.pattern_grammar.proofs.LeadsLemmas.{halts_one, leads_one, leads_then, halts_then, leads_before}
 use Rattle.pattern_grammar.proofs.CompletionLemmas.{some, prefix_constants, prefix_check}
 use Rattle.pattern_grammar.proofs.ChainLemmas.{joined, leads_at}
 
 -- constants
-pub constants_none : {ts : List Token} → Lacks Constant ts → Stuck AreConstants expects_constants ts ts
+pub constants_none : {ts : List Token} → LacksTokenClass Constant ts → Stuck AreConstants expects_constants ts ts
 constants_none {ts} h = record { read = []; all_are = refl; prefix = prefix_constants; halts = record { stop = λ k. (halts_one Constant ts h).stop (tail commas ∷ k) } }
 
 pub constants_begun : {ts r1 : List Token} (a : Token) → BeginsLine Constant a ts r1 → Found AreConstants expects_constants (open_for commas) ts (a ∷ []) r1
 constants_begun a x = record { read = a ∷ []; all_are = x.all_are; spells = constants_one a x.of_class; leads = record { proceed = λ k. rw x.of_class refl } }
 
-pub constants_stuck : {ts rest r1 cs : List Token} (o : Token) → Found AreConstants expects_constants (open_for commas) ts cs rest → BeginsLine (Only kind.Comma) o rest r1 → Lacks Constant r1 → Stuck AreConstants expects_constants ts r1
+pub constants_stuck : {ts rest r1 cs : List Token} (o : Token) → Found AreConstants expects_constants (open_for commas) ts cs rest → BeginsLine (Only kind.Comma) o rest r1 → LacksTokenClass Constant r1 → Stuck AreConstants expects_constants ts r1
 constants_stuck {r1 = r1} {cs = cs} o f x h = record {
   read = f.read ++ o ∷ [];
   all_are = joined f.read [] r1 o f.all_are x.all_are refl;
@@ -36,14 +36,14 @@ constants_further {r2 = r2} o a f x y = record {
 }
 
 -- IN
-pub check_none : {ts : List Token} → LacksOperator ts → Lacks (Only kind.Among) ts → Stuck IsCheck expects_check ts ts
+pub check_none : {ts : List Token} → LacksOperator ts → LacksTokenClass (Only kind.Among) ts → Stuck IsCheck expects_check ts ts
 check_none {ts} a h = record { read = []; all_are = refl; prefix = prefix_check; halts = record { stop = none ts a.equality a.order a.textual h } }
   where
-    none : (us : List Token) → Lacks Equality us → Lacks Order us → Lacks Textual us → Lacks (Only kind.Among) us → (k : List Expected) → go (Some (line check ∷ k)) us ≡ None
+    none : (us : List Token) → LacksTokenClass Equality us → LacksTokenClass Order us → LacksTokenClass Textual us → LacksTokenClass (Only kind.Among) us → (k : List Expected) → go (Some (line check ∷ k)) us ≡ None
     none [] a b c d k = refl
     none (t ∷ us) a b c d k = rw (a, b, c, d) refl
 
-pub among_open : {ts r1 : List Token} (a : Token) → BeginsLine (Only kind.Among) a ts r1 → Lacks (Only kind.RoundOpen) r1 → Stuck IsCheck expects_check ts r1
+pub among_open : {ts r1 : List Token} (a : Token) → BeginsLine (Only kind.Among) a ts r1 → LacksTokenClass (Only kind.RoundOpen) r1 → Stuck IsCheck expects_check ts r1
 among_open {r1 = r1} a x h = record {
   read = a ∷ [];
   all_are = x.all_are;
@@ -59,7 +59,7 @@ among_stuck a b x y s = record {
   halts = record { stop = λ k. rw (only kind.Among a x.of_class, y.of_class) (s.halts.stop (one (Only kind.RoundClose) ∷ k)) };
 }
 
-pub among_unclosed : {ts r1 r2 r3 cs : List Token} (a b : Token) → BeginsLine (Only kind.Among) a ts r1 → BeginsLine (Only kind.RoundOpen) b r1 r2 → Found AreConstants expects_constants done r2 cs r3 → Lacks (Only kind.RoundClose) r3 → Stuck IsCheck expects_check ts r3
+pub among_unclosed : {ts r1 r2 r3 cs : List Token} (a b : Token) → BeginsLine (Only kind.Among) a ts r1 → BeginsLine (Only kind.RoundOpen) b r1 r2 → Found AreConstants expects_constants done r2 cs r3 → LacksTokenClass (Only kind.RoundClose) r3 → Stuck IsCheck expects_check ts r3
 among_unclosed {r3 = r3} a b x y f h = record {
   read = a ∷ b ∷ f.read;
   all_are = x.all_are ∙ ap (λ r. a ∷ r) (y.all_are ∙ ap (λ r. b ∷ r) f.all_are);
@@ -76,7 +76,7 @@ among_found {r4 = r4} a b e x y f z = record {
 }
 
 -- the other operators
-pub equality_stuck : {ts r1 : List Token} (a : Token) → BeginsLine Equality a ts r1 → Lacks Constant r1 → Stuck IsCheck expects_check ts r1
+pub equality_stuck : {ts r1 : List Token} (a : Token) → BeginsLine Equality a ts r1 → LacksTokenClass Constant r1 → Stuck IsCheck expects_check ts r1
 equality_stuck {r1 = r1} a x h = record {
   read = a ∷ [];
   all_are = x.all_are;
@@ -92,7 +92,7 @@ equality_found a b x y = record {
   leads = record { proceed = λ k. rw (x.of_class, y.of_class) refl };
 }
 
-pub order_stuck : {ts r1 : List Token} (a : Token) → BeginsLine Order a ts r1 → Lacks Ordered r1 → Stuck IsCheck expects_check ts r1
+pub order_stuck : {ts r1 : List Token} (a : Token) → BeginsLine Order a ts r1 → LacksTokenClass Ordered r1 → Stuck IsCheck expects_check ts r1
 order_stuck {r1 = r1} a x h = record {
   read = a ∷ [];
   all_are = x.all_are;
@@ -108,7 +108,7 @@ order_found a b x y = record {
   leads = record { proceed = λ k. rw (order_apart a.kind x.of_class, x.of_class, y.of_class) refl };
 }
 
-pub textual_stuck : {ts r1 : List Token} (a : Token) → BeginsLine Textual a ts r1 → Lacks (Only kind.String) r1 → Stuck IsCheck expects_check ts r1
+pub textual_stuck : {ts r1 : List Token} (a : Token) → BeginsLine Textual a ts r1 → LacksTokenClass (Only kind.String) r1 → Stuck IsCheck expects_check ts r1
 textual_stuck {r1 = r1} a x h = record {
   read = a ∷ [];
   all_are = x.all_are;

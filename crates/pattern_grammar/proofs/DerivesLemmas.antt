@@ -11,20 +11,20 @@ use Rattle.pattern_grammar.specs.declared.qualifier.Qualifier.{Qualifier}
 use Rattle.pattern_grammar.specs.Tree.{Comparison, test as test_tree, group, Tree}
 use Rattle.pattern_grammar.specs.TokenClass.{IsA}
 use Rattle.pattern_grammar.specs.Grammar.{IsStep, step_name, step_index, IsPath, path_first, path_further, AreConstants, constants_one, constants_more, IsCheck, check_equality, check_order, check_among, check_textual, IsTest, test_group, test_exists, test_not_exists, test_compare, test_not_compare, IsCand, cand_one, cand_more, IsCor, cor_one, cor_more, IsQualifier, qualifier_within, qualifier_repeats, qualifier_between, IsStart, start_leaf, start_group, IsUnit, unit_one, unit_more, IsAnds, ands_one, ands_more, IsOrs, ors_one, ors_more, IsPattern, pattern_one, pattern_more}
-use Rattle.pattern_grammar.specs.Prefixes.{Nonterminal, pattern, ors, ands, unit, qualifier, cor, cand, test, compare, path, Part, one, line, token, ◌then◌, ◌or◌, many, rule, Derives, is_one, is_line, is_both, is_left, is_right, no_more, one_more, absent, present, PrefixOf}
+use Rattle.pattern_grammar.specs.Prefixes.{Nonterminal, pattern, ors, ands, unit, qualifier, cor, cand, test, compare, path, ProductionPart, one, line, token, ◌then◌, ◌or◌, many, rule, Derives, is_one, is_line, is_both, is_left, is_right, no_more, one_more, absent, present, PrefixOf}
 use Rattle.pattern_grammar.specs.inner.Machine.{Prefix}
 use Rattle.pattern_grammar.proofs.PrefixOfLemmas.{complete, prefix}
 
 -- one more at the end
-many_more : {a : Part} {ts us : List Token} → Derives (many a) ts → Derives a us → Derives (many a) (ts ++ us)
+many_more : {a : ProductionPart} {ts us : List Token} → Derives (many a) ts → Derives a us → Derives (many a) (ts ++ us)
 many_more {us = us} no_more y = rw (← append-nil us) (one_more y no_more)
 many_more {us = ws} (one_more {ts = ts} {us = us} x z) y = rw (append_assoc ts us ws) (one_more x (many_more z y))
 
 -- a line with one part more after those that are repeated
-further_part : {a b : Part} {ts us : List Token} → Derives (a then many b) ts → Derives b us → Derives (a then many b) (ts ++ us)
+further_part : {a b : ProductionPart} {ts us : List Token} → Derives (a then many b) ts → Derives b us → Derives (a then many b) (ts ++ us)
 further_part {us = ws} (is_both {ts = ts} {us = us} x z) y = rw (append_assoc ts us ws) (is_both x (many_more z y))
 
-further_line : {l : Nonterminal} {a b : Part} (e : rule l ≡ (a then many b)) {ts us : List Token} → Derives (line l) ts → Derives b us → Derives (line l) (ts ++ us)
+further_line : {l : Nonterminal} {a b : ProductionPart} (e : rule l ≡ (a then many b)) {ts us : List Token} → Derives (line l) ts → Derives b us → Derives (line l) (ts ++ us)
 further_line e (is_line x) y = is_line (rw e (further_part (rw e at x) y))
 
 derive_step : {ts : List Token} {v : StepTree} → IsStep ts v → Derives ((token kind.Dot then one Name) or (token kind.SquareOpen then one Index then token kind.SquareClose)) ts
@@ -54,7 +54,7 @@ derive_check (check_among a b c x y z w) = derive_among c x y (derive_constants 
 derive_check (check_textual a b x y) = is_line (is_right (is_right (is_right (is_both (is_one a x) (is_one b y)))))
 
 -- a chain of one part
-alone : {a b : Part} {ts : List Token} → Derives a ts → Derives (a then many b) ts
+alone : {a b : ProductionPart} {ts : List Token} → Derives a ts → Derives (a then many b) ts
 alone {ts = ts} x = rw (← append-nil ts) (is_both x no_more)
 
 mutual

@@ -3,9 +3,9 @@ use Rattle.std.proofs.Common.{◌≡◌, List, [], ◌∷◌, ◌++◌, map, ref
 use Rattle.pattern_grammar.specs.declared.comparison.ComparisonTree.{ComparisonTree}
 use Rattle.pattern_grammar.specs.declared.pattern.PatternTree.{the_lemmas}
 use Rattle.pattern_grammar.specs.declared.pattern.PatternTree.TheVariants as pattern_tree
-use Rattle.pattern_grammar.specs.Tree.{joined, leaf, compared, shape}
+use Rattle.pattern_grammar.specs.Tree.{left_fold, leaf, compared, shape}
 
-pub joined_more : {A V : Type 0} (join : V → V → V) (f : A → V) (first : V) (xs : List A) (x : A) → joined join first (map f (xs ++ x ∷ [])) ≡ join (joined join first (map f xs)) (f x)
+pub joined_more : {A V : Type 0} (join : V → V → V) (f : A → V) (first : V) (xs : List A) (x : A) → left_fold join first (map f (xs ++ x ∷ [])) ≡ join (left_fold join first (map f xs)) (f x)
 joined_more join f first [] x = refl
 joined_more join f first (y ∷ ys) x = joined_more join f (join first (f y)) ys x
 

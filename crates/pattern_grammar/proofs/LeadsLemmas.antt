@@ -4,7 +4,7 @@ use Rattle.pattern_lexer.specs.declared.token.Token.{Token}
 use Rattle.pattern_grammar.specs.declared.class.TokenClass.{TokenClass}
 use Rattle.pattern_grammar.specs.TokenClass.{IsA}
 use Rattle.pattern_grammar.specs.inner.Machine.{Expected, one, Tail, opening, next, state_after, go}
-use Rattle.pattern_grammar.specs.inner.Machine.{Lacks, Leads, Halts, done, open_for}
+use Rattle.pattern_grammar.specs.inner.Machine.{LacksTokenClass, Leads, Halts, done, open_for}
 
 pub state_after-append : (s : Option (List Expected)) (a b : List Token) → state_after s (a ++ b) ≡ state_after (state_after s a) b
 state_after-append s [] b = refl
@@ -41,11 +41,11 @@ pub leads_one : (class : TokenClass) (t : Token) (r : List Token) → IsA class 
 leads_one class t r h = record { proceed = λ k. rw h refl }
 
 -- a token that doesn't
-pub halts_one : (class : TokenClass) (r : List Token) → Lacks class r → Halts (λ k. one class ∷ k) [] r
+pub halts_one : (class : TokenClass) (r : List Token) → LacksTokenClass class r → Halts (λ k. one class ∷ k) [] r
 halts_one class [] h = record { stop = λ k. refl }
 halts_one class (t ∷ r) h = record { stop = λ k. rw h refl }
 
 -- no further turn
-pub leads_past : (t : Tail) (r : List Token) → Lacks (opening t) r → Leads (open_for t) done [] r
+pub leads_past : (t : Tail) (r : List Token) → LacksTokenClass (opening t) r → Leads (open_for t) done [] r
 leads_past t [] h = record { proceed = λ k. refl }
 leads_past t (o ∷ r) h = record { proceed = λ k. rw h refl }

@@ -13,7 +13,7 @@ use Rattle.pattern_grammar.specs.TokenClass.{is_in, IsA}
 use Rattle.pattern_grammar.specs.Tree.{Comparison, Tree}
 use Rattle.pattern_grammar.specs.Grammar.{IsStep, step_name, step_index, IsPath, path_first, path_further, AreConstants, constants_one, constants_more, IsCheck, check_equality, check_order, check_among, check_textual, IsTest, test_group, test_exists, test_not_exists, test_compare, test_not_compare, IsCand, cand_one, cand_more, IsCor, cor_one, cor_more, IsQualifier, qualifier_within, qualifier_repeats, qualifier_between, IsStart, start_leaf, start_group, IsUnit, unit_one, unit_more, IsAnds, ands_one, ands_more, IsOrs, ors_one, ors_more, IsPattern, pattern_one, pattern_more}
 use Rattle.pattern_grammar.specs.inner.Machine.{Expected, one, line, tail, Tail, turn, step, qualifier, steps, commas, cands, cors, qualifiers, ands, ors, thens, expects_step, expects_path, expects_constants, expects_check, expects_test, expects_cand, expects_cor, expects_qualifier, expects_start, expects_unit, expects_ands, expects_ors, expects_pattern, opening}
-use Rattle.pattern_grammar.specs.inner.Machine.{Lacks, LacksTestWord, Leads, done, open_for}
+use Rattle.pattern_grammar.specs.inner.Machine.{LacksTokenClass, LacksTestWord, Leads, done, open_for}
 use Rattle.pattern_grammar.proofs.SameKindLemmas.{only, order_apart, textual_apart, textual_apart_order, root_apart, check_apart}
 use Rattle.pattern_grammar.proofs.LeadsLemmas.{leads_one, leads_then, leads_before, leads_token, leads_past}
 use Rattle.pattern_grammar.proofs.TestLemmas.{as_path, as_check, negated}
@@ -23,7 +23,7 @@ pub apart : (w : TokenKind) (class : TokenClass) (o : Token) → IsA (Only w) o 
 apart w class o h e = rw (only w o h) e
 
 -- no further turn
-ended_by : {f : List Expected → List Expected} {ts r : List Token} (t : Tail) → Leads f (open_for t) ts r → Lacks (opening t) r → Leads f done ts r
+ended_by : {f : List Expected → List Expected} {ts r : List Token} (t : Tail) → Leads f (open_for t) ts r → LacksTokenClass (opening t) r → Leads f done ts r
 ended_by {r = r} t x h = record { proceed = λ k. x.proceed k ∙ (leads_past t r h).proceed k }
 
 run_step : {ts : List Token} {v : StepTree} → IsStep ts v → (r : List Token) → Leads expects_step done ts r
@@ -57,14 +57,14 @@ path_begins (path_first a b c x y z) r = record { round = root_apart a.kind kind
 path_begins (path_further {a} {b} x y) r = rw append_assoc (path_begins x (b ++ r))
 
 -- a check begins without NOT, and is no further step
-pub check_begins : {ts : List Token} {v : CheckTree} → IsCheck ts v → (r : List Token) → Lacks (Only kind.Not) (ts ++ r) × Lacks Stepping (ts ++ r)
+pub check_begins : {ts : List Token} {v : CheckTree} → IsCheck ts v → (r : List Token) → LacksTokenClass (Only kind.Not) (ts ++ r) × LacksTokenClass Stepping (ts ++ r)
 check_begins (check_equality a b x y) r = check_apart a.kind (inl x)
 check_begins (check_order a b x y) r = check_apart a.kind (inr (inl x))
 check_begins (check_among a b c x y z w) r = (rw (only kind.Among a x) refl, rw (only kind.Among a x) refl)
 check_begins (check_textual a b x y) r = check_apart a.kind (inr (inr x))
 
 mutual
-  run_test : {ts : List Token} {v : Comparison} → IsTest ts v → (r : List Token) → Lacks Stepping r → Leads expects_test done ts r
+  run_test : {ts : List Token} {v : Comparison} → IsTest ts v → (r : List Token) → LacksTokenClass Stepping r → Leads expects_test done ts r
   run_test (test_group a b {ts} x y z) r h = leads_then (a ∷ []) (ts ++ b ∷ []) r
       (leads_token a ((ts ++ b ∷ []) ++ r) (λ k. rw x refl))
       (leads_then ts (b ∷ []) r (leads_before (λ k. one (Only kind.RoundClose) ∷ k) (ended_by cors (run_cor y (b ∷ r) (apart kind.RoundClose Stepping b z refl) (apart kind.RoundClose (Only kind.And) b z refl)) (apart kind.RoundClose (Only kind.Or) b z refl))) (leads_one (Only kind.RoundClose) b r z))
@@ -77,12 +77,12 @@ mutual
       (leads_then [] a (o ∷ b ++ r) (as_path (a ++ (o ∷ b ++ r)) (path_begins x (o ∷ b ++ r))) (leads_before (λ k. line turn ∷ k) (ended_by steps (run_path x (o ∷ b ++ r)) (apart kind.Not Stepping o n refl))))
       (leads_then (o ∷ []) b r (negated o (b ++ r) n) (run_check y r))
 
-  run_cand : {ts : List Token} {v : Comparison} → IsCand ts v → (r : List Token) → Lacks Stepping r → Leads expects_cand (open_for cands) ts r
+  run_cand : {ts : List Token} {v : Comparison} → IsCand ts v → (r : List Token) → LacksTokenClass Stepping r → Leads expects_cand (open_for cands) ts r
   run_cand (cand_one x) r h = leads_before (open_for cands) (run_test x r h)
   run_cand (cand_more {a} {b} o x n y) r h = leads_then a (o ∷ b) r (run_cand x (o ∷ b ++ r) (apart kind.And Stepping o n refl))
       (leads_then (o ∷ []) b r (leads_token o (b ++ r) (λ k. rw n refl)) (leads_before (open_for cands) (run_test y r h)))
 
-  run_cor : {ts : List Token} {v : Comparison} → IsCor ts v → (r : List Token) → Lacks Stepping r → Lacks (Only kind.And) r → Leads expects_cor (open_for cors) ts r
+  run_cor : {ts : List Token} {v : Comparison} → IsCor ts v → (r : List Token) → LacksTokenClass Stepping r → LacksTokenClass (Only kind.And) r → Leads expects_cor (open_for cors) ts r
   run_cor (cor_one x) r h g = leads_before (open_for cors) (ended_by cands (run_cand x r h) g)
   run_cor (cor_more {a} {b} o x n y) r h g = leads_then a (o ∷ b) r (run_cor x (o ∷ b ++ r) (apart kind.Or Stepping o n refl) (apart kind.Or (Only kind.And) o n refl))
       (leads_then (o ∷ []) b r (leads_token o (b ++ r) (λ k. rw n refl)) (leads_before (open_for cors) (ended_by cands (run_cand y r h) g)))
@@ -111,17 +111,17 @@ mutual
   run_unit (unit_one x) r = leads_before (open_for qualifiers) (run_start x r)
   run_unit (unit_more {a} {b} x y) r = leads_then a b r (run_unit x (b ++ r)) (leads_then [] b r (into_qualifier y r) (leads_before (open_for qualifiers) (run_qualifier y r)))
 
-  run_ands : {ts : List Token} {v : Tree} → IsAnds ts v → (r : List Token) → Lacks Qualifying r → Leads expects_ands (open_for ands) ts r
+  run_ands : {ts : List Token} {v : Tree} → IsAnds ts v → (r : List Token) → LacksTokenClass Qualifying r → Leads expects_ands (open_for ands) ts r
   run_ands (ands_one x) r h = leads_before (open_for ands) (ended_by qualifiers (run_unit x r) h)
   run_ands (ands_more {a} {b} o x n y) r h = leads_then a (o ∷ b) r (run_ands x (o ∷ b ++ r) (apart kind.And Qualifying o n refl))
       (leads_then (o ∷ []) b r (leads_token o (b ++ r) (λ k. rw n refl)) (leads_before (open_for ands) (ended_by qualifiers (run_unit y r) h)))
 
-  run_ors : {ts : List Token} {v : Tree} → IsOrs ts v → (r : List Token) → Lacks Qualifying r → Lacks (Only kind.And) r → Leads expects_ors (open_for ors) ts r
+  run_ors : {ts : List Token} {v : Tree} → IsOrs ts v → (r : List Token) → LacksTokenClass Qualifying r → LacksTokenClass (Only kind.And) r → Leads expects_ors (open_for ors) ts r
   run_ors (ors_one x) r h g = leads_before (open_for ors) (ended_by ands (run_ands x r h) g)
   run_ors (ors_more {a} {b} o x n y) r h g = leads_then a (o ∷ b) r (run_ors x (o ∷ b ++ r) (apart kind.Or Qualifying o n refl) (apart kind.Or (Only kind.And) o n refl))
       (leads_then (o ∷ []) b r (leads_token o (b ++ r) (λ k. rw n refl)) (leads_before (open_for ors) (ended_by ands (run_ands y r h) g)))
 
-  pub run_pattern : {ts : List Token} {v : Tree} → IsPattern ts v → (r : List Token) → Lacks Qualifying r → Lacks (Only kind.And) r → Lacks (Only kind.Or) r → Leads expects_pattern (open_for thens) ts r
+  pub run_pattern : {ts : List Token} {v : Tree} → IsPattern ts v → (r : List Token) → LacksTokenClass Qualifying r → LacksTokenClass (Only kind.And) r → LacksTokenClass (Only kind.Or) r → Leads expects_pattern (open_for thens) ts r
   run_pattern (pattern_one x) r h g f = leads_before (open_for thens) (ended_by ors (run_ors x r h g) f)
   run_pattern (pattern_more {a} {b} o x n y) r h g f = leads_then a (o ∷ b) r (run_pattern x (o ∷ b ++ r) (apart kind.FollowedBy Qualifying o n refl) (apart kind.FollowedBy (Only kind.And) o n refl) (apart kind.FollowedBy (Only kind.Or) o n refl))
       (leads_then (o ∷ []) b r (leads_token o (b ++ r) (λ k. rw n refl)) (leads_before (open_for thens) (ended_by ors (run_ors y r h g) f)))

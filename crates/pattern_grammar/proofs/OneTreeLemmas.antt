@@ -11,7 +11,7 @@ use Rattle.pattern_grammar.specs.TokenClass.{is_in}
 use Rattle.pattern_grammar.specs.Tree.{Comparison, Tree, all, any, both, either, followed}
 use Rattle.pattern_grammar.specs.Grammar.{IsStep, step_name, step_index, IsPath, path_first, path_further, AreConstants, constants_one, constants_more, IsCheck, check_equality, check_order, check_among, check_textual, IsTest, test_group, test_exists, test_not_exists, test_compare, test_not_compare, IsCand, cand_one, cand_more, IsCor, cor_one, cor_more, IsQualifier, qualifier_within, qualifier_repeats, qualifier_between, IsStart, start_leaf, start_group, IsUnit, unit_one, unit_more, IsAnds, ands_one, ands_more, IsOrs, ors_one, ors_more, IsPattern, pattern_one, pattern_more}
 use Rattle.pattern_grammar.specs.inner.Machine.{start, turn, test, check, step, qualifier, steps, commas, cands, cors, qualifiers, ands, ors, thens}
-use Rattle.pattern_grammar.specs.inner.Machine.{Lacks, LacksTestWord}
+use Rattle.pattern_grammar.specs.inner.Machine.{LacksTokenClass, LacksTestWord}
 use Rattle.pattern_grammar.proofs.SameKindLemmas.{only, order_apart, textual_apart, textual_apart_order}
 use Rattle.pattern_grammar.proofs.MachineLemmas.{apart, path_begins, check_begins}
 use Rattle.pattern_grammar.proofs.TreeBuilderLemmas.{Built, mark, a_step, a_path, a_list, a_check, a_comparison, a_qualifier, a_tree, Job, one, line, tail, act, name_step, index_step, first_path, further_path, first_list, further_list, compare_check, textual_check, among_check, exists_test, not_exists_test, compare_test, not_compare_test, group_test, join_comparison, within, repeats, between, leaf_tree, group_tree, qualify_tree, join_tree, jobs_path, jobs_constants, jobs_cor, jobs_pattern, at, moves, go, Builds, done, open_for, same, adding, builds_then, builds_before, builds_up, builds_past}
@@ -57,16 +57,16 @@ build_check (check_textual a b x y) r = builds_up {g = done} (λ vs. mark b ∷ 
 as_path : (ts : List Token) → LacksTestWord ts → Builds (λ k. line test ∷ k) (λ k. jobs_path (line turn ∷ k)) same [] ts
 as_path ts h = record { proceed = begins ts h.round h.exists h.not }
   where
-    begins : (us : List Token) → Lacks (Only kind.RoundOpen) us → Lacks (Only kind.Exists) us → Lacks (Only kind.Not) us → (k : List Job) (vs : List Built) → go (at (line test ∷ k) vs) us ≡ go (at (jobs_path (line turn ∷ k)) vs) us
+    begins : (us : List Token) → LacksTokenClass (Only kind.RoundOpen) us → LacksTokenClass (Only kind.Exists) us → LacksTokenClass (Only kind.Not) us → (k : List Job) (vs : List Built) → go (at (line test ∷ k) vs) us ≡ go (at (jobs_path (line turn ∷ k)) vs) us
     begins [] a b c k vs = refl
     begins (t ∷ us) a b c k vs = rw (a, b, c) refl
 
-as_check : (ts : List Token) → Lacks (Only kind.Not) ts → Builds (λ k. line turn ∷ k) (λ k. line check ∷ act compare_test ∷ k) same [] ts
+as_check : (ts : List Token) → LacksTokenClass (Only kind.Not) ts → Builds (λ k. line turn ∷ k) (λ k. line check ∷ act compare_test ∷ k) same [] ts
 as_check [] h = record { proceed = λ k vs. refl }
 as_check (t ∷ ts) h = record { proceed = λ k vs. rw h refl }
 
 mutual
-  build_test : {ts : List Token} {v : Comparison} → IsTest ts v → (r : List Token) → Lacks Stepping r → Builds (λ k. line test ∷ k) done (adding (a_comparison v)) ts r
+  build_test : {ts : List Token} {v : Comparison} → IsTest ts v → (r : List Token) → LacksTokenClass Stepping r → Builds (λ k. line test ∷ k) done (adding (a_comparison v)) ts r
   build_test (test_group a b {ts} {c} x y z) r h = builds_then (marked a) (λ vs. group_test (mark b ∷ a_comparison c ∷ vs)) (a ∷ []) (ts ++ b ∷ []) r
       (record { proceed = λ k vs. rw x refl })
       (builds_then (adding (a_comparison c)) (λ vs. group_test (mark b ∷ vs)) ts (b ∷ []) r
@@ -85,12 +85,12 @@ mutual
       (builds_then same (adding (a_path p)) [] a (o ∷ b ++ r) (as_path (a ++ (o ∷ b ++ r)) (path_begins x (o ∷ b ++ r))) (builds_before (λ k. line turn ∷ k) (builds_past steps (build_path x (o ∷ b ++ r)) (apart kind.Not Stepping o n refl))))
       (builds_then (marked o) (λ vs. not_compare_test (a_check c ∷ vs)) (o ∷ []) b r (record { proceed = λ k vs. rw n refl }) (builds_up {g = done} (adding (a_check c)) not_compare_test b r (builds_before (λ k. act not_compare_test ∷ k) (build_check y r))))
 
-  build_cand : {ts : List Token} {v : Comparison} → IsCand ts v → (r : List Token) → Lacks Stepping r → Builds (λ k. line test ∷ tail cands ∷ k) (open_for cands) (adding (a_comparison v)) ts r
+  build_cand : {ts : List Token} {v : Comparison} → IsCand ts v → (r : List Token) → LacksTokenClass Stepping r → Builds (λ k. line test ∷ tail cands ∷ k) (open_for cands) (adding (a_comparison v)) ts r
   build_cand (cand_one x) r h = builds_before (open_for cands) (build_test x r h)
   build_cand (cand_more {a} {b} o {c} {d} x n y) r h = builds_then (adding (a_comparison c)) (λ vs. join_comparison all (a_comparison d ∷ mark o ∷ vs)) a (o ∷ b) r (build_cand x (o ∷ b ++ r) (apart kind.And Stepping o n refl))
       (builds_then (marked o) (λ vs. join_comparison all (a_comparison d ∷ vs)) (o ∷ []) b r (record { proceed = λ k vs. rw n refl }) (builds_up {g = open_for cands} (adding (a_comparison d)) (join_comparison all) b r (builds_before (λ k. act (join_comparison all) ∷ tail cands ∷ k) (build_test y r h))))
 
-  build_cor : {ts : List Token} {v : Comparison} → IsCor ts v → (r : List Token) → Lacks Stepping r → Lacks (Only kind.And) r → Builds jobs_cor (open_for cors) (adding (a_comparison v)) ts r
+  build_cor : {ts : List Token} {v : Comparison} → IsCor ts v → (r : List Token) → LacksTokenClass Stepping r → LacksTokenClass (Only kind.And) r → Builds jobs_cor (open_for cors) (adding (a_comparison v)) ts r
   build_cor (cor_one x) r h g = builds_before (open_for cors) (builds_past cands (build_cand x r h) g)
   build_cor (cor_more {a} {b} o {c} {d} x n y) r h g = builds_then (adding (a_comparison c)) (λ vs. join_comparison any (a_comparison d ∷ mark o ∷ vs)) a (o ∷ b) r (build_cor x (o ∷ b ++ r) (apart kind.Or Stepping o n refl) (apart kind.Or (Only kind.And) o n refl))
       (builds_then (marked o) (λ vs. join_comparison any (a_comparison d ∷ vs)) (o ∷ []) b r (record { proceed = λ k vs. rw n refl }) (builds_up {g = open_for cors} (adding (a_comparison d)) (join_comparison any) b r (builds_before (λ k. act (join_comparison any) ∷ tail cors ∷ k) (builds_past cands (build_cand y r h) g))))
@@ -124,17 +124,17 @@ mutual
       (builds_then same (λ vs. qualify_tree (a_qualifier q ∷ vs)) [] b r (into_qualifier y r)
       (builds_up {g = open_for qualifiers} (adding (a_qualifier q)) qualify_tree b r (builds_before (λ k. act qualify_tree ∷ tail qualifiers ∷ k) (build_qualifier y r))))
 
-  build_ands : {ts : List Token} {v : Tree} → IsAnds ts v → (r : List Token) → Lacks Qualifying r → Builds (λ k. line start ∷ tail qualifiers ∷ tail ands ∷ k) (open_for ands) (adding (a_tree v)) ts r
+  build_ands : {ts : List Token} {v : Tree} → IsAnds ts v → (r : List Token) → LacksTokenClass Qualifying r → Builds (λ k. line start ∷ tail qualifiers ∷ tail ands ∷ k) (open_for ands) (adding (a_tree v)) ts r
   build_ands (ands_one x) r h = builds_before (open_for ands) (builds_past qualifiers (build_unit x r) h)
   build_ands (ands_more {a} {b} o {p} {q} x n y) r h = builds_then (adding (a_tree p)) (λ vs. join_tree both (a_tree q ∷ mark o ∷ vs)) a (o ∷ b) r (build_ands x (o ∷ b ++ r) (apart kind.And Qualifying o n refl))
       (builds_then (marked o) (λ vs. join_tree both (a_tree q ∷ vs)) (o ∷ []) b r (record { proceed = λ k vs. rw n refl }) (builds_up {g = open_for ands} (adding (a_tree q)) (join_tree both) b r (builds_before (λ k. act (join_tree both) ∷ tail ands ∷ k) (builds_past qualifiers (build_unit y r) h))))
 
-  build_ors : {ts : List Token} {v : Tree} → IsOrs ts v → (r : List Token) → Lacks Qualifying r → Lacks (Only kind.And) r → Builds (λ k. line start ∷ tail qualifiers ∷ tail ands ∷ tail ors ∷ k) (open_for ors) (adding (a_tree v)) ts r
+  build_ors : {ts : List Token} {v : Tree} → IsOrs ts v → (r : List Token) → LacksTokenClass Qualifying r → LacksTokenClass (Only kind.And) r → Builds (λ k. line start ∷ tail qualifiers ∷ tail ands ∷ tail ors ∷ k) (open_for ors) (adding (a_tree v)) ts r
   build_ors (ors_one x) r h g = builds_before (open_for ors) (builds_past ands (build_ands x r h) g)
   build_ors (ors_more {a} {b} o {p} {q} x n y) r h g = builds_then (adding (a_tree p)) (λ vs. join_tree either (a_tree q ∷ mark o ∷ vs)) a (o ∷ b) r (build_ors x (o ∷ b ++ r) (apart kind.Or Qualifying o n refl) (apart kind.Or (Only kind.And) o n refl))
       (builds_then (marked o) (λ vs. join_tree either (a_tree q ∷ vs)) (o ∷ []) b r (record { proceed = λ k vs. rw n refl }) (builds_up {g = open_for ors} (adding (a_tree q)) (join_tree either) b r (builds_before (λ k. act (join_tree either) ∷ tail ors ∷ k) (builds_past ands (build_ands y r h) g))))
 
-  build_pattern : {ts : List Token} {v : Tree} → IsPattern ts v → (r : List Token) → Lacks Qualifying r → Lacks (Only kind.And) r → Lacks (Only kind.Or) r → Builds jobs_pattern (open_for thens) (adding (a_tree v)) ts r
+  build_pattern : {ts : List Token} {v : Tree} → IsPattern ts v → (r : List Token) → LacksTokenClass Qualifying r → LacksTokenClass (Only kind.And) r → LacksTokenClass (Only kind.Or) r → Builds jobs_pattern (open_for thens) (adding (a_tree v)) ts r
   build_pattern (pattern_one x) r h g f = builds_before (open_for thens) (builds_past ors (build_ors x r h g) f)
   build_pattern (pattern_more {a} {b} o {p} {q} x n y) r h g f = builds_then (adding (a_tree p)) (λ vs. join_tree followed (a_tree q ∷ mark o ∷ vs)) a (o ∷ b) r (build_pattern x (o ∷ b ++ r) (apart kind.FollowedBy Qualifying o n refl) (apart kind.FollowedBy (Only kind.And) o n refl) (apart kind.FollowedBy (Only kind.Or) o n refl))
       (builds_then (marked o) (λ vs. join_tree followed (a_tree q ∷ vs)) (o ∷ []) b r (record { proceed = λ k vs. rw n refl }) (builds_up {g = open_for thens} (adding (a_tree q)) (join_tree followed) b r (builds_before (λ k. act (join_tree followed) ∷ tail thens ∷ k) (builds_past ors (build_ors y r h g) f))))

@@ -7,14 +7,14 @@ use Rattle.pattern_grammar.specs.declared.path.StepTree.{StepTree}
 use Rattle.pattern_grammar.specs.declared.path.StepTree.TheVariants as step_tree
 use Rattle.pattern_grammar.specs.Grammar.{IsStep, step_name, step_index, IsPath, path_first, path_further, further}
 use Rattle.pattern_grammar.specs.inner.Machine.{Expected, one, line, tail, step, steps, expects_step, expects_path, go}
-use Rattle.pattern_grammar.specs.inner.Machine.{BeginsLine, Lacks, Found, Stuck, done, open_for}
+use Rattle.pattern_grammar.specs.inner.Machine.{BeginsLine, LacksTokenClass, Found, Stuck, done, open_for}
 use Rattle.pattern_grammar.proofs.SameKindLemmas.{only}
 use Rattle.pattern_grammar.proofs.LeadsLemmas.{halts_one}
 use Rattle.pattern_grammar.proofs.CompletionLemmas.{some, prefix_path}
 use Rattle.pattern_grammar.proofs.ChainLemmas.{Repeat}
 
 -- step
-pub step_none : {ts : List Token} → Lacks (Only kind.Dot) ts → Lacks (Only kind.SquareOpen) ts → Stuck IsStep expects_step ts ts
+pub step_none : {ts : List Token} → LacksTokenClass (Only kind.Dot) ts → LacksTokenClass (Only kind.SquareOpen) ts → Stuck IsStep expects_step ts ts
 step_none {ts} a b = record {
   read = [];
   all_are = refl;
@@ -22,11 +22,11 @@ step_none {ts} a b = record {
   halts = record { stop = none ts a b };
 }
   where
-    none : (us : List Token) → Lacks (Only kind.Dot) us → Lacks (Only kind.SquareOpen) us → (k : List Expected) → go (Some (line step ∷ k)) us ≡ None
+    none : (us : List Token) → LacksTokenClass (Only kind.Dot) us → LacksTokenClass (Only kind.SquareOpen) us → (k : List Expected) → go (Some (line step ∷ k)) us ≡ None
     none [] a b k = refl
     none (t ∷ us) a b k = rw (a, b) refl
 
-pub step_dot : {ts r1 : List Token} (a : Token) → BeginsLine (Only kind.Dot) a ts r1 → Lacks Name r1 → Stuck IsStep expects_step ts r1
+pub step_dot : {ts r1 : List Token} (a : Token) → BeginsLine (Only kind.Dot) a ts r1 → LacksTokenClass Name r1 → Stuck IsStep expects_step ts r1
 step_dot {r1 = r1} a x h = record {
   read = a ∷ [];
   all_are = x.all_are;
@@ -42,7 +42,7 @@ step_named a b x y = record {
   leads = record { proceed = λ k. rw (x.of_class, y.of_class) refl };
 }
 
-pub step_square : {ts r1 : List Token} (a : Token) → BeginsLine (Only kind.SquareOpen) a ts r1 → Lacks Index r1 → Stuck IsStep expects_step ts r1
+pub step_square : {ts r1 : List Token} (a : Token) → BeginsLine (Only kind.SquareOpen) a ts r1 → LacksTokenClass Index r1 → Stuck IsStep expects_step ts r1
 step_square {r1 = r1} a x h = record {
   read = a ∷ [];
   all_are = x.all_are;
@@ -50,7 +50,7 @@ step_square {r1 = r1} a x h = record {
   halts = record { stop = λ k. rw (only kind.SquareOpen a x.of_class) ((halts_one Index r1 h).stop (one (Only kind.SquareClose) ∷ k)) };
 }
 
-pub step_unclosed : {ts r1 r2 : List Token} (a b : Token) → BeginsLine (Only kind.SquareOpen) a ts r1 → BeginsLine Index b r1 r2 → Lacks (Only kind.SquareClose) r2 → Stuck IsStep expects_step ts r2
+pub step_unclosed : {ts r1 r2 : List Token} (a b : Token) → BeginsLine (Only kind.SquareOpen) a ts r1 → BeginsLine Index b r1 r2 → LacksTokenClass (Only kind.SquareClose) r2 → Stuck IsStep expects_step ts r2
 step_unclosed {r2 = r2} a b x y h = record {
   read = a ∷ b ∷ [];
   all_are = x.all_are ∙ ap (λ r. a ∷ r) y.all_are;
@@ -67,7 +67,7 @@ step_indexed a b c x y z = record {
 }
 
 -- path
-pub path_none : {ts : List Token} → Lacks Root ts → Stuck IsPath expects_path ts ts
+pub path_none : {ts : List Token} → LacksTokenClass Root ts → Stuck IsPath expects_path ts ts
 path_none {ts} h = record {
   read = [];
   all_are = refl;
@@ -75,7 +75,7 @@ path_none {ts} h = record {
   halts = record { stop = λ k. (halts_one Root ts h).stop (one (Only kind.Colon) ∷ one Name ∷ tail steps ∷ k) };
 }
 
-pub path_root : {ts r1 : List Token} (a : Token) → BeginsLine Root a ts r1 → Lacks (Only kind.Colon) r1 → Stuck IsPath expects_path ts r1
+pub path_root : {ts r1 : List Token} (a : Token) → BeginsLine Root a ts r1 → LacksTokenClass (Only kind.Colon) r1 → Stuck IsPath expects_path ts r1
 path_root {r1 = r1} a x h = record {
   read = a ∷ [];
   all_are = x.all_are;
@@ -83,7 +83,7 @@ path_root {r1 = r1} a x h = record {
   halts = record { stop = λ k. rw x.of_class ((halts_one (Only kind.Colon) r1 h).stop (one Name ∷ tail steps ∷ k)) };
 }
 
-pub path_colon : {ts r1 r2 : List Token} (a b : Token) → BeginsLine Root a ts r1 → BeginsLine (Only kind.Colon) b r1 r2 → Lacks Name r2 → Stuck IsPath expects_path ts r2
+pub path_colon : {ts r1 r2 : List Token} (a b : Token) → BeginsLine Root a ts r1 → BeginsLine (Only kind.Colon) b r1 r2 → LacksTokenClass Name r2 → Stuck IsPath expects_path ts r2
 path_colon {r2 = r2} a b x y h = record {
   read = a ∷ b ∷ [];
   all_are = x.all_are ∙ ap (λ r. a ∷ r) y.all_are;

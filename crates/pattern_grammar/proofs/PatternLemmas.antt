@@ -8,7 +8,7 @@ use Rattle.pattern_grammar.specs.declared.qualifier.Qualifier.TheVariants as qua
 use Rattle.pattern_grammar.specs.Tree.{Tree, leaf, both, either, followed, qualified}
 use Rattle.pattern_grammar.specs.Grammar.{IsCor, IsQualifier, qualifier_within, qualifier_repeats, qualifier_between, IsStart, start_leaf, start_group, IsUnit, unit_one, unit_more, IsAnds, ands_one, ands_more, IsOrs, ors_one, ors_more, IsPattern, pattern_one, pattern_more}
 use Rattle.pattern_grammar.specs.inner.Machine.{Expected, one, line, start, qualifier, qualifiers, ands, ors, thens, expects_qualifier, expects_start, expects_unit, expects_ands, expects_ors, expects_cor, expects_pattern, go}
-use Rattle.pattern_grammar.specs.inner.Machine.{BeginsLine, Lacks, Found, Stuck, done, open_for}
+use Rattle.pattern_grammar.specs.inner.Machine.{BeginsLine, LacksTokenClass, Found, Stuck, done, open_for}
 use Rattle.pattern_grammar.proofs.SameKindLemmas.{only}
 use Rattle.pattern_grammar.proofs.LeadsLemmas.{halts_one, leads_before, halts_before}
 use Rattle.pattern_grammar.proofs.CompletionLemmas.{some, prefix_start}
@@ -16,7 +16,7 @@ use Rattle.pattern_grammar.proofs.ChainLemmas.{Chain, Repeat}
 use Rattle.pattern_grammar.proofs.TestLemmas.{Bracket}
 
 -- qualifier
-pub qualifier_none : {ts : List Token} → Lacks (Only kind.Within) ts → Lacks (Only kind.Repeats) ts → Lacks (Only kind.Start) ts → Stuck IsQualifier expects_qualifier ts ts
+pub qualifier_none : {ts : List Token} → LacksTokenClass (Only kind.Within) ts → LacksTokenClass (Only kind.Repeats) ts → LacksTokenClass (Only kind.Start) ts → Stuck IsQualifier expects_qualifier ts ts
 qualifier_none {ts} a b c = record {
   read = [];
   all_are = refl;
@@ -24,11 +24,11 @@ qualifier_none {ts} a b c = record {
   halts = record { stop = none ts a b c };
 }
   where
-    none : (us : List Token) → Lacks (Only kind.Within) us → Lacks (Only kind.Repeats) us → Lacks (Only kind.Start) us → (k : List Expected) → go (Some (line qualifier ∷ k)) us ≡ None
+    none : (us : List Token) → LacksTokenClass (Only kind.Within) us → LacksTokenClass (Only kind.Repeats) us → LacksTokenClass (Only kind.Start) us → (k : List Expected) → go (Some (line qualifier ∷ k)) us ≡ None
     none [] a b c k = refl
     none (t ∷ us) a b c k = rw (a, b, c) refl
 
-pub within_stuck : {ts r1 : List Token} (a : Token) → BeginsLine (Only kind.Within) a ts r1 → Lacks (Only kind.Number) r1 → Stuck IsQualifier expects_qualifier ts r1
+pub within_stuck : {ts r1 : List Token} (a : Token) → BeginsLine (Only kind.Within) a ts r1 → LacksTokenClass (Only kind.Number) r1 → Stuck IsQualifier expects_qualifier ts r1
 within_stuck {r1 = r1} a x h = record {
   read = a ∷ [];
   all_are = x.all_are;
@@ -36,7 +36,7 @@ within_stuck {r1 = r1} a x h = record {
   halts = record { stop = λ k. rw (only kind.Within a x.of_class) ((halts_one (Only kind.Number) r1 h).stop (one (Only kind.Seconds) ∷ k)) };
 }
 
-pub within_unended : {ts r1 r2 : List Token} (a b : Token) → BeginsLine (Only kind.Within) a ts r1 → BeginsLine (Only kind.Number) b r1 r2 → Lacks (Only kind.Seconds) r2 → Stuck IsQualifier expects_qualifier ts r2
+pub within_unended : {ts r1 r2 : List Token} (a b : Token) → BeginsLine (Only kind.Within) a ts r1 → BeginsLine (Only kind.Number) b r1 r2 → LacksTokenClass (Only kind.Seconds) r2 → Stuck IsQualifier expects_qualifier ts r2
 within_unended {r2 = r2} a b x y h = record {
   read = a ∷ b ∷ [];
   all_are = x.all_are ∙ ap (λ r. a ∷ r) y.all_are;
@@ -52,7 +52,7 @@ within_found a b c x y z = record {
   leads = record { proceed = λ k. rw (only kind.Within a x.of_class, y.of_class, z.of_class) refl };
 }
 
-pub repeats_stuck : {ts r1 : List Token} (a : Token) → BeginsLine (Only kind.Repeats) a ts r1 → Lacks (Only kind.Number) r1 → Stuck IsQualifier expects_qualifier ts r1
+pub repeats_stuck : {ts r1 : List Token} (a : Token) → BeginsLine (Only kind.Repeats) a ts r1 → LacksTokenClass (Only kind.Number) r1 → Stuck IsQualifier expects_qualifier ts r1
 repeats_stuck {r1 = r1} a x h = record {
   read = a ∷ [];
   all_are = x.all_are;
@@ -60,7 +60,7 @@ repeats_stuck {r1 = r1} a x h = record {
   halts = record { stop = λ k. rw (only kind.Repeats a x.of_class) ((halts_one (Only kind.Number) r1 h).stop (one (Only kind.Times) ∷ k)) };
 }
 
-pub repeats_unended : {ts r1 r2 : List Token} (a b : Token) → BeginsLine (Only kind.Repeats) a ts r1 → BeginsLine (Only kind.Number) b r1 r2 → Lacks (Only kind.Times) r2 → Stuck IsQualifier expects_qualifier ts r2
+pub repeats_unended : {ts r1 r2 : List Token} (a b : Token) → BeginsLine (Only kind.Repeats) a ts r1 → BeginsLine (Only kind.Number) b r1 r2 → LacksTokenClass (Only kind.Times) r2 → Stuck IsQualifier expects_qualifier ts r2
 repeats_unended {r2 = r2} a b x y h = record {
   read = a ∷ b ∷ [];
   all_are = x.all_are ∙ ap (λ r. a ∷ r) y.all_are;
@@ -76,7 +76,7 @@ repeats_found a b c x y z = record {
   leads = record { proceed = λ k. rw (only kind.Repeats a x.of_class, y.of_class, z.of_class) refl };
 }
 
-pub between_stuck : {ts r1 : List Token} (a : Token) → BeginsLine (Only kind.Start) a ts r1 → Lacks (Only kind.Timestamp) r1 → Stuck IsQualifier expects_qualifier ts r1
+pub between_stuck : {ts r1 : List Token} (a : Token) → BeginsLine (Only kind.Start) a ts r1 → LacksTokenClass (Only kind.Timestamp) r1 → Stuck IsQualifier expects_qualifier ts r1
 between_stuck {r1 = r1} a x h = record {
   read = a ∷ [];
   all_are = x.all_are;
@@ -84,7 +84,7 @@ between_stuck {r1 = r1} a x h = record {
   halts = record { stop = λ k. rw (only kind.Start a x.of_class) ((halts_one (Only kind.Timestamp) r1 h).stop (one (Only kind.Stop) ∷ one (Only kind.Timestamp) ∷ k)) };
 }
 
-pub between_unstopped : {ts r1 r2 : List Token} (a b : Token) → BeginsLine (Only kind.Start) a ts r1 → BeginsLine (Only kind.Timestamp) b r1 r2 → Lacks (Only kind.Stop) r2 → Stuck IsQualifier expects_qualifier ts r2
+pub between_unstopped : {ts r1 r2 : List Token} (a b : Token) → BeginsLine (Only kind.Start) a ts r1 → BeginsLine (Only kind.Timestamp) b r1 r2 → LacksTokenClass (Only kind.Stop) r2 → Stuck IsQualifier expects_qualifier ts r2
 between_unstopped {r2 = r2} a b x y h = record {
   read = a ∷ b ∷ [];
   all_are = x.all_are ∙ ap (λ r. a ∷ r) y.all_are;
@@ -92,7 +92,7 @@ between_unstopped {r2 = r2} a b x y h = record {
   halts = record { stop = λ k. rw (only kind.Start a x.of_class, y.of_class) ((halts_one (Only kind.Stop) r2 h).stop (one (Only kind.Timestamp) ∷ k)) };
 }
 
-pub between_unended : {ts r1 r2 r3 : List Token} (a b c : Token) → BeginsLine (Only kind.Start) a ts r1 → BeginsLine (Only kind.Timestamp) b r1 r2 → BeginsLine (Only kind.Stop) c r2 r3 → Lacks (Only kind.Timestamp) r3 → Stuck IsQualifier expects_qualifier ts r3
+pub between_unended : {ts r1 r2 r3 : List Token} (a b c : Token) → BeginsLine (Only kind.Start) a ts r1 → BeginsLine (Only kind.Timestamp) b r1 r2 → BeginsLine (Only kind.Stop) c r2 r3 → LacksTokenClass (Only kind.Timestamp) r3 → Stuck IsQualifier expects_qualifier ts r3
 between_unended {r3 = r3} a b c x y z h = record {
   read = a ∷ b ∷ c ∷ [];
   all_are = x.all_are ∙ ap (λ r. a ∷ r) (y.all_are ∙ ap (λ r. b ∷ r) z.all_are);
@@ -117,10 +117,10 @@ pub qualifier_shorter : {ts rest : List Token} {v : Qualifier} {before : List Ex
 qualifier_shorter {rest = rest} f = omega (arith, read_qualifier f.spells, ap length f.all_are, length-append f.read rest)
 
 -- start
-pub leaf_none : {ts : List Token} → Lacks (Only kind.RoundOpen) ts → Lacks (Only kind.SquareOpen) ts → Stuck IsStart expects_start ts ts
+pub leaf_none : {ts : List Token} → LacksTokenClass (Only kind.RoundOpen) ts → LacksTokenClass (Only kind.SquareOpen) ts → Stuck IsStart expects_start ts ts
 leaf_none {ts} a b = record { read = []; all_are = refl; prefix = prefix_start; halts = record { stop = none ts a b } }
   where
-    none : (us : List Token) → Lacks (Only kind.RoundOpen) us → Lacks (Only kind.SquareOpen) us → (k : List Expected) → go (Some (line start ∷ k)) us ≡ None
+    none : (us : List Token) → LacksTokenClass (Only kind.RoundOpen) us → LacksTokenClass (Only kind.SquareOpen) us → (k : List Expected) → go (Some (line start ∷ k)) us ≡ None
     none [] a b k = refl
     none (t ∷ us) a b k = rw (a, b) refl
 

@@ -8,7 +8,7 @@ use Rattle.pattern_lexer.specs.declared.token.TokenKind.TheVariants.{Word, Numbe
 use Rattle.pattern_grammar.specs.declared.class.TokenClass.{TokenClass}
 use Rattle.pattern_grammar.specs.declared.class.TokenClass.TheVariants.{Only, Root, Name, Index, Equality, Order, Textual, Ordered, Constant, Qualifying, Stepping}
 use Rattle.pattern_grammar.specs.TokenClass.{is_in}
-use Rattle.pattern_grammar.specs.Prefixes.{Nonterminal, pattern, ors, ands, unit, qualifier, cor, cand, test, compare, path, Part, one, line, ◌then◌, ◌or◌, many, maybe, rule, Derives, is_one, is_line, is_both, is_left, is_right, no_more, one_more, absent, present, PrefixOf, before_one, after_one, of_line, in_first, in_second, of_left, of_right, before_many, in_many, in_more, before_maybe, in_maybe}
+use Rattle.pattern_grammar.specs.Prefixes.{Nonterminal, pattern, ors, ands, unit, qualifier, cor, cand, test, compare, path, ProductionPart, one, line, ◌then◌, ◌or◌, many, maybe, rule, Derives, is_one, is_line, is_both, is_left, is_right, no_more, one_more, absent, present, PrefixOf, before_one, after_one, of_line, in_first, in_second, of_left, of_right, before_many, in_many, in_more, before_maybe, in_maybe}
 use Rattle.pattern_grammar.proofs.CompletionLemmas.{some}
 use Rattle.pattern_grammar.proofs.CutLemmas.{cut}
 
@@ -40,26 +40,26 @@ kind_in-is Qualifying = refl
 kind_in-is Stepping = refl
 
 -- tokens that are derived from the part
-record Some (a : Part) : Type 0 where
+record Some (a : ProductionPart) : Type 0 where
   tokens : List Token
   derived : Derives a tokens
 
 some_one : (class : TokenClass) → Some (one class)
 some_one class = record { tokens = some (kind_in class) ∷ []; derived = is_one (some (kind_in class)) (kind_in-is class) }
 
-some_both : {a b : Part} → Some a → Some b → Some (a then b)
+some_both : {a b : ProductionPart} → Some a → Some b → Some (a then b)
 some_both x y = record { tokens = x.tokens ++ y.tokens; derived = is_both x.derived y.derived }
 
-some_left : {a b : Part} → Some a → Some (a or b)
+some_left : {a b : ProductionPart} → Some a → Some (a or b)
 some_left x = record { tokens = x.tokens; derived = is_left x.derived }
 
-some_right : {a b : Part} → Some b → Some (a or b)
+some_right : {a b : ProductionPart} → Some b → Some (a or b)
 some_right x = record { tokens = x.tokens; derived = is_right x.derived }
 
-some_many : {a : Part} → Some (many a)
+some_many : {a : ProductionPart} → Some (many a)
 some_many = record { tokens = []; derived = no_more }
 
-some_maybe : {a : Part} → Some (maybe a)
+some_maybe : {a : ProductionPart} → Some (maybe a)
 some_maybe = record { tokens = []; derived = absent }
 
 some_line : {l : Nonterminal} → Some (rule l) → Some (line l)
@@ -96,7 +96,7 @@ some_ors = some_line (some_both some_ands some_many)
 some_pattern : Some (line pattern)
 some_pattern = some_line (some_both some_ors some_many)
 
-some_part : (a : Part) → Some a
+some_part : (a : ProductionPart) → Some a
 some_part (one class) = some_one class
 some_part (line pattern) = some_pattern
 some_part (line ors) = some_ors
@@ -114,11 +114,11 @@ some_part (many a) = some_many
 some_part (maybe a) = some_maybe
 
 -- a prefix extends to something derived
-pub record Completion (a : Part) (ts : List Token) : Type 0 where
+pub record Completion (a : ProductionPart) (ts : List Token) : Type 0 where
   pub more : List Token
   pub derived : Derives a (ts ++ more)
 
-pub complete : {a : Part} {ts : List Token} → PrefixOf a ts → Completion a ts
+pub complete : {a : ProductionPart} {ts : List Token} → PrefixOf a ts → Completion a ts
 complete (before_one {class}) = let x = some_one class in record { more = x.tokens; derived = x.derived }
 complete (after_one t h) = record { more = []; derived = is_one t h }
 complete (of_line x) = let h = complete x in record { more = h.more; derived = is_line h.derived }
@@ -133,7 +133,7 @@ complete before_maybe = record { more = []; derived = absent }
 complete (in_maybe x) = let h = complete x in record { more = h.more; derived = present h.derived }
 
 -- what begins something derived is a prefix
-pub prefix : {a : Part} {ws : List Token} → Derives a ws → (ts more : List Token) → ws ≡ ts ++ more → PrefixOf a ts
+pub prefix : {a : ProductionPart} {ws : List Token} → Derives a ws → (ts more : List Token) → ws ≡ ts ++ more → PrefixOf a ts
 prefix (is_one t h) [] more e = before_one
 prefix (is_one t h) (u ∷ []) more e = let g : t ≡ u = cc in after_one u (rw (← g) h)
 prefix (is_one t h) (u ∷ v ∷ ts) more e = absurd (cc)

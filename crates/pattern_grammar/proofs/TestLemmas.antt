@@ -11,7 +11,7 @@ use Rattle.pattern_grammar.specs.TokenClass.{IsA}
 use Rattle.pattern_grammar.specs.Tree.{Comparison, test as test_tree, group, all, any}
 use Rattle.pattern_grammar.specs.Grammar.{IsPath, IsCheck, IsTest, test_group, test_exists, test_not_exists, test_compare, test_not_compare, IsCand, cand_one, cand_more, IsCor, cor_one, cor_more}
 use Rattle.pattern_grammar.specs.inner.Machine.{Expected, one, line, tail, ExpectedLine, test, turn, cands, cors, expects_path, expects_check, expects_test, expects_cor, next, go}
-use Rattle.pattern_grammar.specs.inner.Machine.{BeginsLine, Lacks, LacksTestWord, Leads, Found, Stuck, done}
+use Rattle.pattern_grammar.specs.inner.Machine.{BeginsLine, LacksTokenClass, LacksTestWord, Leads, Found, Stuck, done}
 use Rattle.pattern_grammar.proofs.SameKindLemmas.{only}
 use Rattle.pattern_grammar.proofs.LeadsLemmas.{halts_one, leads_one, leads_then, halts_then, leads_before, halts_before, leads_token}
 use Rattle.pattern_grammar.proofs.CompletionLemmas.{some, prefix_path, prefix_check, prefix_behind, prefix_before}
@@ -39,7 +39,7 @@ exists_found a x f = record {
 }
 
 -- NOT EXISTS path
-pub not_stuck : {ts r1 : List Token} (a : Token) → BeginsLine (Only kind.Not) a ts r1 → Lacks (Only kind.Exists) r1 → Stuck IsTest expects_test ts r1
+pub not_stuck : {ts r1 : List Token} (a : Token) → BeginsLine (Only kind.Not) a ts r1 → LacksTokenClass (Only kind.Exists) r1 → Stuck IsTest expects_test ts r1
 not_stuck {r1 = r1} a x h = record {
   read = a ∷ [];
   all_are = x.all_are;
@@ -67,12 +67,12 @@ not_exists_found a b x y f = record {
 pub as_path : (ts : List Token) → LacksTestWord ts → Leads expects_test (λ k. expects_path (line turn ∷ k)) [] ts
 as_path ts h = record { proceed = same ts h.round h.exists h.not }
   where
-    same : (us : List Token) → Lacks (Only kind.RoundOpen) us → Lacks (Only kind.Exists) us → Lacks (Only kind.Not) us → (k : List Expected) → go (Some (line test ∷ k)) us ≡ go (Some (expects_path (line turn ∷ k))) us
+    same : (us : List Token) → LacksTokenClass (Only kind.RoundOpen) us → LacksTokenClass (Only kind.Exists) us → LacksTokenClass (Only kind.Not) us → (k : List Expected) → go (Some (line test ∷ k)) us ≡ go (Some (expects_path (line turn ∷ k))) us
     same [] a b c k = refl
     same (t ∷ us) a b c k = rw (a, b, c) refl
 
 -- without NOT, the check begins
-pub as_check : (ts : List Token) → Lacks (Only kind.Not) ts → Leads (λ k. line turn ∷ k) expects_check [] ts
+pub as_check : (ts : List Token) → LacksTokenClass (Only kind.Not) ts → Leads (λ k. line turn ∷ k) expects_check [] ts
 as_check [] h = record { proceed = λ k. refl }
 as_check (t ∷ ts) h = record { proceed = λ k. rw h refl }
 
@@ -108,7 +108,7 @@ compare_not_found {r3 = r3} o h f x g = record {
   leads = leads_then f.read (o ∷ g.read) r3 (leads_at (o ∷ g.read ++ r3) (x.all_are ∙ ap (λ r. o ∷ r) g.all_are) (path_leads h f)) (leads_then (o ∷ []) g.read r3 (negated o (g.read ++ r3) x.of_class) g.leads);
 }
 
-pub compare_stuck : {ts r1 r2 : List Token} {p : PathTree} → LacksTestWord ts → Found IsPath expects_path done ts p r1 → Lacks (Only kind.Not) r1 → Stuck IsCheck expects_check r1 r2 → Stuck IsTest expects_test ts r2
+pub compare_stuck : {ts r1 r2 : List Token} {p : PathTree} → LacksTestWord ts → Found IsPath expects_path done ts p r1 → LacksTokenClass (Only kind.Not) r1 → Stuck IsCheck expects_check r1 r2 → Stuck IsTest expects_test ts r2
 compare_stuck {r1 = r1} {r2 = r2} {p = p} h f n s = record {
   read = f.read ++ s.read;
   all_are = joined_to f.read s.read r2 f.all_are s.all_are;
@@ -116,7 +116,7 @@ compare_stuck {r1 = r1} {r2 = r2} {p = p} h f n s = record {
   halts = halts_then f.read s.read r2 (leads_at (s.read ++ r2) s.all_are (path_leads h f)) (halts_then [] s.read r2 (leads_at (s.read ++ r2) s.all_are (as_check r1 n)) s.halts);
 }
 
-pub compare_found : {ts r1 r2 : List Token} {p : PathTree} {c : CheckTree} → LacksTestWord ts → Found IsPath expects_path done ts p r1 → Lacks (Only kind.Not) r1 → Found IsCheck expects_check done r1 c r2 → Found IsTest expects_test done ts (with_check p.root false p c) r2
+pub compare_found : {ts r1 r2 : List Token} {p : PathTree} {c : CheckTree} → LacksTestWord ts → Found IsPath expects_path done ts p r1 → LacksTokenClass (Only kind.Not) r1 → Found IsCheck expects_check done r1 c r2 → Found IsTest expects_test done ts (with_check p.root false p c) r2
 compare_found {r1 = r1} {r2 = r2} h f n g = record {
   read = f.read ++ g.read;
   all_are = joined_to f.read g.read r2 f.all_are g.all_are;
@@ -139,7 +139,7 @@ module _ {V W : Type 0} {IsInside : List Token → V → Type 0} {IsLine : List 
     halts = halts_then (a ∷ []) s.read r2 (leads_token a (s.read ++ r2) (λ k. c.enters a k x.of_class)) (halts_before (λ k. one (Only closes) ∷ k) s.halts);
   }
 
-  pub bracket_unclosed : {ts r1 r2 : List Token} {v : V} (a : Token) → BeginsLine (Only opens) a ts r1 → Found IsInside inside done r1 v r2 → Lacks (Only closes) r2 → Stuck IsLine (λ k. line l ∷ k) ts r2
+  pub bracket_unclosed : {ts r1 r2 : List Token} {v : V} (a : Token) → BeginsLine (Only opens) a ts r1 → Found IsInside inside done r1 v r2 → LacksTokenClass (Only closes) r2 → Stuck IsLine (λ k. line l ∷ k) ts r2
   bracket_unclosed {r2 = r2} {v = v} a x f h = record {
     read = a ∷ f.read;
     all_are = x.all_are ∙ ap (λ r. a ∷ r) f.all_are;

@@ -17,7 +17,7 @@ use Rattle.pattern_grammar.specs.TokenClass.{is_in}
 use Rattle.pattern_grammar.specs.Tree.{Comparison, test as test_of, group, all, any, Tree, leaf, both, either, followed, qualified}
 use Rattle.pattern_grammar.specs.Grammar.{further}
 use Rattle.pattern_grammar.specs.inner.Machine.{ExpectedLine, start, qualifier, test, turn, check, step, Tail, qualifiers, ands, ors, thens, cands, cors, steps, commas, opening}
-use Rattle.pattern_grammar.specs.inner.Machine.{Lacks}
+use Rattle.pattern_grammar.specs.inner.Machine.{LacksTokenClass}
 
 -- what was built
 pub data Built : Type 0 where
@@ -259,6 +259,6 @@ builds_act d (t ∷ r) = record { proceed = λ k vs. refl }
 pub builds_up : {f g : List Job → List Job} (c d : List Built → List Built) (x r : List Token) → Builds f (λ k. act d ∷ g k) c x r → Builds f g (λ vs. d (c vs)) x r
 builds_up {g = g} c d x r a = record { proceed = λ k vs. a.proceed k vs ∙ (builds_act d r).proceed (g k) (c vs) }
 
-pub builds_past : {f : List Job → List Job} {c : List Built → List Built} (t : Tail) {x r : List Token} → Builds f (open_for t) c x r → Lacks (opening t) r → Builds f done c x r
+pub builds_past : {f : List Job → List Job} {c : List Built → List Built} (t : Tail) {x r : List Token} → Builds f (open_for t) c x r → LacksTokenClass (opening t) r → Builds f done c x r
 builds_past t {r = []} a h = record { proceed = λ k vs. a.proceed k vs }
 builds_past t {r = o ∷ r} a h = record { proceed = λ k vs. a.proceed k vs ∙ rw h refl }

@@ -8,8 +8,8 @@ use Rattle.pattern_grammar.specs.declared.depth.TheConstants.{MAX_DEPTH}
 use Rattle.pattern_grammar.specs.TokenClass.{is_in, IsA}
 
 -- the number of tokens of the class
-abbrev pub how_many : TokenClass → List Token → ℕ
-how_many class ts = count_by (λ t. is_in class t.kind) ts
+abbrev pub class_count : TokenClass → List Token → ℕ
+class_count class ts = count_by (λ t. is_in class t.kind) ts
 
 -- the last of the tokens is IN
 pub record EndsWithIn (ts : List Token) : Type 0 where
@@ -22,12 +22,12 @@ pub record EndsWithIn (ts : List Token) : Type 0 where
 pub record IsDeepOpen (before : List Token) (token : Token) : Type 0 where
   pub opens : IsA (Only RoundOpen) token
   pub groups : ¬ EndsWithIn before
-  pub deep : how_many (Only RoundClose) before + MAX_DEPTH ≤ how_many (Only RoundOpen) before
+  pub deep : class_count (Only RoundClose) before + MAX_DEPTH ≤ class_count (Only RoundOpen) before
 
 -- the first token of a qualifier after MAX_DEPTH of them
 pub record IsDeepQualifier (before : List Token) (token : Token) : Type 0 where
   pub qualifies : IsA Qualifying token
-  pub deep : MAX_DEPTH ≤ how_many Qualifying before
+  pub deep : MAX_DEPTH ≤ class_count Qualifying before
 
 -- the token after those exceeds a limit
 abbrev pub IsTooMany : List Token → Token → Type 0

@@ -3,11 +3,11 @@ use Rattle.std.specs.Prelude.{ℕ, List, codes}
 use Rattle.pattern_grammar.specs.declared.refusal.SyntaxRefusal.{SyntaxRefusal, TheVariants.Syntax, TheVariants.TooDeep}
 
 -- its name
-abbrev pub name_of : SyntaxRefusal → List ℕ
-name_of (Syntax at) = codes "Syntax"
-name_of (TooDeep at) = codes "TooDeep"
+abbrev pub syntax_refusal_name : SyntaxRefusal → List ℕ
+syntax_refusal_name (Syntax at) = codes "Syntax"
+syntax_refusal_name (TooDeep at) = codes "TooDeep"
 
 -- its byte offset
-abbrev pub place_of : SyntaxRefusal → ℕ
-place_of (Syntax at) = at
-place_of (TooDeep at) = at
+abbrev pub syntax_refusal_offset : SyntaxRefusal → ℕ
+syntax_refusal_offset (Syntax at) = at
+syntax_refusal_offset (TooDeep at) = at

@@ -7,27 +7,27 @@ use Rattle.pattern_grammar.specs.declared.class.TokenClass.{TokenClass}
 use Rattle.pattern_grammar.specs.declared.class.TokenClass.TheVariants.{Only, Root, Name, Index, Equality, Order, Textual, Ordered, Constant, Qualifying, Stepping}
 
 -- the two kinds are equal
-abbrev pub same : TokenKind → TokenKind → Bool
-same a b = sameb the_type a b
+abbrev pub is_same_kind : TokenKind → TokenKind → Bool
+is_same_kind a b = sameb the_type a b
 
 -- a constant that has an order
 abbrev pub is_ordered : TokenKind → Bool
-is_ordered kind = same Number kind || same String kind || same Hex kind || same Binary kind || same Timestamp kind
+is_ordered kind = is_same_kind Number kind || is_same_kind String kind || is_same_kind Hex kind || is_same_kind Binary kind || is_same_kind Timestamp kind
 
 -- the class has the kind. The classes are object types, properties, indices in brackets, operators,
 -- constants, and the first tokens of qualifiers and of further steps
 abbrev pub is_in : TokenClass → TokenKind → Bool
-is_in (Only expected) kind = same expected kind
-is_in Root kind = same Word kind || same HyphenWord kind
-is_in Name kind = same Word kind || same String kind
-is_in Index kind = same Number kind || same Star kind
-is_in Equality kind = same Equal kind || same Differ kind
-is_in Order kind = same Less kind || same LessEqual kind || same Greater kind || same GreaterEqual kind
-is_in Textual kind = same Like kind || same Subset kind || same Superset kind
+is_in (Only expected) kind = is_same_kind expected kind
+is_in Root kind = is_same_kind Word kind || is_same_kind HyphenWord kind
+is_in Name kind = is_same_kind Word kind || is_same_kind String kind
+is_in Index kind = is_same_kind Number kind || is_same_kind Star kind
+is_in Equality kind = is_same_kind Equal kind || is_same_kind Differ kind
+is_in Order kind = is_same_kind Less kind || is_same_kind LessEqual kind || is_same_kind Greater kind || is_same_kind GreaterEqual kind
+is_in Textual kind = is_same_kind Like kind || is_same_kind Subset kind || is_same_kind Superset kind
 is_in Ordered kind = is_ordered kind
-is_in Constant kind = is_ordered kind || same TrueWord kind || same FalseWord kind
-is_in Qualifying kind = same Within kind || same Repeats kind || same Start kind
-is_in Stepping kind = same Dot kind || same SquareOpen kind
+is_in Constant kind = is_ordered kind || is_same_kind TrueWord kind || is_same_kind FalseWord kind
+is_in Qualifying kind = is_same_kind Within kind || is_same_kind Repeats kind || is_same_kind Start kind
+is_in Stepping kind = is_same_kind Dot kind || is_same_kind SquareOpen kind
 
 -- the token is of the class
 abbrev pub IsA : TokenClass → Token → Type 0

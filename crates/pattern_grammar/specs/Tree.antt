@@ -21,16 +21,16 @@ pub data Tree : Type 0 where
   qualified : Tree → Qualifier → Tree
 
 -- a left fold of the operator
-abbrev pub joined : {V : Type 0} → (V → V → V) → V → List V → V
-joined join first [] = first
-joined join first (next ∷ others) = joined join (join first next) others
+abbrev pub left_fold : {V : Type 0} → (V → V → V) → V → List V → V
+left_fold join first [] = first
+left_fold join first (next ∷ others) = left_fold join (join first next) others
 
 -- one level, whose parts are converted already
 abbrev pub comparison_level : ComparisonTree-F Comparison Comparison Comparison → Comparison
-comparison_level tree = joined any tree.first tree.others
+comparison_level tree = left_fold any tree.first tree.others
 
 abbrev pub conjunction_level : Conjunction-F Comparison Comparison Comparison → Comparison
-conjunction_level tree = joined all tree.first tree.others
+conjunction_level tree = left_fold all tree.first tree.others
 
 abbrev pub operand_level : Operand-F Comparison Comparison Comparison → Comparison
 operand_level (Operand-F.Test t) = test t
@@ -47,9 +47,9 @@ operand = fold-Operand Comparison Comparison Comparison operand_level comparison
 
 abbrev pub pattern_level : PatternTree-F Tree → Tree
 pattern_level (PatternTree-F.Leaf c) = leaf (compared c)
-pattern_level (PatternTree-F.Both first others) = joined both first.value others
-pattern_level (PatternTree-F.Either first others) = joined either first.value others
-pattern_level (PatternTree-F.Then first others) = joined followed first.value others
+pattern_level (PatternTree-F.Both first others) = left_fold both first.value others
+pattern_level (PatternTree-F.Either first others) = left_fold either first.value others
+pattern_level (PatternTree-F.Then first others) = left_fold followed first.value others
 pattern_level (PatternTree-F.Qualified part qualifier) = qualified part.value qualifier
 
 abbrev pub shape : PatternTree → Tree

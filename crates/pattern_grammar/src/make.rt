@@ -1,5 +1,6 @@
 ghost use Rattle.std.specs.Prelude.{◌≡◌, map, IfOk};
-ghost use Rattle.pattern_grammar.specs.Tree.{joined, compared, operand, group, shape, both, either};
+ghost use Rattle.pattern_grammar.specs.Tree.{left_fold, compared, operand, group, shape, both};
+ghost use Rattle.pattern_grammar.specs.Tree.{either};
 ghost use Rattle.pattern_grammar.specs.Tree.{followed, qualified};
 
 use crate::{ComparisonTree, Operand, PatternTree, Qualifier};
@@ -24,7 +25,7 @@ pub(crate) fn make_both(
     first: PatternTree,
     others: Items<PatternTree>,
 ) -> Result<PatternTree, NoMemory>
-    ensures { IfOk result (λ p. shape p ≡ joined both (shape first) (map shape others)) }
+    ensures { IfOk result (λ p. shape p ≡ left_fold both (shape first) (map shape others)) }
 {
     if others.is_empty() {
         return Ok(first);
@@ -38,7 +39,7 @@ pub(crate) fn make_either(
     first: PatternTree,
     others: Items<PatternTree>,
 ) -> Result<PatternTree, NoMemory>
-    ensures { IfOk result (λ p. shape p ≡ joined either (shape first) (map shape others)) }
+    ensures { IfOk result (λ p. shape p ≡ left_fold either (shape first) (map shape others)) }
 {
     if others.is_empty() {
         return Ok(first);
@@ -52,7 +53,7 @@ pub(crate) fn make_then(
     first: PatternTree,
     others: Items<PatternTree>,
 ) -> Result<PatternTree, NoMemory>
-    ensures { IfOk result (λ p. shape p ≡ joined followed (shape first) (map shape others)) }
+    ensures { IfOk result (λ p. shape p ≡ left_fold followed (shape first) (map shape others)) }
 {
     if others.is_empty() {
         return Ok(first);

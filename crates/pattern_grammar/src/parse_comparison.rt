@@ -4,7 +4,8 @@ ghost use Rattle.std.specs.Prelude.{IfOk, IfErr};
 ghost use Rattle.pattern_grammar.specs.Grammar.{IsTest, IsCand, IsCor};
 ghost use Rattle.pattern_grammar.specs.Tree.{compared, conjunction, operand, test};
 ghost use Rattle.pattern_grammar.specs.inner.Machine.{expects_test, expects_cand, expects_cor};
-ghost use Rattle.pattern_grammar.specs.inner.Machine.{Found, Refused, Lacks, LacksTestWord, done};
+ghost use Rattle.pattern_grammar.specs.inner.Machine.{Found, Refused, LacksTokenClass};
+ghost use Rattle.pattern_grammar.specs.inner.Machine.{LacksTestWord, done};
 
 use crate::make::make_group;
 use crate::parse_check::check;
@@ -43,7 +44,7 @@ fn compared_test<'a>(
 
 /// `[NOT] EXISTS path | path [NOT] compare`
 fn plain_test<'a>(alloc: Global, tokens: &'a [Token]) -> Result<(TestTree, &'a [Token]), Stop<'a>>
-    requires { Lacks (TokenClass.Only TokenKind.RoundOpen) tokens.now }
+    requires { LacksTokenClass (TokenClass.Only TokenKind.RoundOpen) tokens.now }
     ensures ok { IfOk result (λ x. Found IsTest expects_test done tokens.now (test x.0) x.1.now) }
     ensures err { IfErr result (λ e. Refused IsTest expects_test tokens.now e) }
 {

@@ -11,7 +11,7 @@ ghost use Rattle.pattern_grammar.specs.Depth.{IsShallow};
 ghost use Rattle.pattern_grammar.specs.inner.Machine.{expects_pattern, expects_ors, expects_ands};
 ghost use Rattle.pattern_grammar.specs.inner.Machine.{expects_unit, expects_start};
 ghost use Rattle.pattern_grammar.specs.inner.Machine.{expects_qualifier};
-ghost use Rattle.pattern_grammar.specs.inner.Machine.{Found, Refused, Lacks, done};
+ghost use Rattle.pattern_grammar.specs.inner.Machine.{Found, Refused, LacksTokenClass, done};
 
 use crate::make::{make_both, make_either, make_qualified, make_then};
 use crate::parse_comparison::cor;
@@ -62,7 +62,7 @@ fn qualifier<'a>(tokens: &'a [Token]) -> Result<(Qualifier, &'a [Token]), Stop<'
 
 /// `"[" cor "]"`
 fn leaf<'a>(alloc: Global, tokens: &'a [Token]) -> Result<(PatternTree, &'a [Token]), Stop<'a>>
-    requires { Lacks (TokenClass.Only TokenKind.RoundOpen) tokens.now }
+    requires { LacksTokenClass (TokenClass.Only TokenKind.RoundOpen) tokens.now }
     ensures ok { IfOk result
         (λ x. Found IsStart expects_start done tokens.now (shape x.0) x.1.now) }
     ensures err { IfErr result (λ e. Refused IsStart expects_start tokens.now e) }

@@ -1,5 +1,5 @@
 ghost use Rattle.std.specs.Prelude.{◌≡◌};
-ghost use Rattle.pattern_grammar.specs.SyntaxRefusal.{name_of, place_of};
+ghost use Rattle.pattern_grammar.specs.SyntaxRefusal.{syntax_refusal_name, syntax_refusal_offset};
 
 /// Why the tokens of a text aren't a pattern. `at` is a byte offset, from 0.
 #[derive(Clone, Copy, Debug, PartialEq, Eq, Hash)]
@@ -13,7 +13,7 @@ pub enum SyntaxRefusal {
 impl SyntaxRefusal {
     /// The refusal's name.
     pub fn name(self) -> &'static str
-        ensures { result.now ≡ name_of self }
+        ensures { result.now ≡ syntax_refusal_name self }
     {
         match self {
             SyntaxRefusal::Syntax { .. } => "Syntax",
@@ -23,7 +23,7 @@ impl SyntaxRefusal {
 
     /// The byte offset of the refusal.
     pub fn at(self) -> usize
-        ensures { result ≡ place_of self }
+        ensures { result ≡ syntax_refusal_offset self }
     {
         match self {
             SyntaxRefusal::Syntax { at } | SyntaxRefusal::TooDeep { at } => at,

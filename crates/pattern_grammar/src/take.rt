@@ -1,6 +1,6 @@
 ghost use Rattle.std.specs.Prelude.{◌≡◌, ◌++◌, ◌∷◌, [], ◌⊎◌, IfSome, IfNone, IfOk, IfErr, IsOkAnd};
 ghost use Rattle.std.specs.Prelude.{IsErrAnd, MatchBool};
-ghost use Rattle.pattern_grammar.specs.inner.Machine.{BeginsLine, Lacks};
+ghost use Rattle.pattern_grammar.specs.inner.Machine.{BeginsLine, LacksTokenClass};
 ghost use Rattle.pattern_grammar.specs.declared.stop.Stop.TheVariants.{Memory};
 
 use crate::{Stop, TokenClass};
@@ -10,7 +10,7 @@ use pattern_lexer::Token;
 /// Splits off the first token, if it is of the class.
 pub(crate) fn eat<'a>(tokens: &'a [Token], class: TokenClass) -> Option<(Token, &'a [Token])>
     ensures some { IfSome result (λ x. BeginsLine class x.0 tokens.now x.1.now) }
-    ensures none { IfNone result (Lacks class tokens.now) }
+    ensures none { IfNone result (LacksTokenClass class tokens.now) }
 {
     match tokens {
         [first, rest @ ..] if class.holds(first.kind) => Some((*first, rest)),

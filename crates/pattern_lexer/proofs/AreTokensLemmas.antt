@@ -9,9 +9,9 @@ use Rattle.pattern_lexer.specs.declared.token.TokenKind.TheVariants.{Number, Str
 use Rattle.pattern_lexer.specs.declared.refusal.LeftWord.{LeftWord}
 use Rattle.pattern_lexer.specs.declared.refusal.TokenRefusal.{TokenRefusal}
 use Rattle.pattern_lexer.specs.Word.{HasAt}
-use Rattle.pattern_lexer.specs.Spans.{IsCut, text_at}
+use Rattle.pattern_lexer.specs.Spans.{IsCut, token_text_at}
 use Rattle.pattern_lexer.specs.Values.{HasValue}
-use Rattle.pattern_lexer.specs.Reading.{IsBlank, IsFirst, RunsOn, IsUnsupported, IsUsable, IsNext, AreTokens, IsRefusalAt, HasRefusal}
+use Rattle.pattern_lexer.specs.Reading.{IsBlank, IsFirst, RunsOn, IsUnsupported, IsUsable, IsNextToken, AreTokens, IsRefusalAt, HasRefusal}
 use Rattle.pattern_lexer.specs.inner.Steps.{IsRun, BeginsToken, ArePassed, StandsAt, ReadUpTo, invalid_value_refusal}
 use Rattle.pattern_lexer.proofs.TokenEdgeLemmas.{cuts, token_edges}
 
@@ -20,7 +20,7 @@ pub record Placed (text : List ℕ) (token : Token) (after : List ℕ) : Type 0 
   pub cut : IsCut text token
   pub ordered : token.from < token.to
   pub within : token.to ≤ length text
-  pub first : IsFirst (drop token.from text) token.kind (text_at text token) after
+  pub first : IsFirst (drop token.from text) token.kind (token_text_at text token) after
   pub rest : after ≡ drop token.to text
 
 placed_by : (text : List ℕ) (at : ℕ) (kind : TokenKind) (part after : List ℕ) (token : Token) → token ≡ record { kind = kind; from = at; to = length text - length after } → IsUtf8 text → at < length text → IsFirst (drop at text) kind part after → Placed text token after
@@ -68,7 +68,7 @@ usable_by text bytes at to kind after r same ends is_false used = record {
   used = subst (λ (xs : List ℕ). (word : LeftWord) → ¬ IsUnsupported word kind (take (to - at) (drop at xs)) after) same used;
 }
 
-pub stands : (text bytes : List ℕ) (at : ℕ) (kind : TokenKind) (after : List ℕ) (r : Bool) → IsUtf8 text → bytes ≡ text → at < length text → BeginsToken (take (length bytes - at) (drop at bytes)) kind after → IsTrue r ↔ RunsOn kind after → r ≡ false → ((word : LeftWord) → ¬ IsUnsupported word kind (take (length bytes - length after - at) (drop at bytes)) after) → HasValue kind (text_at text (token_of bytes at kind after)) → StandsAt text at (token_of bytes at kind after)
+pub stands : (text bytes : List ℕ) (at : ℕ) (kind : TokenKind) (after : List ℕ) (r : Bool) → IsUtf8 text → bytes ≡ text → at < length text → BeginsToken (take (length bytes - at) (drop at bytes)) kind after → IsTrue r ↔ RunsOn kind after → r ≡ false → ((word : LeftWord) → ¬ IsUnsupported word kind (take (length bytes - length after - at) (drop at bytes)) after) → HasValue kind (token_text_at text (token_of bytes at kind after)) → StandsAt text at (token_of bytes at kind after)
 stands text bytes at kind after r utf8 same l begins ends is_false used value =
     let to : ℕ = length bytes - length after in
     let p = placed text bytes at kind after utf8 same l begins in
@@ -82,7 +82,7 @@ stands text bytes at kind after r utf8 same l begins ends is_false used value =
       value = value;
     }
 
-pub represents_nothing : (text bytes : List ℕ) (at : ℕ) (kind : TokenKind) (after : List ℕ) (r : Bool) → IsUtf8 text → bytes ≡ text → at < length text → BeginsToken (take (length bytes - at) (drop at bytes)) kind after → IsTrue r ↔ RunsOn kind after → r ≡ false → ((word : LeftWord) → ¬ IsUnsupported word kind (take (length bytes - length after - at) (drop at bytes)) after) → ¬ HasValue kind (text_at text (token_of bytes at kind after)) → IsRefusalAt at (drop at text) (invalid_value_refusal kind at)
+pub represents_nothing : (text bytes : List ℕ) (at : ℕ) (kind : TokenKind) (after : List ℕ) (r : Bool) → IsUtf8 text → bytes ≡ text → at < length text → BeginsToken (take (length bytes - at) (drop at bytes)) kind after → IsTrue r ↔ RunsOn kind after → r ≡ false → ((word : LeftWord) → ¬ IsUnsupported word kind (take (length bytes - length after - at) (drop at bytes)) after) → ¬ HasValue kind (token_text_at text (token_of bytes at kind after)) → IsRefusalAt at (drop at text) (invalid_value_refusal kind at)
 represents_nothing text bytes at kind after r utf8 same l begins ends is_false used value =
     let to : ℕ = length bytes - length after in
     let p = placed text bytes at kind after utf8 same l begins in
@@ -127,8 +127,8 @@ end_is at left (token ∷ tokens) rest h =
     let to = next.to in
     omega arith
 
-one_token_more : (at : ℕ) (left : List ℕ) (tokens : List Token) (rest : List ℕ) (token : Token) (after : List ℕ) → AreTokens at left tokens rest → IsNext (end_of at tokens) rest token after → AreTokens at left (tokens ++ token ∷ []) after
-one_token_more at left [] rest token after h next = (after, subst (λ (xs : List ℕ). IsNext at xs token after) (sym h) next, refl)
+one_token_more : (at : ℕ) (left : List ℕ) (tokens : List Token) (rest : List ℕ) (token : Token) (after : List ℕ) → AreTokens at left tokens rest → IsNextToken (end_of at tokens) rest token after → AreTokens at left (tokens ++ token ∷ []) after
+one_token_more at left [] rest token after h next = (after, subst (λ (xs : List ℕ). IsNextToken at xs token after) (sym h) next, refl)
 one_token_more at left (t ∷ tokens) rest token after h next = (h.0, h.1, one_token_more t.to h.0 tokens rest token after h.2 next)
 
 pub read_nothing : (text : List ℕ) (at : ℕ) → ArePassed text 0 at → ReadUpTo text [] at
@@ -140,9 +140,9 @@ read_nothing text at p = record {
   ends = p.ends;
 }
 
-next_of : (text : List ℕ) (tokens : List Token) (at : ℕ) (token : Token) → (read : ReadUpTo text tokens at) → StandsAt text at token → IsNext (end_of 0 tokens) (read.blanks ++ drop at text) token (drop token.to text)
+next_of : (text : List ℕ) (tokens : List Token) (at : ℕ) (token : Token) → (read : ReadUpTo text tokens at) → StandsAt text at token → IsNextToken (end_of 0 tokens) (read.blanks ++ drop at text) token (drop token.to text)
 next_of text tokens at token read stands =
-    let part : List ℕ = text_at text token in
+    let part : List ℕ = token_text_at text token in
     let after : List ℕ = drop token.to text in
     let within = read.within in
     let low = stands.ordered in

@@ -1,6 +1,6 @@
 -- A String' text is that of one list of characters.
 use Rattle.std.proofs.Common.{◌≡◌, ℕ, Bool, true, false, ◌||◌, ◌==◌, List, [], ◌∷◌, ◌++◌, flat_map, if◌then◌else◌, codes, refl, sym, ap, ◌∙◌, subst, ℤ}
-use Rattle.stix_times.specs.Reading.{IsTextOf}
+use Rattle.stix_times.specs.Reading.{IsTextOfInstant}
 use Rattle.pattern_lexer.specs.Values.{escaped, IsStringText, IsTimestampText}
 use Rattle.pattern_lexer.proofs.QuotedLemmas.{one_inside}
 
@@ -31,8 +31,8 @@ one_list (x ∷ xs) (y ∷ ys) e =
 pub one_words : (text first second : List ℕ) → IsStringText text first → IsStringText text second → first ≡ second
 one_words text first second x y = one_list first second (one_inside (codes "'") (flat_map escaped first) (flat_map escaped second) text x y)
 
-pub one_timestamp : ((text : List ℕ) (first second : ℤ) → IsTextOf text first → IsTextOf text second → first ≡ second) → (text : List ℕ) (first second : ℤ) → IsTimestampText text first → IsTimestampText text second → first ≡ second
+pub one_timestamp : ((text : List ℕ) (first second : ℤ) → IsTextOfInstant text first → IsTextOfInstant text second → first ≡ second) → (text : List ℕ) (first second : ℤ) → IsTimestampText text first → IsTimestampText text second → first ≡ second
 one_timestamp one text first second x y =
     let same = one_inside (codes "t'") x.0 y.0 text x.1 y.1 in
-    let P : List ℕ → Type 0 = λ l. IsTextOf l first in
+    let P : List ℕ → Type 0 = λ l. IsTextOfInstant l first in
     one y.0 first second (subst P same x.2) y.2

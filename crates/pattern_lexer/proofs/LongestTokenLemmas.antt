@@ -12,7 +12,7 @@ use Rattle.pattern_lexer.specs.Word.{IsWordStart, IsHyphenWordPart, HasAt}
 use Rattle.pattern_lexer.specs.Values.{escaped, IsNumberText}
 use Rattle.pattern_lexer.specs.Table.{IsToken}
 use Rattle.pattern_lexer.specs.Reading.{HasNoToken}
-use Rattle.pattern_lexer.specs.inner.Steps.{IsName, IsRun, IsNumberStart, StartsAsPunctuation, BeginsToken, HasNoPrefixed, letter_kind, single_kind, double_kind}
+use Rattle.pattern_lexer.specs.inner.Steps.{IsNameOrKeyword, IsRun, IsNumberStart, StartsAsPunctuation, BeginsToken, HasNoPrefixed, letter_kind, single_kind, double_kind}
 use Rattle.pattern_lexer.proofs.TokenShapeLemmas.{Shape, of_single, of_double, of_name, of_letter, of_number, of_words, shape, start_by}
 use Rattle.pattern_lexer.proofs.EscapedTextLemmas.{one_end}
 use Rattle.pattern_lexer.proofs.TokenLeadLemmas.{Lead, letter, number, quote, other, Starts, same_lead, other_start, single_row, double_row, letter_row, some_of}
@@ -135,7 +135,7 @@ start_part (c ∷ whole) after e h = has_first IsHyphenWordPart after c whole (s
 start_of : (whole : List ℕ) (c : ℕ) (rest : List ℕ) → whole ≡ c ∷ rest → HasAt 0 IsWordStart whole → IsWordStart c
 start_of whole c rest e h = subst (λ (l : List ℕ). HasAt 0 IsWordStart l) e h
 
-pub run_name : (whole front after : List ℕ) → IsRun IsHyphenWordPart whole front after → HasAt 0 IsWordStart whole → IsName front
+pub run_name : (whole front after : List ℕ) → IsRun IsHyphenWordPart whole front after → HasAt 0 IsWordStart whole → IsNameOrKeyword front
 run_name whole [] after run starts = absurd (run.ends (start_part whole after run.spelled starts))
 run_name whole (c ∷ front) after run starts = record { starts = start_of whole c (front ++ after) run.spelled starts; parts = run.all }
 

@@ -3,7 +3,7 @@ use Rattle.std.proofs.Common.{◌≡◌, ◌≢◌, ℕ, List, [], ◌∷◌, �
 use Rattle.std.specs.Result.{result_ok}
 use Rattle.std.proofs.lemmas.List.{append_cancel_left, append_cancel_right}
 use Rattle.stix_times.specs.declared.refusal.TimeRefusal.{TimeRefusal}
-use Rattle.stix_times.specs.Reading.{IsTextOf, Reads}
+use Rattle.stix_times.specs.Reading.{IsTextOfInstant, ReadsTimestamp}
 use Rattle.pattern_lexer.specs.Values.{IsTimestampText}
 
 -- what stands before the `'` at the end, if one does
@@ -24,11 +24,11 @@ one_inside opening a b text e h =
     append_cancel_left opening a b (append_cancel_right (opening ++ a) (opening ++ b) (39 ∷ []) (sym e ∙ h))
 
 -- a time that is refused is no instant's
-pub no_moment : (text time : List ℕ) (r : Result ℤ TimeRefusal) (o : Option ℤ) → o ≡ result_ok r → text ≡ (codes "t'") ++ time ++ 39 ∷ [] → ((other : Result ℤ TimeRefusal) → Reads time other → other ≡ r) → IfNone o ((instant : ℤ) → ¬ IsTimestampText text instant)
+pub no_moment : (text time : List ℕ) (r : Result ℤ TimeRefusal) (o : Option ℤ) → o ≡ result_ok r → text ≡ (codes "t'") ++ time ++ 39 ∷ [] → ((other : Result ℤ TimeRefusal) → ReadsTimestamp time other → other ≡ r) → IfNone o ((instant : ℤ) → ¬ IsTimestampText text instant)
 no_moment text time r (Some instant) is spelled only = tt
 no_moment text time (Ok instant) None is spelled only = absurd (cc)
 no_moment text time (Err refusal) None is spelled only = λ instant names.
     let same = one_inside (codes "t'") names.0 time text names.1 spelled in
-    let P : List ℕ → Type 0 = λ l. IsTextOf l instant in
+    let P : List ℕ → Type 0 = λ l. IsTextOfInstant l instant in
     let e : ◌≡◌ {A = Result ℤ TimeRefusal} (Ok instant) (Err refusal) = only (Ok instant) (subst P same names.2) in
     absurd (cc)

@@ -7,13 +7,13 @@ use Rattle.pattern_lexer.specs.declared.token.TokenKind.TheVariants.{SquareOpen,
 use Rattle.pattern_lexer.specs.Word.{IsWordStart, IsWordPart, IsHyphenWordPart}
 use Rattle.pattern_lexer.specs.Values.{IsNumberText, IsStringText, IsPrefixedText}
 use Rattle.pattern_lexer.specs.Table.{IsToken}
-use Rattle.pattern_lexer.specs.inner.Steps.{IsName, letter_kind, single_kind, double_kind}
+use Rattle.pattern_lexer.specs.inner.Steps.{IsNameOrKeyword, letter_kind, single_kind, double_kind}
 
 -- a token is a punctuation mark, a name, a text in quotes after a letter, a number or a text in quotes
 pub data Shape : List ℕ → Type 0 where
   of_single : {text : List ℕ} (c : ℕ) → IsSome (single_kind c) → text ≡ c ∷ [] → Shape text
   of_double : {text : List ℕ} (c : ℕ) → IsSome (double_kind c) → text ≡ c ∷ 61 ∷ [] → Shape text
-  of_name : {text : List ℕ} → IsName text → Shape text
+  of_name : {text : List ℕ} → IsNameOrKeyword text → Shape text
   of_letter : {text : List ℕ} (letter : ℕ) (inside : List ℕ) → IsSome (letter_kind letter) → IsPrefixedText (letter ∷ []) text inside → Shape text
   of_number : {text : List ℕ} → IsNumberText text → Shape text
   of_words : {text : List ℕ} (words : List ℕ) → IsStringText text words → Shape text
@@ -47,7 +47,7 @@ parts_by : (text : List ℕ) → all_follow text ≡ true → All IsHyphenWordPa
 parts_by [] e = All-nil IsHyphenWordPart
 parts_by (c ∷ text) e = let h = both (follows c) (all_follow text) e in All-cons IsHyphenWordPart c text (part_by c h.0) (parts_by text h.1)
 
-name_by : (text : List ℕ) → name_test text ≡ true → IsName text
+name_by : (text : List ℕ) → name_test text ≡ true → IsNameOrKeyword text
 name_by [] e = absurd (cc)
 name_by (c ∷ text) e =
     let h = both (starts c) (all_follow text) e in

@@ -11,7 +11,7 @@ use Rattle.pattern_lexer.specs.declared.refusal.TokenRefusal.TheVariants.{BadTok
 use Rattle.pattern_lexer.specs.Word.{HasAt}
 use Rattle.pattern_lexer.specs.Table.{IsToken}
 use Rattle.pattern_lexer.specs.Values.{HasValue}
-use Rattle.pattern_lexer.specs.Reading.{IsBlank, IsFirst, RunsOn, IsUnsupported, IsUsable, IsNext, AreTokens, HasNoToken, IsUnterminated, IsUnsupportedToken, IsInvalidValue, IsRefusalAt, HasRefusal, Reads}
+use Rattle.pattern_lexer.specs.Reading.{IsBlank, IsFirst, RunsOn, IsUnsupported, IsUsable, IsNextToken, AreTokens, HasNoToken, IsUnterminated, IsUnsupportedToken, IsInvalidValue, IsRefusalAt, HasRefusal, ReadsTokens}
 use Rattle.pattern_lexer.specs.inner.Steps.{invalid_value_refusal}
 use Rattle.pattern_lexer.proofs.OneKindLemmas.{kind_of, kind_is, one_first, carry, token_not_blank}
 
@@ -39,10 +39,10 @@ same_token t u p q r =
     ∙ ap (λ (n : ℕ). record u { from = n; to = t.to }) q
     ∙ ap (λ (n : ℕ). record u { to = n }) r
 
-next_spelled : (at : ℕ) (left : List ℕ) (t : Token) (a : List ℕ) → (n : IsNext at left t a) → left ≡ n.blanks ++ (n.text ++ a)
+next_spelled : (at : ℕ) (left : List ℕ) (t : Token) (a : List ℕ) → (n : IsNextToken at left t a) → left ≡ n.blanks ++ (n.text ++ a)
 next_spelled at left t a n = n.spelled ∙ append_assoc n.blanks n.text a
 
-one_next : (at : ℕ) (left : List ℕ) (t u : Token) (a b : List ℕ) → IsNext at left t a → IsNext at left u b → (t ≡ u) × (a ≡ b)
+one_next : (at : ℕ) (left : List ℕ) (t u : Token) (a b : List ℕ) → IsNextToken at left t a → IsNextToken at left u b → (t ≡ u) × (a ≡ b)
 one_next at left t u a b x y =
     let e = split_blanks x.blanks y.blanks (x.text ++ a) (y.text ++ b) (sym (next_spelled at left t a x) ∙ next_spelled at left u b y) x.blank y.blank (token_not_blank t.kind x.text a x.first.token) (token_not_blank u.kind y.text b y.first.token) in
     let first = subst (λ (l : List ℕ). IsFirst l u.kind y.text b) (sym e.1) y.first in
@@ -143,7 +143,7 @@ one_end size rest (Some r) (Some s) x y =
     let refused = subst (λ (l : List ℕ). IsRefusalAt (size - length l) l s) (sym e.1) y.refused in
     ap (λ (p : TokenRefusal). Some p) (one_why (size - length x.left) x.left r s (why (size - length x.left) x.left r x.refused) (why (size - length x.left) x.left s refused))
 
-no_next : (size at : ℕ) (left : List ℕ) (o : Option TokenRefusal) (t : Token) (a : List ℕ) → End size left o → IsNext at left t a → ⊥
+no_next : (size at : ℕ) (left : List ℕ) (o : Option TokenRefusal) (t : Token) (a : List ℕ) → End size left o → IsNextToken at left t a → ⊥
 no_next size at left None t a x n = blanks_alone n.blanks (n.text ++ a) (subst (λ (l : List ℕ). All IsBlank l) (next_spelled at left t a n) x) (token_not_blank t.kind n.text a n.first.token)
 no_next size at left (Some r) t a x n =
     let e = split_blanks x.blanks n.blanks x.left (n.text ++ a) (sym x.spelled ∙ next_spelled at left t a n) x.blank n.blank x.begins (token_not_blank t.kind n.text a n.first.token) in
@@ -181,11 +181,11 @@ record Reading (text : List ℕ) (answer : Result (List Token) TokenRefusal) : T
   ends : End (length text) rest end
   is : answer ≡ answered tokens end
 
-reading : (text : List ℕ) (answer : Result (List Token) TokenRefusal) → Reads text answer → Reading text answer
+reading : (text : List ℕ) (answer : Result (List Token) TokenRefusal) → ReadsTokens text answer → Reading text answer
 reading text (Ok tokens) h = record { tokens = tokens; rest = h.rest; end = None; stand = h.stand; ends = h.blank; is = refl }
 reading text (Err refusal) h = record { tokens = h.tokens; rest = h.blanks ++ h.rest; end = Some refusal; stand = h.stand; ends = faulty text refusal h; is = refl }
 
-pub one_reading : (text : List ℕ) (a b : Result (List Token) TokenRefusal) → Reads text a → Reads text b → a ≡ b
+pub one_reading : (text : List ℕ) (a b : Result (List Token) TokenRefusal) → ReadsTokens text a → ReadsTokens text b → a ≡ b
 one_reading text a b x y =
     let r = reading text a x in
     let s = reading text b y in

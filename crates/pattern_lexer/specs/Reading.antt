@@ -37,7 +37,7 @@ pub record IsUsable (kind : TokenKind) (text after : List ℕ) : Type 0 where
 
 -- the token follows white space in the rest of a text, and has no refusal; the rest begins at
 -- offset `at`
-pub record IsNext (at : ℕ) (left : List ℕ) (token : Token) (after : List ℕ) : Type 0 where
+pub record IsNextToken (at : ℕ) (left : List ℕ) (token : Token) (after : List ℕ) : Type 0 where
   pub blanks : List ℕ
   pub text : List ℕ
   pub blank : All IsBlank blanks
@@ -52,7 +52,7 @@ pub record IsNext (at : ℕ) (left : List ℕ) (token : Token) (after : List ℕ
 -- follows them
 abbrev pub AreTokens : ℕ → List ℕ → List Token → List ℕ → Type 0
 AreTokens at left [] rest = left ≡ rest
-AreTokens at left (token ∷ tokens) rest = (after : List ℕ) × IsNext at left token after × AreTokens token.to after tokens rest
+AreTokens at left (token ∷ tokens) rest = (after : List ℕ) × IsNextToken at left token after × AreTokens token.to after tokens rest
 
 -- the text has these tokens, with white space after the last
 pub record TokensOf (text : List ℕ) (tokens : List Token) : Type 0 where
@@ -109,6 +109,6 @@ pub record HasRefusal (text : List ℕ) (refusal : TokenRefusal) : Type 0 where
   pub refused : IsRefusalAt (length text - length rest) rest refusal
 
 -- the result of tokenizing the text
-abbrev pub Reads : List ℕ → Result (List Token) TokenRefusal → Type 0
-Reads text (Ok tokens) = TokensOf text tokens
-Reads text (Err refusal) = HasRefusal text refusal
+abbrev pub ReadsTokens : List ℕ → Result (List Token) TokenRefusal → Type 0
+ReadsTokens text (Ok tokens) = TokensOf text tokens
+ReadsTokens text (Err refusal) = HasRefusal text refusal

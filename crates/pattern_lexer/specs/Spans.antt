@@ -10,20 +10,20 @@ pub record IsCut (text : List ℕ) (token : Token) : Type 0 where
   pub to : IsCharBoundary text token.to
 
 -- the token's text
-abbrev pub text_at : List ℕ → Token → List ℕ
-text_at text token = slice_range text token.from token.to
+abbrev pub token_text_at : List ℕ → Token → List ℕ
+token_text_at text token = slice_range text token.from token.to
 
 -- the token is in the text, and its text has the value
 pub record At {V : Type 0} (IsTextOf : List ℕ → V → Type 0) (text : List ℕ) (token : Token) (value : V) : Type 0 where
   pub cut : IsCut text token
-  pub is : IsTextOf (text_at text token) value
+  pub is : IsTextOf (token_text_at text token) value
 
 -- a text is its own value
 abbrev pub IsItself : List ℕ → List ℕ → Type 0
 IsItself text value = value ≡ text
 
 -- the number in the brackets of a path: 0 to 4294967295
-pub record IsIndex (text : List ℕ) (token : Token) (place : ℕ) : Type 0 where
+pub record IsIndexToken (text : List ℕ) (token : Token) (place : ℕ) : Type 0 where
   pub whole : At IsIntegerText text token (pos place)
   pub high : place ≤ 4_294_967_295
 

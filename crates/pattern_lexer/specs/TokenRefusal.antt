@@ -4,17 +4,17 @@ use Rattle.pattern_lexer.specs.declared.refusal.TokenRefusal.{TokenRefusal}
 use Rattle.pattern_lexer.specs.declared.refusal.TokenRefusal.TheVariants.{BadToken, LeftOut, BadNumber, BadTime, BadBytes}
 
 -- its name
-abbrev pub name_of : TokenRefusal → List ℕ
-name_of (BadToken at) = codes "BadToken"
-name_of (LeftOut at word) = codes "LeftOut"
-name_of (BadNumber at) = codes "BadNumber"
-name_of (BadTime at) = codes "BadTime"
-name_of (BadBytes at) = codes "BadBytes"
+abbrev pub token_refusal_name : TokenRefusal → List ℕ
+token_refusal_name (BadToken at) = codes "BadToken"
+token_refusal_name (LeftOut at word) = codes "LeftOut"
+token_refusal_name (BadNumber at) = codes "BadNumber"
+token_refusal_name (BadTime at) = codes "BadTime"
+token_refusal_name (BadBytes at) = codes "BadBytes"
 
 -- its byte offset
-abbrev pub place_of : TokenRefusal → ℕ
-place_of (BadToken at) = at
-place_of (LeftOut at word) = at
-place_of (BadNumber at) = at
-place_of (BadTime at) = at
-place_of (BadBytes at) = at
+abbrev pub token_refusal_offset : TokenRefusal → ℕ
+token_refusal_offset (BadToken at) = at
+token_refusal_offset (LeftOut at word) = at
+token_refusal_offset (BadNumber at) = at
+token_refusal_offset (BadTime at) = at
+token_refusal_offset (BadBytes at) = at

@@ -3,7 +3,7 @@ use Rattle.std.specs.Prelude.{◌≡◌, ◌≢◌, ◌≤◌, ◌⊎◌, ℕ, �
 use Rattle.std.specs.Str.Parse.{IsNumeral, without_leading_sign, signed_digits_value}
 use Rattle.hex.specs.Hex.{decode_of}
 use Rattle.base64.specs.{Engines.standard, GeneralPurpose.encode_of, GeneralPurpose.IsBytes}
-use Rattle.stix_times.specs.Reading.{IsTextOf}
+use Rattle.stix_times.specs.Reading.{IsTextOfInstant}
 use Rattle.pattern_lexer.specs.declared.token.TokenKind.{TokenKind}
 use Rattle.pattern_lexer.specs.declared.token.TokenKind.TheVariants.{Number, String, Hex, Binary, Timestamp}
 
@@ -61,7 +61,7 @@ IsBinaryText text bytes = IsBytes bytes × (text ≡ quoted (codes "b") (encode_
 
 -- the Timestamp has this instant
 abbrev pub IsTimestampText : List ℕ → ℤ → Type 0
-IsTimestampText text instant = (time : List ℕ) × (text ≡ quoted (codes "t") time) × IsTextOf time instant
+IsTimestampText text instant = (time : List ℕ) × (text ≡ quoted (codes "t") time) × IsTextOfInstant time instant
 
 -- the token of this kind has a value
 abbrev pub HasValue : TokenKind → List ℕ → Type 0

@@ -2,7 +2,7 @@
 //! token, so one scan finds the longest one.
 
 ghost use Rattle.std.specs.Prelude.{◌<◌, ◌≤◌, IfOk, length};
-ghost use Rattle.pattern_lexer.specs.Reading.{Reads};
+ghost use Rattle.pattern_lexer.specs.Reading.{ReadsTokens};
 ghost use Rattle.pattern_lexer.specs.inner.Steps.{ArePassed, ReadsAt};
 
 use crate::first::first_of;
@@ -15,7 +15,7 @@ use std::alloc::Global;
 /// Tokenizes a pattern by longest match, from the left. The inner error is the first refusal.
 /// Linear in the length of the text.
 pub fn tokens(alloc: Global, text: &str) -> Result<Result<Items<Token>, TokenRefusal>, NoMemory>
-    ensures { IfOk result (Reads text.now) }
+    ensures { IfOk result (ReadsTokens text.now) }
 {
     let mut tokens = Items::new(alloc);
     let mut at = past_blanks(text, 0);

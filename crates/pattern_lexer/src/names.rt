@@ -1,7 +1,7 @@
 ghost use Rattle.std.specs.Prelude.{◌≡◌, IfSome, IfNone, Contains};
 ghost use Rattle.pattern_lexer.specs.Word.{IsWordStart, HasAt, keywords};
 ghost use Rattle.pattern_lexer.specs.Table.{IsToken};
-ghost use Rattle.pattern_lexer.specs.inner.Steps.{BeginsToken, IsName};
+ghost use Rattle.pattern_lexer.specs.inner.Steps.{BeginsToken, IsNameOrKeyword};
 
 use crate::TokenKind;
 use crate::first::First;
@@ -25,7 +25,7 @@ pub fn first_name(bytes: &[u8]) -> First<'_>
 
 /// The kind of a whole name.
 fn kind_of_name(name: &[u8]) -> TokenKind
-    requires { IsName name.now }
+    requires { IsNameOrKeyword name.now }
     ensures { IsToken result name.now }
 {
     if name.contains(&b'-') {

@@ -1,5 +1,5 @@
 ghost use Rattle.std.specs.Prelude.{◌≡◌};
-ghost use Rattle.pattern_lexer.specs.TokenRefusal.{name_of, place_of};
+ghost use Rattle.pattern_lexer.specs.TokenRefusal.{token_refusal_name, token_refusal_offset};
 
 /// Syntax of the standard that this implementation doesn't support.
 #[derive(Clone, Copy, Debug, PartialEq, Eq, Hash)]
@@ -32,7 +32,7 @@ pub enum TokenRefusal {
 impl TokenRefusal {
     /// The refusal's name.
     pub fn name(self) -> &'static str
-        ensures { result.now ≡ name_of self }
+        ensures { result.now ≡ token_refusal_name self }
     {
         match self {
             TokenRefusal::BadToken { .. } => "BadToken",
@@ -45,7 +45,7 @@ impl TokenRefusal {
 
     /// The byte offset of the refusal.
     pub fn at(self) -> usize
-        ensures { result ≡ place_of self }
+        ensures { result ≡ token_refusal_offset self }
     {
         match self {
             TokenRefusal::BadToken { at }

@@ -2,7 +2,7 @@ ghost use Rattle.std.specs.Prelude.{◌≡◌, ◌↔◌, ℕ, List, IsTrue, IfO
 ghost use Rattle.pattern_lexer.specs.declared.refusal.LeftWord.{LeftWord};
 ghost use Rattle.pattern_lexer.specs.Values.{HasValue, IsHexText, IsBinaryText};
 ghost use Rattle.pattern_lexer.specs.Table.{IsToken};
-ghost use Rattle.pattern_lexer.specs.Spans.{IsCut, text_at};
+ghost use Rattle.pattern_lexer.specs.Spans.{IsCut, token_text_at};
 ghost use Rattle.pattern_lexer.specs.Reading.{RunsOn, IsUnsupported};
 ghost use Rattle.pattern_lexer.specs.inner.Steps.{invalid_value_refusal};
 
@@ -39,8 +39,8 @@ pub fn left_word(kind: TokenKind, text: &[u8], after: &[u8]) -> Option<LeftWord>
 /// Whether the token has a value.
 pub fn has_value(alloc: Global, text: &str, token: Token) -> Result<bool, NoMemory>
     requires cut { IsCut text.now token }
-    requires token { IsToken token.kind (text_at text.now token) }
-    ensures { IfOk result (λ has. IsTrue has ↔ HasValue token.kind (text_at text.now token)) }
+    requires token { IsToken token.kind (token_text_at text.now token) }
+    ensures { IfOk result (λ has. IsTrue has ↔ HasValue token.kind (token_text_at text.now token)) }
 {
     match token.kind {
         TokenKind::Number => Ok(integer_at(text, token).is_some()),
@@ -54,7 +54,7 @@ pub fn has_value(alloc: Global, text: &str, token: Token) -> Result<bool, NoMemo
 fn is_hex(alloc: Global, text: &str, token: Token) -> Result<bool, NoMemory>
     requires { IsCut text.now token }
     ensures { IfOk result (λ is. IsTrue is
-        ↔ ((bytes : List ℕ) × IsHexText (text_at text.now token) bytes)) }
+        ↔ ((bytes : List ℕ) × IsHexText (token_text_at text.now token) bytes)) }
 {
     let bytes = hex_at(alloc, text, token)?;
     Ok(bytes.is_some())
@@ -63,7 +63,7 @@ fn is_hex(alloc: Global, text: &str, token: Token) -> Result<bool, NoMemory>
 fn is_base64(alloc: Global, text: &str, token: Token) -> Result<bool, NoMemory>
     requires { IsCut text.now token }
     ensures { IfOk result (λ is. IsTrue is
-        ↔ ((bytes : List ℕ) × IsBinaryText (text_at text.now token) bytes)) }
+        ↔ ((bytes : List ℕ) × IsBinaryText (token_text_at text.now token) bytes)) }
 {
     let bytes = binary_at(alloc, text, token)?;
     Ok(bytes.is_some())

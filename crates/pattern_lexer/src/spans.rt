@@ -1,6 +1,6 @@
 ghost use Rattle.std.specs.Prelude.{◌≡◌, ℕ, ℤ, List, IfOk, IfSome, IfNone};
 ghost use Rattle.flow_values.specs.Answers.{FindsExactly};
-ghost use Rattle.pattern_lexer.specs.Spans.{IsCut, text_at, At, IsItself};
+ghost use Rattle.pattern_lexer.specs.Spans.{IsCut, token_text_at, At, IsItself};
 ghost use Rattle.pattern_lexer.specs.Values.{IsIntegerText, IsStringText, IsHexText, IsBinaryText};
 ghost use Rattle.pattern_lexer.specs.Values.{IsTimestampText};
 

@@ -2,7 +2,7 @@
 use Rattle.std.proofs.Common.{◌≡◌, ℕ, zero, suc, ◌⊎◌, inl, inr, refl, sym, ap, ◌∙◌, arith}
 use Rattle.pattern_reader.specs.declared.value_refusal.ValueRefusal.{ValueRefusal}
 use Rattle.pattern_reader.specs.declared.value_refusal.ValueRefusal.TheVariants.{BadCount, LongPath, BadAddress, EmptySpan, NoCommonRoot, NoValue}
-use Rattle.pattern_reader.specs.ValueRefusal.{place_of, rank_of, Precedes, IsEarliest}
+use Rattle.pattern_reader.specs.ValueRefusal.{value_refusal_offset, rank_of, Precedes, IsEarliest}
 
 pub precedes_itself : (a : ValueRefusal) → Precedes a a
 precedes_itself a = inr (refl, omega arith)
@@ -26,12 +26,12 @@ of_rank (suc (suc (suc zero))) at = BadCount at
 of_rank (suc (suc (suc (suc zero)))) at = BadAddress at
 of_rank (suc (suc (suc (suc (suc rank))))) at = NoValue at
 
-of_own_rank : (a : ValueRefusal) → of_rank (rank_of a) (place_of a) ≡ a
+of_own_rank : (a : ValueRefusal) → of_rank (rank_of a) (value_refusal_offset a) ≡ a
 of_own_rank (BadCount at) = refl
 of_own_rank _ = refl
 
-same_both : (a b : ValueRefusal) → rank_of a ≡ rank_of b → place_of a ≡ place_of b → a ≡ b
-same_both a b r p = sym (of_own_rank a) ∙ ap (λ k. of_rank k (place_of a)) r ∙ ap (of_rank (rank_of b)) p ∙ of_own_rank b
+same_both : (a b : ValueRefusal) → rank_of a ≡ rank_of b → value_refusal_offset a ≡ value_refusal_offset b → a ≡ b
+same_both a b r p = sym (of_own_rank a) ∙ ap (λ k. of_rank k (value_refusal_offset a)) r ∙ ap (of_rank (rank_of b)) p ∙ of_own_rank b
 
 precedes_back : (a b : ValueRefusal) → Precedes a b → Precedes b a → a ≡ b
 precedes_back a b (inl h) (inl g) = absurd (omega arith)

@@ -1,40 +1,40 @@
 -- The root kinds of a comparison are those of the leaf that it means.
 use Rattle.std.proofs.Common.{◌⊎◌, inl, inr, ℕ, List, sym, ◌∙◌}
 use Rattle.pattern_grammar.specs.Tree.{Comparison, all, any}
-use Rattle.pattern_types.specs.PlainLeaf.{PlainLeaf, PlainLeaves, none, more, put}
+use Rattle.pattern_types.specs.PlainLeaf.{PlainLeaf, PlainLeaves, none, more, leaves_with}
 use Rattle.pattern_reader.specs.LeafMeaning.{Means, means_test, means_group, means_all, means_any, AllParts, all_first, all_more, AnyParts, any_first, any_more}
 use Rattle.pattern_types.specs.Soundness.{Roots, AllHave, OneHas, IsSoundLeaf, AreSoundLeaves}
 use Rattle.pattern_reader.specs.Refusals.{HasRoot}
 
 -- parts with one more
-pub all_put : (fs : PlainLeaves) (f : PlainLeaf) (root : List ℕ) → AllHave (put fs f) root → AllHave fs root × Roots f root
+pub all_put : (fs : PlainLeaves) (f : PlainLeaf) (root : List ℕ) → AllHave (leaves_with fs f) root → AllHave fs root × Roots f root
 all_put none f root h = (tt, h.0)
 all_put (more g gs) f root h = let k = all_put gs f root h.1 in ((h.0, k.0), k.1)
 
-put_all : (fs : PlainLeaves) (f : PlainLeaf) (root : List ℕ) → AllHave fs root → Roots f root → AllHave (put fs f) root
+put_all : (fs : PlainLeaves) (f : PlainLeaf) (root : List ℕ) → AllHave fs root → Roots f root → AllHave (leaves_with fs f) root
 put_all none f root h k = (k, tt)
 put_all (more g gs) f root h k = (h.0, put_all gs f root h.1 k)
 
-any_put : (fs : PlainLeaves) (f : PlainLeaf) (root : List ℕ) → OneHas (put fs f) root → OneHas fs root ⊎ Roots f root
+any_put : (fs : PlainLeaves) (f : PlainLeaf) (root : List ℕ) → OneHas (leaves_with fs f) root → OneHas fs root ⊎ Roots f root
 any_put none f root (inl h) = inr h
 any_put none f root (inr h) = absurd h
 any_put (more g gs) f root (inl h) = inl (inl h)
 any_put (more g gs) f root (inr h) = elim (any_put gs f root h) [ inl x ↦ inl (inr x) | inr x ↦ inr x ]
 
-put_left : (fs : PlainLeaves) (f : PlainLeaf) (root : List ℕ) → OneHas fs root → OneHas (put fs f) root
+put_left : (fs : PlainLeaves) (f : PlainLeaf) (root : List ℕ) → OneHas fs root → OneHas (leaves_with fs f) root
 put_left none f root h = absurd h
 put_left (more g gs) f root (inl h) = inl h
 put_left (more g gs) f root (inr h) = inr (put_left gs f root h)
 
-put_last : (fs : PlainLeaves) (f : PlainLeaf) (root : List ℕ) → Roots f root → OneHas (put fs f) root
+put_last : (fs : PlainLeaves) (f : PlainLeaf) (root : List ℕ) → Roots f root → OneHas (leaves_with fs f) root
 put_last none f root h = inl h
 put_last (more g gs) f root h = inr (put_last gs f root h)
 
-pub sound_put : (fs : PlainLeaves) (f : PlainLeaf) → AreSoundLeaves (put fs f) → AreSoundLeaves fs × IsSoundLeaf f
+pub sound_put : (fs : PlainLeaves) (f : PlainLeaf) → AreSoundLeaves (leaves_with fs f) → AreSoundLeaves fs × IsSoundLeaf f
 sound_put none f h = (tt, h.0)
 sound_put (more g gs) f h = let k = sound_put gs f h.1 in ((h.0, k.0), k.1)
 
-pub put_sound : (fs : PlainLeaves) (f : PlainLeaf) → AreSoundLeaves fs → IsSoundLeaf f → AreSoundLeaves (put fs f)
+pub put_sound : (fs : PlainLeaves) (f : PlainLeaf) → AreSoundLeaves fs → IsSoundLeaf f → AreSoundLeaves (leaves_with fs f)
 put_sound none f h k = (k, tt)
 put_sound (more g gs) f h k = (h.0, put_sound gs f h.1 k)
 
@@ -71,7 +71,7 @@ mutual
   any_has_root text c fs root (any_more {c = d} {d = e} {fs = gs} {f = f} p m) h = elim (any_put gs f root h) [ inl x ↦ inl (any_has_root text d gs root p x) | inr x ↦ inr (has_root text e f root m x) ]
 
 -- a root kind that all parts have, all parts but the last and the last have
-pub both_have_root : (text : List ℕ) (c d : Comparison) (fs : PlainLeaves) (f : PlainLeaf) (root : List ℕ) → AllParts text c fs → Means text d f → AllHave (put fs f) root → HasRoot text c root × HasRoot text d root
+pub both_have_root : (text : List ℕ) (c d : Comparison) (fs : PlainLeaves) (f : PlainLeaf) (root : List ℕ) → AllParts text c fs → Means text d f → AllHave (leaves_with fs f) root → HasRoot text c root × HasRoot text d root
 both_have_root text c d fs f root p m h = let k = all_put fs f root h in (all_has_root text c fs root p k.0, has_root text d f root m k.1)
 
 -- what means a sound leaf has a root kind

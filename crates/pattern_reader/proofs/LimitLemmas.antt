@@ -3,7 +3,7 @@ use Rattle.std.proofs.Common.{◌≡◌, ◌↔◌, ℤ, ℕ, List, Bool, true, 
 use Rattle.std.specs.Prelude.{◌<ℤ◌}
 use Rattle.pattern_lexer.specs.declared.token.Token.{Token}
 use Rattle.pattern_lexer.specs.Values.{IsTimestampText}
-use Rattle.pattern_lexer.specs.Spans.{text_at, At}
+use Rattle.pattern_lexer.specs.Spans.{token_text_at, At}
 use Rattle.pattern_grammar.specs.declared.qualifier.Qualifier.TheVariants as qualifier
 use Rattle.pattern_types.specs.declared.limit.Limit.{Limit}
 use Rattle.pattern_types.specs.declared.limit.Limit.TheVariants as limit
@@ -20,7 +20,7 @@ no_stop text start from to h _ x = x.means
 pub no_span : (text : List ℕ) (start from to : Token) (b e : ℤ) (r : Bool) → ((t : List ℕ) (i j : ℤ) → IsTimestampText t i → IsTimestampText t j → i ≡ j) → At IsTimestampText text from b → At IsTimestampText text to e
     → (r ≡ true) ↔ (b <ℤ e) → r ≡ false → (other : Limit) → ¬ IsSoundLimitOf text (qualifier.Between start from to) other
 no_span text start from to b e r one x y h f (limit.Between i j) z =
-    let begins = one (text_at text from) i b z.means.0.is x.is in
-    let ends = one (text_at text to) j e z.means.1.is y.is in
+    let begins = one (token_text_at text from) i b z.means.0.is x.is in
+    let ends = one (token_text_at text to) j e z.means.1.is y.is in
     let yes = h.1 (subst (λ (k : ℤ). k <ℤ e) begins (subst (λ (k : ℤ). i <ℤ k) ends z.sound)) in absurd (cc)
 no_span text start from to b e r one x y h f _ z = z.means

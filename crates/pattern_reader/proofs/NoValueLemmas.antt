@@ -6,9 +6,9 @@ use Rattle.pattern_lexer.specs.declared.token.Token.{Token}
 use Rattle.pattern_lexer.specs.declared.token.TokenKind.{TokenKind}
 use Rattle.pattern_lexer.specs.declared.token.TokenKind.TheVariants as kind
 use Rattle.pattern_lexer.specs.Values.{IsStringText, HasValue}
-use Rattle.pattern_lexer.specs.Spans.{IsCut, text_at, At}
+use Rattle.pattern_lexer.specs.Spans.{IsCut, token_text_at, At}
 use Rattle.pattern_grammar.specs.declared.class.TokenClass.TheVariants as class
-use Rattle.pattern_grammar.specs.TokenClass.{same, is_in}
+use Rattle.pattern_grammar.specs.TokenClass.{is_same_kind, is_in}
 use Rattle.pattern_grammar.specs.declared.path.StepTree.{StepTree}
 use Rattle.pattern_grammar.specs.declared.path.StepTree.TheVariants as step_tree
 use Rattle.pattern_grammar.specs.declared.path.PathTree.{PathTree}
@@ -31,10 +31,10 @@ use Rattle.pattern_reader.specs.Refusals.{Lacks, RefusalOfSteps, RefusalOfPath, 
 use Rattle.pattern_reader.specs.Read.{IsFaulty}
 use Rattle.pattern_reader.proofs.TokenValueLemmas.{HasWorth, AllWorth, worth_left, worth_right, tokens_worth}
 
-same_is : (w k : TokenKind) → same w k ≡ true → k ≡ w
+same_is : (w k : TokenKind) → is_same_kind w k ≡ true → k ≡ w
 same_is w k e = sym (same_true the_type tt w k e)
 
-same_not : (w k : TokenKind) → same w k ≡ false → k ≢ w
+same_not : (w k : TokenKind) → is_same_kind w k ≡ false → k ≢ w
 same_not w k e f = same_false the_type w k e (sym f)
 
 either_way : {C : Type 0} (a b : Bool) → (a || b) ≡ true → (a ≡ true → C) → (b ≡ true → C) → C
@@ -42,16 +42,16 @@ either_way true b e f g = f refl
 either_way false b e f g = g e
 
 module _ (whole : List ℕ) (at : ℕ) where
-  valued : (t : Token) (k : TokenKind) → same k t.kind ≡ true → HasWorth whole t → HasValue k (text_at whole t)
-  valued t k e w = subst (λ x. HasValue x (text_at whole t)) (same_is k t.kind e) w.value
+  valued : (t : Token) (k : TokenKind) → is_same_kind k t.kind ≡ true → HasWorth whole t → HasValue k (token_text_at whole t)
+  valued t k e w = subst (λ x. HasValue x (token_text_at whole t)) (same_is k t.kind e) w.value
 
   -- names and constants by the tests of their token's kind: a case for each kind of a class, none for the others
-  name_by : (t : Token) (b : Bool) → same kind.String t.kind ≡ b → HasWorth whole t → (name : List ℕ) × IsNameOf whole t name
+  name_by : (t : Token) (b : Bool) → is_same_kind kind.String t.kind ≡ b → HasWorth whole t → (name : List ℕ) × IsNameOf whole t name
   name_by t true e w =
       let v = valued t kind.String e w in (v.0, inl (same_is kind.String t.kind e, record { cut = w.cut; is = v.1 }))
-  name_by t false e w = (text_at whole t, inr (same_not kind.String t.kind e, record { cut = w.cut; is = refl }))
+  name_by t false e w = (token_text_at whole t, inr (same_not kind.String t.kind e, record { cut = w.cut; is = refl }))
 
-  string_at : (t : Token) → same kind.String t.kind ≡ true → HasWorth whole t → (words : List ℕ) × At IsStringText whole t words
+  string_at : (t : Token) → is_same_kind kind.String t.kind ≡ true → HasWorth whole t → (words : List ℕ) × At IsStringText whole t words
   string_at t e w = let v = valued t kind.String e w in (v.0, record { cut = w.cut; is = v.1 })
 
   abbrev Meant : Token → Type 0
@@ -59,17 +59,17 @@ module _ (whole : List ℕ) (at : ℕ) where
 
   ordered_at : (t : Token) → is_in class.Ordered t.kind ≡ true → HasWorth whole t → Meant t
   ordered_at t i w =
-      let number : same kind.Number t.kind ≡ true → Meant t = λ e. let v = valued t kind.Number e w in (Integer v.0, (same_is kind.Number t.kind e, record { cut = w.cut; is = v.1 })) in
-      let string : same kind.String t.kind ≡ true → Meant t = λ e. let v = valued t kind.String e w in (String v.0, (same_is kind.String t.kind e, record { cut = w.cut; is = v.1 })) in
-      let hex : same kind.Hex t.kind ≡ true → Meant t = λ e. let v = valued t kind.Hex e w in (Hex v.0, (same_is kind.Hex t.kind e, record { cut = w.cut; is = v.1 })) in
-      let binary : same kind.Binary t.kind ≡ true → Meant t = λ e. let v = valued t kind.Binary e w in (Binary v.0, (same_is kind.Binary t.kind e, record { cut = w.cut; is = v.1 })) in
-      let timestamp : same kind.Timestamp t.kind ≡ true → Meant t = λ e. let v = valued t kind.Timestamp e w in (Timestamp v.0, (same_is kind.Timestamp t.kind e, record { cut = w.cut; is = v.1 })) in
+      let number : is_same_kind kind.Number t.kind ≡ true → Meant t = λ e. let v = valued t kind.Number e w in (Integer v.0, (same_is kind.Number t.kind e, record { cut = w.cut; is = v.1 })) in
+      let string : is_same_kind kind.String t.kind ≡ true → Meant t = λ e. let v = valued t kind.String e w in (String v.0, (same_is kind.String t.kind e, record { cut = w.cut; is = v.1 })) in
+      let hex : is_same_kind kind.Hex t.kind ≡ true → Meant t = λ e. let v = valued t kind.Hex e w in (Hex v.0, (same_is kind.Hex t.kind e, record { cut = w.cut; is = v.1 })) in
+      let binary : is_same_kind kind.Binary t.kind ≡ true → Meant t = λ e. let v = valued t kind.Binary e w in (Binary v.0, (same_is kind.Binary t.kind e, record { cut = w.cut; is = v.1 })) in
+      let timestamp : is_same_kind kind.Timestamp t.kind ≡ true → Meant t = λ e. let v = valued t kind.Timestamp e w in (Timestamp v.0, (same_is kind.Timestamp t.kind e, record { cut = w.cut; is = v.1 })) in
       either_way _ _ i (λ i. either_way _ _ i (λ i. either_way _ _ i (λ i. either_way _ _ i number string) hex) binary) timestamp
 
   constant_at : (t : Token) → is_in class.Constant t.kind ≡ true → HasWorth whole t → Meant t
   constant_at t i w =
-      let yes : same kind.TrueWord t.kind ≡ true → Meant t = λ e. (Boolean true, inl (same_is kind.TrueWord t.kind e, refl)) in
-      let no : same kind.FalseWord t.kind ≡ true → Meant t = λ e. (Boolean false, inr (same_is kind.FalseWord t.kind e, refl)) in
+      let yes : is_same_kind kind.TrueWord t.kind ≡ true → Meant t = λ e. (Boolean true, inl (same_is kind.TrueWord t.kind e, refl)) in
+      let no : is_same_kind kind.FalseWord t.kind ≡ true → Meant t = λ e. (Boolean false, inr (same_is kind.FalseWord t.kind e, refl)) in
       either_way _ _ i (λ i. either_way _ _ i (λ i. ordered_at t i w) yes) no
 
   -- paths
@@ -80,7 +80,7 @@ module _ (whole : List ℕ) (at : ℕ) where
   steps_split (y ∷ ys) x (inr h) = elim (steps_split ys x h) [ inl g ↦ inl (inr g) | inr g ↦ inr g ]
 
   no_name : (t : Token) → is_in class.Name t.kind ≡ true → HasWorth whole t → ¬ RefusalOfSteps whole (step_tree.Name t ∷ []) (NoValue at)
-  no_name t i w (inl h) = let n = name_by t (same kind.String t.kind) refl w in h.none (step.Name n.0) n.1
+  no_name t i w (inl h) = let n = name_by t (is_same_kind kind.String t.kind) refl w in h.none (step.Name n.0) n.1
   no_name t i w (inr h) = h
 
   no_step : (ts : List Token) (s : StepTree) → IsStep ts s → AllWorth whole ts → ¬ RefusalOfSteps whole (s ∷ []) (NoValue at)
@@ -101,7 +101,7 @@ module _ (whole : List ℕ) (at : ℕ) where
 
   no_path : (ts : List Token) (p : PathTree) → IsPath ts p → AllWorth whole ts → ¬ RefusalOfPath whole p (NoValue at)
   no_path ts p i w (inl h) = let e = h.here in cc
-  no_path ts p i w (inr (inl h)) = h.none (text_at whole p.root) (record { cut = rooted ts p i w; is = refl })
+  no_path ts p i w (inr (inl h)) = h.none (token_text_at whole p.root) (record { cut = rooted ts p i w; is = refl })
   no_path ts p i w (inr (inr h)) = no_steps ts p i w h
 
   -- what is asked
@@ -110,16 +110,16 @@ module _ (whole : List ℕ) (at : ℕ) where
 
   equality_of : (a b : Token) → is_in class.Equality a.kind ≡ true → Meant b → Asked a b
   equality_of a b i v =
-      let equal : same kind.Equal a.kind ≡ true → Asked a b = λ e. (check.Equal v.0, (same_is kind.Equal a.kind e, v.1)) in
-      let differ : same kind.Differ a.kind ≡ true → Asked a b = λ e. (check.Differ v.0, (same_is kind.Differ a.kind e, v.1)) in
+      let equal : is_same_kind kind.Equal a.kind ≡ true → Asked a b = λ e. (check.Equal v.0, (same_is kind.Equal a.kind e, v.1)) in
+      let differ : is_same_kind kind.Differ a.kind ≡ true → Asked a b = λ e. (check.Differ v.0, (same_is kind.Differ a.kind e, v.1)) in
       either_way _ _ i equal differ
 
   order_of : (a b : Token) → is_in class.Order a.kind ≡ true → Meant b → Asked a b
   order_of a b i v =
-      let less : same kind.Less a.kind ≡ true → Asked a b = λ e. (check.Less v.0, (same_is kind.Less a.kind e, v.1)) in
-      let less_equal : same kind.LessEqual a.kind ≡ true → Asked a b = λ e. (check.LessEqual v.0, (same_is kind.LessEqual a.kind e, v.1)) in
-      let greater : same kind.Greater a.kind ≡ true → Asked a b = λ e. (check.Greater v.0, (same_is kind.Greater a.kind e, v.1)) in
-      let greater_equal : same kind.GreaterEqual a.kind ≡ true → Asked a b = λ e. (check.GreaterEqual v.0, (same_is kind.GreaterEqual a.kind e, v.1)) in
+      let less : is_same_kind kind.Less a.kind ≡ true → Asked a b = λ e. (check.Less v.0, (same_is kind.Less a.kind e, v.1)) in
+      let less_equal : is_same_kind kind.LessEqual a.kind ≡ true → Asked a b = λ e. (check.LessEqual v.0, (same_is kind.LessEqual a.kind e, v.1)) in
+      let greater : is_same_kind kind.Greater a.kind ≡ true → Asked a b = λ e. (check.Greater v.0, (same_is kind.Greater a.kind e, v.1)) in
+      let greater_equal : is_same_kind kind.GreaterEqual a.kind ≡ true → Asked a b = λ e. (check.GreaterEqual v.0, (same_is kind.GreaterEqual a.kind e, v.1)) in
       either_way _ _ i (λ i. either_way _ _ i (λ i. either_way _ _ i less less_equal) greater) greater_equal
 
   no_block : (at from : ℕ) → NoValue at ≡ BadAddress from → ⊥
@@ -128,11 +128,11 @@ module _ (whole : List ℕ) (at : ℕ) where
   no_textual : (a b : Token) → is_in class.Textual a.kind ≡ true → ((words : List ℕ) × At IsStringText whole b words)
       → ¬ Lacks (IsCheckOf whole (check_tree.Textual a b)) (textual_refusal a.kind b.from) (NoValue at)
   no_textual a b i v h =
-      let refusal : (k : TokenKind) → same k a.kind ≡ true → NoValue at ≡ textual_refusal k b.from
+      let refusal : (k : TokenKind) → is_same_kind k a.kind ≡ true → NoValue at ≡ textual_refusal k b.from
       = λ k e. h.here ∙ ap (λ (x : TokenKind). textual_refusal x b.from) (same_is k a.kind e) in
-      let like : same kind.Like a.kind ≡ true → ⊥ = λ e. h.none (check.Like v.0) (same_is kind.Like a.kind e, v.1) in
-      let subset : same kind.Subset a.kind ≡ true → ⊥ = λ e. no_block at b.from (refusal kind.Subset e) in
-      let superset : same kind.Superset a.kind ≡ true → ⊥ = λ e. no_block at b.from (refusal kind.Superset e) in
+      let like : is_same_kind kind.Like a.kind ≡ true → ⊥ = λ e. h.none (check.Like v.0) (same_is kind.Like a.kind e, v.1) in
+      let subset : is_same_kind kind.Subset a.kind ≡ true → ⊥ = λ e. no_block at b.from (refusal kind.Subset e) in
+      let superset : is_same_kind kind.Superset a.kind ≡ true → ⊥ = λ e. no_block at b.from (refusal kind.Superset e) in
       either_way _ _ i (λ i. either_way _ _ i like subset) superset
 
   constants_at : (ts cs : List Token) → AreConstants ts cs → AllWorth whole ts → (vs : List Constant) × AllZip (IsConstantOf whole) cs vs

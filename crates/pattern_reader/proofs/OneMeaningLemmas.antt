@@ -5,7 +5,7 @@ use Rattle.pattern_lexer.specs.declared.token.Token.{Token}
 use Rattle.pattern_lexer.specs.declared.token.TokenKind.{TokenKind}
 use Rattle.pattern_lexer.specs.declared.token.TokenKind.TheVariants as kind
 use Rattle.pattern_lexer.specs.Values.{IsIntegerText, IsStringText, IsHexText, IsBinaryText, IsTimestampText}
-use Rattle.pattern_lexer.specs.Spans.{text_at, At}
+use Rattle.pattern_lexer.specs.Spans.{token_text_at, At}
 use Rattle.pattern_grammar.specs.declared.path.StepTree.{StepTree}
 use Rattle.pattern_grammar.specs.declared.path.StepTree.TheVariants.{Name, Index}
 use Rattle.pattern_grammar.specs.declared.path.PathTree.{PathTree}
@@ -38,7 +38,7 @@ abbrev pub IsOne : {V : Type 0} → (List ℕ → V → Type 0) → Type 0
 IsOne {V} IsTextOf = (text : List ℕ) (first second : V) → IsTextOf text first → IsTextOf text second → first ≡ second
 
 at_one : {V : Type 0} (IsTextOf : List ℕ → V → Type 0) → IsOne IsTextOf → (text : List ℕ) (token : Token) (a b : V) → At IsTextOf text token a → At IsTextOf text token b → a ≡ b
-at_one T h text token a b x y = h (text_at text token) a b x.is y.is
+at_one T h text token a b x y = h (token_text_at text token) a b x.is y.is
 
 -- lists whose elements are related place by place, to one each
 each_one : {A B : Type 0} (R : A → B → Type 0) → ((x : A) (a b : B) → R x a → R x b → a ≡ b) → (xs : List A) (ys zs : List B) → AllZip R xs ys → AllZip R xs zs → ys ≡ zs

@@ -2,7 +2,7 @@
 use Rattle.std.proofs.Common.{◌≡◌, ℕ, ◌<◌, ◌≤◌, List, length, Result, Ok, Err, refl, sym, ap, subst, arith}
 use Rattle.pattern_lexer.specs.declared.token.Token.{Token}
 use Rattle.pattern_lexer.specs.declared.refusal.TokenRefusal.{TokenRefusal}
-use Rattle.pattern_lexer.specs.Reading.{TokensOf, HasRefusal, Reads}
+use Rattle.pattern_lexer.specs.Reading.{TokensOf, HasRefusal, ReadsTokens}
 use Rattle.pattern_grammar.specs.declared.refusal.SyntaxRefusal.{SyntaxRefusal}
 use Rattle.pattern_grammar.specs.Tree.{Tree}
 use Rattle.pattern_grammar.specs.Grammar.{IsPattern}
@@ -23,7 +23,7 @@ use Rattle.pattern_reader.specs.Read.{IsSpelled, IsReadAs, IsUnspelled, IsRefuse
 
 -- the laws of the layers below
 abbrev pub OneReading : Type 0
-OneReading = (text : List ℕ) (a b : Result (List Token) TokenRefusal) → Reads text a → Reads text b → a ≡ b
+OneReading = (text : List ℕ) (a b : Result (List Token) TokenRefusal) → ReadsTokens text a → ReadsTokens text b → a ≡ b
 
 abbrev pub OneTree : Type 0
 OneTree = (ts : List Token) (p q : Tree) → IsPattern ts p → IsPattern ts q → p ≡ q

@@ -8,7 +8,7 @@ use Rattle.pattern_types.specs.PlainLeaf.{plain_leaf}
 use Rattle.pattern_types.specs.declared.limit.Limit.{Limit}
 use Rattle.pattern_types.specs.declared.limit.Limit.TheVariants as limit
 use Rattle.pattern_types.specs.PlainPattern.{PlainPattern, plain_pattern, a_leaf, a_limited}
-use Rattle.pattern_types.specs.Width.{IsTooWide, width}
+use Rattle.pattern_types.specs.Width.{IsTooWide, pattern_width}
 use Rattle.pattern_reader.specs.declared.narrow_pattern.Operator.{Operator}
 use Rattle.pattern_reader.specs.declared.narrow_pattern.Operator.TheVariants.{Both, Either, Then}
 use Rattle.pattern_reader.specs.declared.narrow_pattern.NarrowPattern.{NarrowPattern}
@@ -17,7 +17,7 @@ use Rattle.pattern_reader.specs.PatternMeaning.{means_leaf, means_both, means_ei
 use Rattle.pattern_reader.specs.Refusals.{RefusalOfComparison, RefusalOf, Lacks, IsSoundLimitOf, limit_refusal}
 use Rattle.pattern_reader.specs.Answer.{IsMeant, IsWidelyMeant}
 use Rattle.pattern_reader.specs.inner.Analysis.{IsOutcome, IsLeafOf}
-use Rattle.pattern_reader.specs.inner.NarrowPattern.{IsNarrow, UnlessTooWide, IsPartOf, IsPartOutcome}
+use Rattle.pattern_reader.specs.inner.NarrowPattern.{IsNarrow, UnlessTooWide, IsNarrowPatternOf, IsPartOutcome}
 use Rattle.pattern_reader.specs.inner.NarrowPattern.{tree_by, meant_by}
 use Rattle.pattern_reader.specs.inner.Analysis.{IsJoined}
 use Rattle.flow_values.specs.Answers.{FindsExactly}
@@ -42,18 +42,18 @@ wide_right : (o : Operator) (m n : PlainPattern) → IsTooWide n → IsTooWide (
 wide_right Both m n h = grind arith
 wide_right _ m n h = grind arith
 
-meant : (text : List ℕ) (p : Tree) (a : Option NarrowPattern) → IsPartOf text p a → (m : PlainPattern) × IsMeant text p m
+meant : (text : List ℕ) (p : Tree) (a : Option NarrowPattern) → IsNarrowPatternOf text p a → (m : PlainPattern) × IsMeant text p m
 meant text p (Some a) h = (plain_pattern a.pattern, h.0)
 meant text p None h = (h.pattern, h.meant)
 
 -- two parts, of which one is too wide, or none
-pub left_wide : (text : List ℕ) (o : Operator) (p q : Tree) (b : Option NarrowPattern) → IsWidelyMeant text p → IsPartOf text q b → IsWidelyMeant text (tree_by o p q)
+pub left_wide : (text : List ℕ) (o : Operator) (p q : Tree) (b : Option NarrowPattern) → IsWidelyMeant text p → IsNarrowPatternOf text q b → IsWidelyMeant text (tree_by o p q)
 left_wide text o p q b h g = let n = meant text q b g in record { pattern = meant_by o h.pattern n.0; meant = joined_meant text o p q h.pattern n.0 h.meant n.1; wide = wide_left o h.pattern n.0 h.wide }
 
-pub right_wide : (text : List ℕ) (o : Operator) (p q : Tree) (a : NarrowPattern) → IsPartOf text p (Some a) → IsWidelyMeant text q → IsWidelyMeant text (tree_by o p q)
+pub right_wide : (text : List ℕ) (o : Operator) (p q : Tree) (a : NarrowPattern) → IsNarrowPatternOf text p (Some a) → IsWidelyMeant text q → IsWidelyMeant text (tree_by o p q)
 right_wide text o p q a g h = record { pattern = meant_by o (plain_pattern a.pattern) h.pattern; meant = joined_meant text o p q (plain_pattern a.pattern) h.pattern g.0 h.meant; wide = wide_right o (plain_pattern a.pattern) h.pattern h.wide }
 
-pub both_narrow : (text : List ℕ) (o : Operator) (p q : Tree) (a b : NarrowPattern) (w : Option NarrowPattern) → UnlessTooWide (meant_by o (plain_pattern a.pattern) (plain_pattern b.pattern)) w → IsPartOf text p (Some a) → IsPartOf text q (Some b) → IsPartOf text (tree_by o p q) w
+pub both_narrow : (text : List ℕ) (o : Operator) (p q : Tree) (a b : NarrowPattern) (w : Option NarrowPattern) → UnlessTooWide (meant_by o (plain_pattern a.pattern) (plain_pattern b.pattern)) w → IsNarrowPatternOf text p (Some a) → IsNarrowPatternOf text q (Some b) → IsNarrowPatternOf text (tree_by o p q) w
 both_narrow text o p q a b (Some c) h x y = (subst (IsMeant text (tree_by o p q)) (sym h.0) (joined_meant text o p q (plain_pattern a.pattern) (plain_pattern b.pattern) x.0 y.0), h.1)
 both_narrow text o p q a b None h x y = record { pattern = meant_by o (plain_pattern a.pattern) (plain_pattern b.pattern); meant = joined_meant text o p q (plain_pattern a.pattern) (plain_pattern b.pattern) x.0 y.0; wide = h }
 
@@ -68,13 +68,13 @@ limited_wide : (text : List ℕ) (q : Qualifier) (m : PlainPattern) (l : Limit) 
 limited_wide text q m l y (inr h) = inr h
 limited_wide text q m (limit.Within n) y (inl h) = inl h
 limited_wide text q m (limit.Between i j) y (inl h) = inl h
-limited_wide text (qualifier.Repeats number) m (limit.Repeats n) y (inl h) = inl (one_at_least n (width m) y.means.low h)
+limited_wide text (qualifier.Repeats number) m (limit.Repeats n) y (inl h) = inl (one_at_least n (pattern_width m) y.means.low h)
 limited_wide text _ m (limit.Repeats n) y (inl h) = absurd y.means
 
 pub wide_limited : (text : List ℕ) (p : Tree) (q : Qualifier) (l : Limit) → IsWidelyMeant text p → IsSoundLimitOf text q l → IsWidelyMeant text (qualified p q)
 wide_limited text p q l h y = record { pattern = a_limited h.pattern l; meant = limited_meant text p q h.pattern l h.meant y; wide = limited_wide text q h.pattern l y h.wide }
 
-pub narrow_limited : (text : List ℕ) (p : Tree) (q : Qualifier) (l : Limit) (a : NarrowPattern) (w : Option NarrowPattern) → UnlessTooWide (a_limited (plain_pattern a.pattern) l) w → IsPartOf text p (Some a) → IsSoundLimitOf text q l → IsPartOf text (qualified p q) w
+pub narrow_limited : (text : List ℕ) (p : Tree) (q : Qualifier) (l : Limit) (a : NarrowPattern) (w : Option NarrowPattern) → UnlessTooWide (a_limited (plain_pattern a.pattern) l) w → IsNarrowPatternOf text p (Some a) → IsSoundLimitOf text q l → IsNarrowPatternOf text (qualified p q) w
 narrow_limited text p q l a (Some c) h x y = (subst (IsMeant text (qualified p q)) (sym h.0) (limited_meant text p q (plain_pattern a.pattern) l x.0 y), h.1)
 narrow_limited text p q l a None h x y = record { pattern = a_limited (plain_pattern a.pattern) l; meant = limited_meant text p q (plain_pattern a.pattern) l x.0 y; wide = h }
 
@@ -92,29 +92,29 @@ refused_in text Both p q r h = h
 refused_in text _ p q r h = h
 
 pub joined_ok : (text : List ℕ) (o : Operator) (p q : Tree) (a b : Result (Option NarrowPattern) ValueRefusal) (c : Result (Option NarrowPattern × Option NarrowPattern) ValueRefusal) (l r w : Option NarrowPattern)
-    → c ≡ Ok (l, r) → IsJoined (λ x y. (x, y)) a b c → (IsPartOf text p l → IsPartOf text q r → IsPartOf text (tree_by o p q) w) → IsPartOutcome text p a → IsPartOutcome text q b → IsPartOutcome text (tree_by o p q) (Ok w)
+    → c ≡ Ok (l, r) → IsJoined (λ x y. (x, y)) a b c → (IsNarrowPatternOf text p l → IsNarrowPatternOf text q r → IsNarrowPatternOf text (tree_by o p q) w) → IsPartOutcome text p a → IsPartOutcome text q b → IsPartOutcome text (tree_by o p q) (Ok w)
 joined_ok text o p q a b c l r w e j f x y =
-    let k = pair_outcome (IsPartOf text p) (IsPartOf text q) (RefusalOf text p) (RefusalOf text q) a b c (Ok (l, r)) e j x y in
+    let k = pair_outcome (IsNarrowPatternOf text p) (IsNarrowPatternOf text q) (RefusalOf text p) (RefusalOf text q) a b c (Ok (l, r)) e j x y in
     record { this = f k.this.0 k.this.1; earliest = λ s h. k.earliest s (refused_in text o p q s h) }
 
 pub joined_err : (text : List ℕ) (o : Operator) (p q : Tree) (a b : Result (Option NarrowPattern) ValueRefusal) (c : Result (Option NarrowPattern × Option NarrowPattern) ValueRefusal) (s : ValueRefusal)
     → c ≡ Err s → IsJoined (λ x y. (x, y)) a b c → IsPartOutcome text p a → IsPartOutcome text q b → IsPartOutcome text (tree_by o p q) (Err s)
 joined_err text o p q a b c s e j x y =
-    let k = pair_outcome (IsPartOf text p) (IsPartOf text q) (RefusalOf text p) (RefusalOf text q) a b c (Err s) e j x y in
+    let k = pair_outcome (IsNarrowPatternOf text p) (IsNarrowPatternOf text q) (RefusalOf text p) (RefusalOf text q) a b c (Err s) e j x y in
     record { this = tt; earliest = record { one = refused_by text o p q s k.earliest.one; first = λ r h. k.earliest.first r (refused_in text o p q r h) } }
 
 -- a part and what it is limited by
 abbrev IsLimited : List ℕ → Tree → Qualifier → Result (Option NarrowPattern × Limit) ValueRefusal → Type 0
-IsLimited text p q c = IsOutcome (λ pair. IsPartOf text p pair.0 × IsSoundLimitOf text q pair.1) (RefusalOf text (qualified p q)) c
+IsLimited text p q c = IsOutcome (λ pair. IsNarrowPatternOf text p pair.0 × IsSoundLimitOf text q pair.1) (RefusalOf text (qualified p q)) c
 
 limited_pair : (text : List ℕ) (p : Tree) (q : Qualifier) (a : Result (Option NarrowPattern) ValueRefusal) (found : Option Limit) (b : Result Limit ValueRefusal) (c d : Result (Option NarrowPattern × Limit) ValueRefusal)
     → b ≡ ok_or found (limit_refusal q) → c ≡ d → IsJoined (λ x y. (x, y)) a b c → FindsExactly (IsSoundLimitOf text q) found → IsPartOutcome text p a → IsLimited text p q d
 limited_pair text p q a found b c d g e j h x =
-    pair_outcome (IsPartOf text p) (IsSoundLimitOf text q) (RefusalOf text p) (Lacks (IsSoundLimitOf text q) (limit_refusal q)) a b c d e j x
+    pair_outcome (IsNarrowPatternOf text p) (IsSoundLimitOf text q) (RefusalOf text p) (Lacks (IsSoundLimitOf text q) (limit_refusal q)) a b c d e j x
     (subst (IsOutcome (IsSoundLimitOf text q) (Lacks (IsSoundLimitOf text q) (limit_refusal q))) (sym g) (found_outcome (IsSoundLimitOf text q) (limit_refusal q) found h))
 
 pub limited_ok : (text : List ℕ) (p : Tree) (q : Qualifier) (a : Result (Option NarrowPattern) ValueRefusal) (found : Option Limit) (b : Result Limit ValueRefusal) (c : Result (Option NarrowPattern × Limit) ValueRefusal) (part : Option NarrowPattern) (l : Limit) (w : Option NarrowPattern)
-    → b ≡ ok_or found (limit_refusal q) → c ≡ Ok (part, l) → IsJoined (λ x y. (x, y)) a b c → FindsExactly (IsSoundLimitOf text q) found → (IsPartOf text p part → IsSoundLimitOf text q l → IsPartOf text (qualified p q) w)
+    → b ≡ ok_or found (limit_refusal q) → c ≡ Ok (part, l) → IsJoined (λ x y. (x, y)) a b c → FindsExactly (IsSoundLimitOf text q) found → (IsNarrowPatternOf text p part → IsSoundLimitOf text q l → IsNarrowPatternOf text (qualified p q) w)
     → IsPartOutcome text p a → IsPartOutcome text (qualified p q) (Ok w)
 limited_ok text p q a found b c part l w g e j h f x =
     let k = limited_pair text p q a found b c (Ok (part, l)) g e j h x in record { this = f k.this.0 k.this.1; earliest = k.earliest }

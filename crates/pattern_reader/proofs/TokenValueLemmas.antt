@@ -14,12 +14,12 @@ use Rattle.pattern_lexer.specs.declared.token.TokenKind.TheVariants as kind
 use Rattle.pattern_lexer.specs.Word.{IsWordStart, HasAt}
 use Rattle.pattern_lexer.specs.Values.{IsNumberText, HasValue}
 use Rattle.pattern_lexer.specs.Table.{IsToken}
-use Rattle.pattern_lexer.specs.Spans.{IsCut, text_at}
+use Rattle.pattern_lexer.specs.Spans.{IsCut, token_text_at}
 use Rattle.pattern_lexer.specs.Reading.{IsBlank, AreTokens, TokensOf}
 
 pub record HasWorth (whole : List ℕ) (t : Token) : Type 0 where
   pub cut : IsCut whole t
-  pub value : HasValue t.kind (text_at whole t)
+  pub value : HasValue t.kind (token_text_at whole t)
 
 abbrev pub AllWorth : List ℕ → List Token → Type 0
 AllWorth whole [] = Unit {0}
@@ -111,7 +111,7 @@ all_worth whole at left (t ∷ ts) rest b e h blank =
     let g : t.to ≡ at + length n.blanks + length n.text = n.to ∙ ap (λ (i : ℕ). i + length n.text) f in
     let begins = ap (λ (i : ℕ). take (t.to - i) (drop i whole)) f in
     let ends = ap (λ (i : ℕ). take (i - (at + length n.blanks)) (drop (at + length n.blanks) whole)) g in
-    let spelled : text_at whole t ≡ n.text = begins ∙ ends ∙ k.2 in
+    let spelled : token_text_at whole t ≡ n.text = begins ∙ ends ∙ k.2 in
     let in_whole = subst (λ (i : ℕ). i ≤ length whole) (sym g) k.0 in
     let more = all_worth whole t.to h.0 ts rest in_whole (subst (λ (i : ℕ). drop i whole ≡ h.0) (sym g) k.1) h.2 blank in
     let first = low_text n.text h.0 (ascii t.kind n.text n.first.token) in

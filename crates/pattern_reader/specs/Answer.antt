@@ -22,7 +22,7 @@ pub record IsWidelyMeant (text : List ℕ) (tree : Tree) : Type 0 where
   pub wide : IsTooWide pattern
 
 -- the pattern; or TooWide; or the first of the refused values, by offset
-abbrev pub Answers : List ℕ → Tree → Meaning → Type 0
-Answers text tree (Sound pattern) = IsNarrowlyMeant text tree (plain_pattern pattern)
-Answers text tree TooWide = IsWidelyMeant text tree
-Answers text tree (Refused refusal) = IsEarliest (RefusalOf text tree) refusal
+abbrev pub AnswersMeaning : List ℕ → Tree → Meaning → Type 0
+AnswersMeaning text tree (Sound pattern) = IsNarrowlyMeant text tree (plain_pattern pattern)
+AnswersMeaning text tree TooWide = IsWidelyMeant text tree
+AnswersMeaning text tree (Refused refusal) = IsEarliest (RefusalOf text tree) refusal

@@ -3,7 +3,7 @@ use Rattle.std.specs.Prelude.{ℕ, List}
 use Rattle.pattern_lexer.specs.declared.token.Token.{Token}
 use Rattle.pattern_grammar.specs.{declared.comparison.TestTree.TestTree, Tree.Comparison, Tree.test, Tree.group, Tree.all, Tree.any}
 use Rattle.pattern_types.specs.declared.leaf.Test.{Test as OneTest}
-use Rattle.pattern_types.specs.PlainLeaf.{PlainLeaf, one, every, some, PlainLeaves, none, more, put}
+use Rattle.pattern_types.specs.PlainLeaf.{PlainLeaf, one, every, some, PlainLeaves, none, more, leaves_with}
 use Rattle.pattern_reader.specs.Meaning.{IsTestOf}
 
 -- comparisons that aren't a chain of AND, and those that aren't a chain of OR
@@ -27,9 +27,9 @@ mutual
   -- the operands of a chain of AND
   pub data AllParts (text : List ℕ) : Comparison → PlainLeaves → Type 0 where
     all_first : {c : Comparison} {f : PlainLeaf} → IsNoAll c → Means text c f → AllParts text c (more f none)
-    all_more : {c d : Comparison} {fs : PlainLeaves} {f : PlainLeaf} → AllParts text c fs → Means text d f → AllParts text (all c d) (put fs f)
+    all_more : {c d : Comparison} {fs : PlainLeaves} {f : PlainLeaf} → AllParts text c fs → Means text d f → AllParts text (all c d) (leaves_with fs f)
 
   -- the operands of a chain of OR
   pub data AnyParts (text : List ℕ) : Comparison → PlainLeaves → Type 0 where
     any_first : {c : Comparison} {f : PlainLeaf} → IsNoAny c → Means text c f → AnyParts text c (more f none)
-    any_more : {c d : Comparison} {fs : PlainLeaves} {f : PlainLeaf} → AnyParts text c fs → Means text d f → AnyParts text (any c d) (put fs f)
+    any_more : {c d : Comparison} {fs : PlainLeaves} {f : PlainLeaf} → AnyParts text c fs → Means text d f → AnyParts text (any c d) (leaves_with fs f)

@@ -6,24 +6,24 @@ use Rattle.pattern_reader.specs.ValueRefusal as value
 use Rattle.pattern_reader.specs.declared.pattern_refusal.PatternRefusal.{PatternRefusal}
 use Rattle.pattern_reader.specs.declared.pattern_refusal.PatternRefusal.TheVariants.{TooLong, Token, Syntax, Value, TooWide, NoMemory}
 
-abbrev pub name_of : PatternRefusal → List ℕ
-name_of TooLong = codes "TooLong"
-name_of (Token refusal) = token.name_of refusal
-name_of (Syntax refusal) = syntax.name_of refusal
-name_of (Value refusal) = value.name_of refusal
-name_of TooWide = codes "TooWide"
-name_of NoMemory = codes "out of memory"
+abbrev pub pattern_refusal_name : PatternRefusal → List ℕ
+pattern_refusal_name TooLong = codes "TooLong"
+pattern_refusal_name (Token refusal) = token.token_refusal_name refusal
+pattern_refusal_name (Syntax refusal) = syntax.syntax_refusal_name refusal
+pattern_refusal_name (Value refusal) = value.value_refusal_name refusal
+pattern_refusal_name TooWide = codes "TooWide"
+pattern_refusal_name NoMemory = codes "out of memory"
 
-abbrev pub place_of : PatternRefusal → Option ℕ
-place_of (Token refusal) = Some (token.place_of refusal)
-place_of (Syntax refusal) = Some (syntax.place_of refusal)
-place_of (Value refusal) = Some (value.place_of refusal)
-place_of _ = None
+abbrev pub pattern_refusal_offset : PatternRefusal → Option ℕ
+pattern_refusal_offset (Token refusal) = Some (token.token_refusal_offset refusal)
+pattern_refusal_offset (Syntax refusal) = Some (syntax.syntax_refusal_offset refusal)
+pattern_refusal_offset (Value refusal) = Some (value.value_refusal_offset refusal)
+pattern_refusal_offset _ = None
 
 -- a name, and an offset if there is one
 abbrev pub placed_text : List ℕ → Option ℕ → List ℕ
 placed_text name None = name
 placed_text name (Some at) = name ++ (codes " at " ++ decimal at)
 
-abbrev pub refusal_text : PatternRefusal → List ℕ
-refusal_text refusal = placed_text (name_of refusal) (place_of refusal)
+abbrev pub pattern_refusal_text : PatternRefusal → List ℕ
+pattern_refusal_text refusal = placed_text (pattern_refusal_name refusal) (pattern_refusal_offset refusal)

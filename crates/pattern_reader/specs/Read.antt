@@ -10,8 +10,8 @@ use Rattle.pattern_reader.specs.declared.{read.TheConstants.MAX_TEXT, pattern_re
 use Rattle.pattern_reader.specs.declared.pattern_refusal.PatternRefusal.TheVariants.{TooLong, Token as TokenRefused, Syntax, Value, TooWide, NoMemory}
 
 -- the text isn't too long
-abbrev pub IsShort : List ℕ → Type 0
-IsShort text = length text ≤ MAX_TEXT
+abbrev pub IsShortText : List ℕ → Type 0
+IsShortText text = length text ≤ MAX_TEXT
 
 -- the tokens of the text have the syntax tree, within the limits of depth
 pub record IsSpelled (text : List ℕ) (tree : Tree) : Type 0 where
@@ -21,7 +21,7 @@ pub record IsSpelled (text : List ℕ) (tree : Tree) : Type 0 where
 
 -- the text has a syntax tree, which means the pattern within all limits
 pub record IsReadAs (text : List ℕ) (pattern : Pattern) : Type 0 where
-  pub short : IsShort text
+  pub short : IsShortText text
   pub tree : Tree
   pub spelled : IsSpelled text tree
   pub meant : IsNarrowlyMeant text tree (plain_pattern pattern)
@@ -48,8 +48,8 @@ pub record IsWide (text : List ℕ) : Type 0 where
 -- its pattern
 abbrev pub IsRefusedAs : List ℕ → PatternRefusal → Type 0
 IsRefusedAs text TooLong = MAX_TEXT < length text
-IsRefusedAs text (TokenRefused refusal) = IsShort text × HasRefusal text refusal
-IsRefusedAs text (Syntax refusal) = IsShort text × IsUnspelled text refusal
-IsRefusedAs text (Value refusal) = IsShort text × IsFaulty text refusal
-IsRefusedAs text TooWide = IsShort text × IsWide text
+IsRefusedAs text (TokenRefused refusal) = IsShortText text × HasRefusal text refusal
+IsRefusedAs text (Syntax refusal) = IsShortText text × IsUnspelled text refusal
+IsRefusedAs text (Value refusal) = IsShortText text × IsFaulty text refusal
+IsRefusedAs text TooWide = IsShortText text × IsWide text
 IsRefusedAs text NoMemory = ⊥

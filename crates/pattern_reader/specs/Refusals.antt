@@ -59,16 +59,16 @@ HasRoot text (all c d) root = HasRoot text c root × HasRoot text d root
 HasRoot text (any c d) root = HasRoot text c root ⊎ HasRoot text d root
 
 -- the first token
-abbrev pub first_of : Comparison → Token
-first_of (test t) = t.first
-first_of (group first c) = first
-first_of (all c d) = first_of c
-first_of (any c d) = first_of c
+abbrev pub first_token : Comparison → Token
+first_token (test t) = t.first
+first_token (group first c) = first
+first_token (all c d) = first_token c
+first_token (any c d) = first_token c
 
 -- NoCommonRoot: the operands of AND have no root kind in common, at the first token
 pub record IsRootless (text : List ℕ) (c d : Comparison) (refusal : ValueRefusal) : Type 0 where
   pub rootless : (root : List ℕ) → ¬ (HasRoot text c root × HasRoot text d root)
-  pub here : refusal ≡ NoCommonRoot (first_of c).from
+  pub here : refusal ≡ NoCommonRoot (first_token c).from
 
 abbrev pub RefusalOfComparison : List ℕ → Comparison → ValueRefusal → Type 0
 RefusalOfComparison text (test t) refusal = RefusalOfTest text t refusal

@@ -4,5 +4,5 @@ use Rattle.std.specs.{BTreeSet.BTreeSet, BTreeSet.contains, Ordering.nat_cmp, Cm
 use denote.Ref.{Bor}
 
 -- the set has the name
-abbrev pub Has : BTreeSet (Bor (List ℕ)) → List ℕ → Type 0
-Has names name = contains (λ x y. slice_cmp nat_cmp x.now y.now) names (record { ref_ptr = (0, 0); now = name }) ≡ true
+abbrev pub HasName : BTreeSet (Bor (List ℕ)) → List ℕ → Type 0
+HasName names name = contains (λ x y. slice_cmp nat_cmp x.now y.now) names (record { ref_ptr = (0, 0); now = name }) ≡ true

@@ -3,21 +3,21 @@ use Rattle.std.specs.Prelude.{◌≡◌, ℕ, ◌<◌, ◌≤◌, ◌⊎◌, Lis
 use Rattle.pattern_reader.specs.declared.value_refusal.ValueRefusal.{ValueRefusal}
 use Rattle.pattern_reader.specs.declared.value_refusal.ValueRefusal.TheVariants.{BadCount, LongPath, BadAddress, EmptySpan, NoCommonRoot, NoValue}
 
-abbrev pub name_of : ValueRefusal → List ℕ
-name_of (BadCount at) = codes "BadCount"
-name_of (LongPath at) = codes "LongPath"
-name_of (BadAddress at) = codes "BadAddress"
-name_of (EmptySpan at) = codes "EmptySpan"
-name_of (NoCommonRoot at) = codes "NoCommonRoot"
-name_of (NoValue at) = codes "NoValue"
+abbrev pub value_refusal_name : ValueRefusal → List ℕ
+value_refusal_name (BadCount at) = codes "BadCount"
+value_refusal_name (LongPath at) = codes "LongPath"
+value_refusal_name (BadAddress at) = codes "BadAddress"
+value_refusal_name (EmptySpan at) = codes "EmptySpan"
+value_refusal_name (NoCommonRoot at) = codes "NoCommonRoot"
+value_refusal_name (NoValue at) = codes "NoValue"
 
-abbrev pub place_of : ValueRefusal → ℕ
-place_of (BadCount at) = at
-place_of (LongPath at) = at
-place_of (BadAddress at) = at
-place_of (EmptySpan at) = at
-place_of (NoCommonRoot at) = at
-place_of (NoValue at) = at
+abbrev pub value_refusal_offset : ValueRefusal → ℕ
+value_refusal_offset (BadCount at) = at
+value_refusal_offset (LongPath at) = at
+value_refusal_offset (BadAddress at) = at
+value_refusal_offset (EmptySpan at) = at
+value_refusal_offset (NoCommonRoot at) = at
+value_refusal_offset (NoValue at) = at
 
 -- at one offset, LongPath comes first, then NoCommonRoot; the others never share one in a text
 abbrev pub rank_of : ValueRefusal → ℕ
@@ -30,7 +30,7 @@ rank_of (NoValue at) = 5
 
 -- the first has the lower offset, or the same one and no higher rank
 abbrev pub Precedes : ValueRefusal → ValueRefusal → Type 0
-Precedes a b = (place_of a < place_of b) ⊎ ((place_of a ≡ place_of b) × (rank_of a ≤ rank_of b))
+Precedes a b = (value_refusal_offset a < value_refusal_offset b) ⊎ ((value_refusal_offset a ≡ value_refusal_offset b) × (rank_of a ≤ rank_of b))
 
 -- the refusal is one of these, and precedes each of them
 pub record IsEarliest (IsOne : ValueRefusal → Type 0) (refusal : ValueRefusal) : Type 0 where

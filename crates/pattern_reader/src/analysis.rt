@@ -6,10 +6,10 @@ ghost use Rattle.std.specs.Prelude.{◌≡◌, ◌↔◌, List, ℕ, IfOk};
 ghost use Rattle.pattern_grammar.specs.Tree.{Comparison, test, all, any, compared, conjunction};
 ghost use Rattle.pattern_grammar.specs.Tree.{operand};
 ghost use Rattle.pattern_reader.specs.LeafMeaning.{IsNoAll, IsNoAny};
-ghost use Rattle.pattern_reader.specs.Refusals.{HasRoot, first_of, IsRootless};
-ghost use Rattle.pattern_reader.specs.Roots.{Has};
+ghost use Rattle.pattern_reader.specs.Refusals.{HasRoot, first_token, IsRootless};
+ghost use Rattle.pattern_reader.specs.Roots.{HasName};
 ghost use Rattle.pattern_reader.specs.inner.Analysis.{IsOutcome, IsAnalysis};
-ghost use Rattle.pattern_reader.specs.inner.Analysis.{IsChain, AreAll, AreAny};
+ghost use Rattle.pattern_reader.specs.inner.Analysis.{IsChain, AreRootedOperands, AreAny};
 
 use crate::ValueRefusal;
 use crate::checks::test_of;
@@ -60,7 +60,7 @@ fn analyze_test<'a>(alloc: Global, text: &'a str, tree: &TestTree) -> Result<Ana
 /// A chain of one operand.
 fn chain_of<'a>(alloc: Global, first: Analysis<'a>) -> Result<Chain<'a>, NoMemory>
     ensures all { IfOk result (λ chain. (text : List ℕ) (c : Comparison) → IsNoAll c
-        → IsAnalysis text c first.entry → IsChain AreAll text c chain) }
+        → IsAnalysis text c first.entry → IsChain AreRootedOperands text c chain) }
     ensures any { IfOk result (λ chain. (text : List ℕ) (c : Comparison) → IsNoAny c
         → IsAnalysis text c first.entry → IsChain AreAny text c chain) }
 {
@@ -75,8 +75,8 @@ fn chain_of<'a>(alloc: Global, first: Analysis<'a>) -> Result<Chain<'a>, NoMemor
 
 /// Checks that comparisons joined by `AND` have an object type in common. `NoCommonRoot` otherwise.
 fn rooted(at: usize, roots: &BTreeSet<&str>) -> Result<(), ValueRefusal>
-    ensures { (text : List ℕ) (c d : Comparison) → at ≡ (first_of c).from
-        → ((root : List ℕ) → Has roots.now root ↔ (HasRoot text c root × HasRoot text d root))
+    ensures { (text : List ℕ) (c d : Comparison) → at ≡ (first_token c).from
+        → ((root : List ℕ) → HasName roots.now root ↔ (HasRoot text c root × HasRoot text d root))
         → IsOutcome (λ _. (root : List ℕ) × (HasRoot text c root × HasRoot text d root))
         (IsRootless text c d) result }
 {
@@ -89,8 +89,8 @@ fn rooted(at: usize, roots: &BTreeSet<&str>) -> Result<(), ValueRefusal>
 /// Appends an operand of `AND`, which must have an object type in common with the chain.
 fn with_all<'a>(alloc: Global, chain: Chain<'a>, next: Analysis<'a>) -> Result<Chain<'a>, NoMemory>
     ensures { IfOk result (λ more. (text : List ℕ) (c d : Comparison)
-        → IsChain AreAll text c chain.entry
-        → IsAnalysis text d next.entry → IsChain AreAll text (all c d) more) }
+        → IsChain AreRootedOperands text c chain.entry
+        → IsAnalysis text d next.entry → IsChain AreRootedOperands text (all c d) more) }
 {
     let at = chain.at;
     let parts = with_next(chain.parts, next.leaf)?;
@@ -113,7 +113,7 @@ fn with_any<'a>(chain: Chain<'a>, next: Analysis<'a>) -> Result<Chain<'a>, NoMem
 
 /// The conjunction of a chain of two operands or more.
 fn all_of<'a>(chain: Chain<'a>) -> Analysis<'a>
-    ensures { (text : List ℕ) (c d : Comparison) → IsChain AreAll text (all c d) chain.entry
+    ensures { (text : List ℕ) (c d : Comparison) → IsChain AreRootedOperands text (all c d) chain.entry
         → IsAnalysis text (all c d) result }
 {
     Analysis {

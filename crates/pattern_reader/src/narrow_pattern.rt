@@ -5,7 +5,7 @@ ghost use Rattle.std.specs.Prelude.{◌≡◌, IfOk};
 ghost use Rattle.std.specs.Box.{box_value};
 ghost use Rattle.pattern_types.specs.PlainLeaf.{plain_leaf};
 ghost use Rattle.pattern_types.specs.PlainPattern.{plain_pattern, a_leaf, a_limited};
-ghost use Rattle.pattern_types.specs.Width.{width as width_of, brackets as brackets_of};
+ghost use Rattle.pattern_types.specs.Width.{pattern_width as width_of, brackets as brackets_of};
 ghost use Rattle.pattern_reader.specs.inner.NarrowPattern.{meant_by};
 ghost use Rattle.pattern_reader.specs.inner.NarrowPattern.{IsNarrow, UnlessTooWide};
 

@@ -1,5 +1,5 @@
 ghost use Rattle.std.specs.Prelude.{◌≡◌, Some};
-ghost use Rattle.pattern_reader.specs.PatternRefusal.{name_of, place_of};
+ghost use Rattle.pattern_reader.specs.PatternRefusal.{pattern_refusal_name, pattern_refusal_offset};
 
 use crate::ValueRefusal;
 use flow_values::NoMemory;
@@ -28,7 +28,7 @@ pub enum PatternRefusal {
 impl PatternRefusal {
     /// The refusal's name, as `Syntax`.
     pub fn name(self) -> &'static str
-        ensures { result.now ≡ name_of self }
+        ensures { result.now ≡ pattern_refusal_name self }
     {
         match self {
             PatternRefusal::TooLong => "TooLong",
@@ -42,7 +42,7 @@ impl PatternRefusal {
 
     /// The byte offset of the refusal, from 0, if it has one.
     pub fn at(self) -> Option<usize>
-        ensures { result ≡ place_of self }
+        ensures { result ≡ pattern_refusal_offset self }
     {
         match self {
             PatternRefusal::Token(refusal) => Some(refusal.at()),
@@ -55,9 +55,9 @@ impl PatternRefusal {
 
 /// Prints the name, and the byte offset if there is one, as `Syntax at 5`.
 impl fmt::Display for PatternRefusal {
-    ghost use Rattle.pattern_reader.specs.PatternRefusal.{refusal_text};
+    ghost use Rattle.pattern_reader.specs.PatternRefusal.{pattern_refusal_text};
 
-    ghost output = { λ refusal. Some (refusal_text refusal) };
+    ghost output = { λ refusal. Some (pattern_refusal_text refusal) };
 
     fn fmt<W: fmt::Write>(&self, f: &mut fmt::Formatter<W>) -> fmt::Result {
         let name = self.name();

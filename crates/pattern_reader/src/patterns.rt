@@ -1,10 +1,11 @@
 ghost use Rattle.std.specs.Prelude.{ℕ, List, map, IfOk, Some, IfSome};
-ghost use Rattle.pattern_grammar.specs.Tree.{Tree, compared, leaf, joined, shape, qualified};
-ghost use Rattle.pattern_reader.specs.Answer.{Answers};
+ghost use Rattle.pattern_grammar.specs.Tree.{Tree, compared, leaf, left_fold, shape, qualified};
+ghost use Rattle.pattern_reader.specs.Answer.{AnswersMeaning};
 ghost use Rattle.pattern_reader.specs.inner.NarrowPattern.{tree_by};
 ghost use Rattle.pattern_reader.specs.Refusals.{IsSoundLimitOf};
 ghost use Rattle.pattern_grammar.specs.declared.qualifier.Qualifier.{Qualifier};
-ghost use Rattle.pattern_reader.specs.inner.NarrowPattern.{IsNarrow, IsNarrowPart, IsPartOf};
+ghost use Rattle.pattern_reader.specs.inner.NarrowPattern.{IsNarrow, IsNarrowPart};
+ghost use Rattle.pattern_reader.specs.inner.NarrowPattern.{IsNarrowPatternOf};
 ghost use Rattle.pattern_reader.specs.inner.NarrowPattern.{IsPartOutcome};
 
 use crate::analysis::{Analysis, analyze};
@@ -27,9 +28,9 @@ fn join_narrow(
     requires left { IsNarrow left }
     requires right { IfSome right IsNarrow }
     ensures narrow { IfOk result (λ whole. IfSome whole IsNarrow) }
-    ensures part { IfOk result (λ whole. (text : List ℕ) (p q : Tree) → IsPartOf text p (Some left)
-        → IsPartOf text q right
-        → IsPartOf text (tree_by operator p q) whole) }
+    ensures part { IfOk result (λ whole. (text : List ℕ) (p q : Tree) → IsNarrowPatternOf text p (Some left)
+        → IsNarrowPatternOf text q right
+        → IsNarrowPatternOf text (tree_by operator p q) whole) }
 {
     match right {
         Some(right) => NarrowPattern::joined(alloc, operator, left, right),
@@ -50,9 +51,9 @@ fn join(
     requires left { IfSome left IsNarrow }
     requires right { IfSome right IsNarrow }
     ensures narrow { IfOk result (λ whole. IfSome whole IsNarrow) }
-    ensures part { IfOk result (λ whole. (text : List ℕ) (p q : Tree) → IsPartOf text p left
-        → IsPartOf text q right
-        → IsPartOf text (tree_by operator p q) whole) }
+    ensures part { IfOk result (λ whole. (text : List ℕ) (p q : Tree) → IsNarrowPatternOf text p left
+        → IsNarrowPatternOf text q right
+        → IsNarrowPatternOf text (tree_by operator p q) whole) }
 {
     match left {
         Some(left) => join_narrow(alloc, operator, left, right),
@@ -95,8 +96,8 @@ fn limit(
     requires { IfSome part IsNarrow }
     ensures narrow { IfOk result (λ whole. IfSome whole IsNarrow) }
     ensures part { IfOk result (λ whole. (text : List ℕ) (p : Tree) (q : Qualifier)
-        → IsPartOf text p part → IsSoundLimitOf text q limit
-        → IsPartOf text (qualified p q) whole) }
+        → IsNarrowPatternOf text p part → IsSoundLimitOf text q limit
+        → IsNarrowPatternOf text (qualified p q) whole) }
 {
     match part {
         Some(part) => NarrowPattern::limited(alloc, part, limit),
@@ -154,7 +155,7 @@ fn chain_of(
     requires { IsNarrowPart first }
     ensures narrow { IfOk result IsNarrowPart }
     ensures part { IfOk result (λ part. (p : Tree) → IsPartOutcome text.now p first
-        → IsPartOutcome text.now (joined (tree_by operator) p (map shape others.now)) part) }
+        → IsPartOutcome text.now (left_fold (tree_by operator) p (map shape others.now)) part) }
 {
     let mut whole = first;
     for other in others {
@@ -202,7 +203,7 @@ fn part_of(
 /// value by its byte offset. Linear in the number of nodes, but for the sets of object types.
 /// `NoMemory` is the only error.
 pub fn meaning_of(alloc: Global, text: &str, tree: &PatternTree) -> Result<Meaning, NoMemory>
-    ensures { IfOk result (Answers text.now (shape tree.now)) }
+    ensures { IfOk result (AnswersMeaning text.now (shape tree.now)) }
 {
     match part_of(alloc, text, tree)? {
         Ok(Some(narrow)) => Ok(Meaning::Sound(narrow.pattern)),

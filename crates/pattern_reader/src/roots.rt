@@ -1,5 +1,5 @@
 ghost use Rattle.std.specs.Prelude.{◌≡◌, ◌↔◌, ◌⊎◌, ℕ, List, IfOk, IsSomeAnd, IsTrue, IsFalse};
-ghost use Rattle.pattern_reader.specs.Roots.{Has};
+ghost use Rattle.pattern_reader.specs.Roots.{HasName};
 
 use flow_values::NoMemory;
 use std::alloc::Global;
@@ -11,7 +11,7 @@ pub(crate) fn of_name<'a>(
     name: Option<&'a str>,
 ) -> Result<BTreeSet<&'a str>, NoMemory>
     ensures { IfOk result (λ names. (other : List ℕ)
-        → Has names other ↔ IsSomeAnd name.entry (λ one. other ≡ one.now)) }
+        → HasName names other ↔ IsSomeAnd name.entry (λ one. other ≡ one.now)) }
 {
     match name {
         Some(name) => singleton(alloc, name),
@@ -21,7 +21,7 @@ pub(crate) fn of_name<'a>(
 
 /// The set of one name.
 fn singleton<'a>(alloc: Global, name: &'a str) -> Result<BTreeSet<&'a str>, NoMemory>
-    ensures { IfOk result (λ names. (other : List ℕ) → Has names other ↔ (other ≡ name.now)) }
+    ensures { IfOk result (λ names. (other : List ℕ) → HasName names other ↔ (other ≡ name.now)) }
 {
     let mut names = BTreeSet::new(alloc);
     names.insert(name)?;
@@ -35,7 +35,7 @@ pub(crate) fn common<'a>(
     right: &BTreeSet<&'a str>,
 ) -> Result<BTreeSet<&'a str>, NoMemory>
     ensures { IfOk result (λ names. (name : List ℕ)
-        → Has names name ↔ (Has left.now name × Has right.now name)) }
+        → HasName names name ↔ (HasName left.now name × HasName right.now name)) }
 {
     let names = left.intersection(right).copied().collect(alloc)?;
     Ok(names)
@@ -47,7 +47,7 @@ pub(crate) fn either<'a>(
     right: BTreeSet<&'a str>,
 ) -> Result<BTreeSet<&'a str>, NoMemory>
     ensures { IfOk result (λ names. (name : List ℕ)
-        → Has names name ↔ (Has left.entry name ⊎ Has right.entry name)) }
+        → HasName names name ↔ (HasName left.entry name ⊎ HasName right.entry name)) }
 {
     if left.len() < right.len() {
         return with(right, left);
@@ -61,7 +61,7 @@ fn with<'a>(
     mut others: BTreeSet<&'a str>,
 ) -> Result<BTreeSet<&'a str>, NoMemory>
     ensures { IfOk result (λ all. (name : List ℕ)
-        → Has all name ↔ (Has names.entry name ⊎ Has others.entry name)) }
+        → HasName all name ↔ (HasName names.entry name ⊎ HasName others.entry name)) }
 {
     names.append(&mut others)?;
     Ok(names)
@@ -69,8 +69,8 @@ fn with<'a>(
 
 /// Whether the set is empty.
 pub(crate) fn is_none(names: &BTreeSet<&str>) -> bool
-    ensures none { IsTrue result → (name : List ℕ) → ¬ Has names.now name }
-    ensures some { IsFalse result → (name : List ℕ) × Has names.now name }
+    ensures none { IsTrue result → (name : List ℕ) → ¬ HasName names.now name }
+    ensures some { IsFalse result → (name : List ℕ) × HasName names.now name }
 {
     names.is_empty()
 }

@@ -1,5 +1,5 @@
 ghost use Rattle.std.specs.Prelude.{◌≡◌};
-ghost use Rattle.pattern_reader.specs.ValueRefusal.{name_of, place_of};
+ghost use Rattle.pattern_reader.specs.ValueRefusal.{value_refusal_name, value_refusal_offset};
 
 /// Why a syntax tree doesn't mean a pattern: a value that isn't allowed. `at` is a byte offset,
 /// from 0.
@@ -22,7 +22,7 @@ pub enum ValueRefusal {
 impl ValueRefusal {
     /// The refusal's name, as `BadCount`.
     pub fn name(self) -> &'static str
-        ensures { result.now ≡ name_of self }
+        ensures { result.now ≡ value_refusal_name self }
     {
         match self {
             ValueRefusal::BadCount { .. } => "BadCount",
@@ -36,7 +36,7 @@ impl ValueRefusal {
 
     /// The byte offset of the refusal.
     pub fn at(self) -> usize
-        ensures { result ≡ place_of self }
+        ensures { result ≡ value_refusal_offset self }
     {
         match self {
             ValueRefusal::BadCount { at }

@@ -15,8 +15,8 @@ use Rattle.std.specs.Result.{result_ok}
 use Rattle.std.proofs.NetLemmas.Theorems.{IsIpText_unique}
 use Rattle.pattern_types.specs.declared.block.Block.{Block}
 use Rattle.pattern_types.specs.declared.block.Block.TheVariants.{V4, V6}
-use Rattle.pattern_types.specs.Block.{masked, IsValid}
-use Rattle.pattern_types.specs.BlockText.{IsLengthText, IsTextOf, IsBlockText}
+use Rattle.pattern_types.specs.Block.{masked, IsValidBlock}
+use Rattle.pattern_types.specs.BlockText.{IsLengthText, IsTextOfBlock, IsBlockText}
 use Rattle.pattern_types.specs.Slash.{HasNoSlash, CutsAtSlash}
 use Rattle.pattern_types.specs.PrefixLength.{IsPrefixLength}
 use Rattle.pattern_types.specs.Ipv4.{IsIpv4Text}
@@ -36,7 +36,7 @@ block_of (Ip.V6 a) bits = V6 (masked 128 bits (ipv6_bits a)) bits
 
 module _ (IsAddress : List ℕ → ℕ → Type 0) (width : ℕ) (text address : List ℕ) where
   -- an address and a length put together
-  joined : (length : Option (Bor (List ℕ))) (number bits : ℕ) → CutsAtSlash text address length → IsAddress address number → IsPrefixLength width length bits → IsTextOf IsAddress width text (masked width bits number) bits
+  joined : (length : Option (Bor (List ℕ))) (number bits : ℕ) → CutsAtSlash text address length → IsAddress address number → IsPrefixLength width length bits → IsTextOfBlock IsAddress width text (masked width bits number) bits
   joined None number bits cut is_address is_length = record {
     address = address;
     length = [];
@@ -155,7 +155,7 @@ parsed_none text (Ok a) parses given = cc
 parsed_none text (Err e) parses given = parses
 
 -- and the block has no more bits than its family
-pub block_of-valid : (ip : IpAddr) (bits : ℕ) → bits ≤ width_of ip → IsValid (block_of ip bits)
+pub block_of-valid : (ip : IpAddr) (bits : ℕ) → bits ≤ width_of ip → IsValidBlock (block_of ip bits)
 block_of-valid (Ip.V4 a) bits within = within
 block_of-valid (Ip.V6 a) bits within = within
 
@@ -197,6 +197,6 @@ length_within : (width : ℕ) (tail : List ℕ) (bits : ℕ) → IsLengthText wi
 length_within width tail bits (inl none) = let e = none.1 in omega (arith, e)
 length_within width tail bits (inr some) = some.1
 
-pub named_valid : (text : List ℕ) (block : Block) → IsBlockText text block → IsValid block
+pub named_valid : (text : List ℕ) (block : Block) → IsBlockText text block → IsValidBlock block
 named_valid text (V4 net bits) x = length_within 32 x.length bits x.length_text
 named_valid text (V6 net bits) x = length_within 128 x.length bits x.length_text

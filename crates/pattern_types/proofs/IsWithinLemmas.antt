@@ -3,7 +3,7 @@
 use Rattle.std.proofs.Common.{◌≡◌, ℕ, ◌+◌, ◌-◌, ◌*◌, ◌/◌, ◌^◌, ◌<◌, ◌≤◌, refl, sym, ap, ◌∙◌, subst, arith, inl, inr}
 use Rattle.std.proofs.lemmas.Nat.{pow_pos, pow-add, shl-shr, shr-shr, shr_high, shr_below, pow_below, mul-add-lt}
 use Rattle.std.proofs.lemmas.Bool.{cases_lt}
-use Rattle.pattern_types.specs.Block.{leading, IsIn, IsNarrower}
+use Rattle.pattern_types.specs.Block.{leading, IsInBlock, IsNarrower}
 
 -- a multiple of a power of two, over a smaller one
 begins : (n whole i j : ℕ) → i + j ≡ whole → n * 2 ^ whole ≡ n * 2 ^ i * 2 ^ j
@@ -34,7 +34,7 @@ module _ (width net bits outer_net outer_bits : ℕ) (fits : net < 2 ^ width) (b
   powers i j whole = ap (λ k. 2 ^ k) (sym whole) ∙ pow-add 2 i j
 
   -- the block's number that ends in r is one of its addresses
-  ending_in : (r : ℕ) → r < 2 ^ (width - bits) → IsIn width net bits (leading width bits net * 2 ^ (width - bits) + r)
+  ending_in : (r : ℕ) → r < 2 ^ (width - bits) → IsInBlock width net bits (leading width bits net * 2 ^ (width - bits) + r)
   ending_in r small =
       let host = width - bits in
       let whole : bits + host ≡ width = omega arith in

@@ -19,8 +19,8 @@ bits_of (V4 net bits) = bits
 bits_of (V6 net bits) = bits
 
 -- the prefix is no longer than an address
-abbrev pub IsValid : Block → Type 0
-IsValid block = bits_of block ≤ width_of block
+abbrev pub IsValidBlock : Block → Type 0
+IsValidBlock block = bits_of block ≤ width_of block
 
 -- the first bits of a number of this width
 abbrev pub leading : ℕ → ℕ → ℕ → ℕ
@@ -31,14 +31,14 @@ abbrev pub masked : ℕ → ℕ → ℕ → ℕ
 masked width bits number = leading width bits number * 2 ^ (width - bits)
 
 -- the address is in the block: it has the leading bits of the network number
-pub record IsIn (width net bits address : ℕ) : Type 0 where
+pub record IsInBlock (width net bits address : ℕ) : Type 0 where
   pub fits : address < 2 ^ width
   pub shares : leading width bits address ≡ leading width bits net
 
 -- each address of the one block is in the other, in one family
 abbrev pub IsNarrower : ℕ → ℕ → ℕ → ℕ → ℕ → Type 0
 IsNarrower width net bits outer_net outer_bits =
-    (address : ℕ) → IsIn width net bits address → IsIn width outer_net outer_bits address
+    (address : ℕ) → IsInBlock width net bits address → IsInBlock width outer_net outer_bits address
 
 -- both blocks are of one family, and each address of the inner one is in the outer one
 abbrev pub IsWithin : Block → Block → Type 0

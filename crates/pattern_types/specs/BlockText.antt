@@ -13,7 +13,7 @@ IsLengthText width text bits = ((text ≡ []) × (bits ≡ width))
     ⊎ ((text ≡ 47 ∷ decimal bits) × (bits ≤ width))
 
 -- an address and a prefix length; the network number is the address without its host bits
-pub record IsTextOf (IsAddress : List ℕ → ℕ → Type 0) (width : ℕ) (text : List ℕ) (net bits : ℕ) : Type 0 where
+pub record IsTextOfBlock (IsAddress : List ℕ → ℕ → Type 0) (width : ℕ) (text : List ℕ) (net bits : ℕ) : Type 0 where
   pub address : List ℕ
   pub length : List ℕ
   pub number : ℕ
@@ -24,5 +24,5 @@ pub record IsTextOf (IsAddress : List ℕ → ℕ → Type 0) (width : ℕ) (tex
 
 -- the text names the block
 abbrev pub IsBlockText : List ℕ → Block → Type 0
-IsBlockText text (V4 net bits) = IsTextOf IsIpv4Text 32 text net bits
-IsBlockText text (V6 net bits) = IsTextOf IsIpv6Text 128 text net bits
+IsBlockText text (V4 net bits) = IsTextOfBlock IsIpv4Text 32 text net bits
+IsBlockText text (V6 net bits) = IsTextOfBlock IsIpv6Text 128 text net bits

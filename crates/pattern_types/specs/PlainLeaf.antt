@@ -14,9 +14,9 @@ mutual
     more : PlainLeaf → PlainLeaves → PlainLeaves
 
 -- appends one
-abbrev pub put : PlainLeaves → PlainLeaf → PlainLeaves
-put none f = more f none
-put (more g gs) f = more g (put gs f)
+abbrev pub leaves_with : PlainLeaves → PlainLeaf → PlainLeaves
+leaves_with none f = more f none
+leaves_with (more g gs) f = more g (leaves_with gs f)
 
 abbrev mutual
   pub plain_leaf : Leaf → PlainLeaf
@@ -29,6 +29,6 @@ abbrev mutual
   plain_leaves (more_of-Leaf l r) = more (plain_leaf l) (plain_leaves r)
 
 -- the leaves of a list
-abbrev pub listed : List Leaf → PlainLeaves
-listed [] = none
-listed (l ∷ ls) = more (plain_leaf l) (listed ls)
+abbrev pub leaves_of_list : List Leaf → PlainLeaves
+leaves_of_list [] = none
+leaves_of_list (l ∷ ls) = more (plain_leaf l) (leaves_of_list ls)

@@ -1,7 +1,7 @@
 -- Requirements on a pattern beyond its grammar (STIX 2.1, section 9, and limits of this
 -- implementation).
 use Rattle.std.specs.Prelude.{◌≡◌, ◌≤◌, ◌⊎◌, ◌<ℤ◌, ℕ, List, length}
-use Rattle.pattern_types.specs.Block.{IsValid}
+use Rattle.pattern_types.specs.Block.{IsValidBlock}
 use Rattle.pattern_types.specs.BlockText.{IsBlockText}
 use Rattle.pattern_types.specs.declared.address_block.AddressBlock.{AddressBlock}
 use Rattle.pattern_types.specs.declared.path.Path.{Path}
@@ -17,7 +17,7 @@ use Rattle.pattern_types.specs.PlainPattern.{PlainPattern, a_leaf, a_both, an_ei
 -- the text of an address block names its block
 pub record IsSoundBlock (address : AddressBlock) : Type 0 where
   pub named : IsBlockText address.text address.block
-  pub valid : IsValid address.block
+  pub valid : IsValidBlock address.block
 
 -- ISSUBSET and ISSUPERSET compare with an address block
 abbrev pub IsSoundCheck : Check → Type 0
@@ -26,12 +26,12 @@ IsSoundCheck (Superset address) = IsSoundBlock address
 IsSoundCheck _ = Unit {0}
 
 -- a path has at most MAX_STEPS steps
-abbrev pub IsShort : Path → Type 0
-IsShort path = length path.steps ≤ MAX_STEPS
+abbrev pub IsShortPath : Path → Type 0
+IsShortPath path = length path.steps ≤ MAX_STEPS
 
 -- the same for a test
 pub record IsSoundTest (test : Test) : Type 0 where
-  pub short : IsShort test.path
+  pub short : IsShortPath test.path
   pub check : IsSoundCheck test.check
 
 -- the types of objects that can meet a comparison: for a test its path's, for parts joined by AND

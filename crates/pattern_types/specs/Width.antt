@@ -1,4 +1,4 @@
--- The width of a pattern: the number of observations that one match of it can have.
+-- The pattern_width of a pattern: the number of observations that one match of it can have.
 use Rattle.std.specs.Prelude.{ℕ, ◌+◌, ◌*◌, ◌<◌, ◌⊎◌, max}
 use Rattle.pattern_types.specs.declared.limit.TheConstants.{MAX_WIDTH, MAX_BRACKETS}
 use Rattle.pattern_types.specs.declared.limit.Limit.{Limit}
@@ -7,18 +7,18 @@ use Rattle.pattern_types.specs.PlainPattern.{PlainPattern, a_leaf, a_both, an_ei
 
 -- the factor of a qualifier
 abbrev pub times : Limit → ℕ → ℕ
-times (limit.Within seconds) width = width
-times (limit.Between begins ends) width = width
-times (limit.Repeats count) width = count * width
+times (limit.Within seconds) pattern_width = pattern_width
+times (limit.Between begins ends) pattern_width = pattern_width
+times (limit.Repeats count) pattern_width = count * pattern_width
 
--- a leaf has width 1; AND and FOLLOWEDBY have the sum of both sides, OR the maximum, and a repeated
--- pattern n times its width
-abbrev pub width : PlainPattern → ℕ
-width (a_leaf leaf) = 1
-width (a_both left right) = width left + width right
-width (an_either left right) = max (width left) (width right)
-width (a_then left right) = width left + width right
-width (a_limited part limit) = times limit (width part)
+-- a leaf has pattern_width 1; AND and FOLLOWEDBY have the sum of both sides, OR the maximum, and a repeated
+-- pattern n times its pattern_width
+abbrev pub pattern_width : PlainPattern → ℕ
+pattern_width (a_leaf leaf) = 1
+pattern_width (a_both left right) = pattern_width left + pattern_width right
+pattern_width (an_either left right) = max (pattern_width left) (pattern_width right)
+pattern_width (a_then left right) = pattern_width left + pattern_width right
+pattern_width (a_limited part limit) = times limit (pattern_width part)
 
 -- the number of pairs of brackets
 abbrev pub brackets : PlainPattern → ℕ
@@ -28,6 +28,6 @@ brackets (an_either left right) = brackets left + brackets right
 brackets (a_then left right) = brackets left + brackets right
 brackets (a_limited part limit) = brackets part
 
--- TooWide: the pattern exceeds the limit on its width or on its brackets
+-- TooWide: the pattern exceeds the limit on its pattern_width or on its brackets
 abbrev pub IsTooWide : PlainPattern → Type 0
-IsTooWide pattern = (MAX_WIDTH < width pattern) ⊎ (MAX_BRACKETS < brackets pattern)
+IsTooWide pattern = (MAX_WIDTH < pattern_width pattern) ⊎ (MAX_BRACKETS < brackets pattern)

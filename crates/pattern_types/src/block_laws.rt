@@ -2,7 +2,7 @@
 
 ghost use Rattle.std.specs.Prelude.{◌≡◌, ℕ, List};
 ghost use Rattle.pattern_types.specs.declared.block.Block.{Block};
-ghost use Rattle.pattern_types.specs.Block.{IsValid};
+ghost use Rattle.pattern_types.specs.Block.{IsValidBlock};
 ghost use Rattle.pattern_types.specs.BlockText.{IsBlockText};
 
 /// A text names at most one block.
@@ -13,5 +13,5 @@ pub fn one_block()
 
 /// A block named by a text has a prefix no longer than an address.
 pub fn valid_block()
-    ensures { (text : List ℕ) (block : Block) → IsBlockText text block → IsValid block }
+    ensures { (text : List ℕ) (block : Block) → IsBlockText text block → IsValidBlock block }
 {}

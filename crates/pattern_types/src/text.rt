@@ -1,7 +1,7 @@
 //! Parses a block.
 ghost use Rattle.std.specs.Prelude.{◌≡◌, ℕ, ◌≤◌, ◌↔◌, IfSome};
 ghost use Rattle.std.specs.Net.Addr.{ipv4_bits, ipv6_bits};
-ghost use Rattle.pattern_types.specs.Block.{IsValid, masked};
+ghost use Rattle.pattern_types.specs.Block.{IsValidBlock, masked};
 ghost use Rattle.pattern_types.specs.BlockText.{IsBlockText};
 ghost use Rattle.pattern_types.specs.Slash.{CutsAtSlash};
 
@@ -15,7 +15,7 @@ use std::net::{IpAddr, Ipv4Addr, Ipv6Addr};
 /// to zero. `None` for any other text.
 pub fn read_block(text: &str) -> Option<Block>
     ensures exact { (block : Block) → (result ≡ Some block) ↔ IsBlockText text.now block }
-    ensures valid { IfSome result IsValid }
+    ensures valid { IfSome result IsValidBlock }
 {
     let (address, length) = cut_at_slash(text);
     match address.parse().ok()? {

@@ -13,12 +13,12 @@ use Rattle.pattern_grammar.specs.declared.qualifier.Qualifier.{Qualifier}
 use Rattle.pattern_grammar.specs.TokenClass.{IsA, is_in}
 use Rattle.pattern_grammar.specs.Tree.{Comparison, Tree, test}
 use Rattle.pattern_grammar.specs.Grammar.{IsStep, step_name, step_index, IsPath, path_first, path_further, AreConstants, constants_one, constants_more, IsCheck, check_equality, check_order, check_among, check_textual, IsTest, test_group, test_exists, test_not_exists, test_compare, test_not_compare, IsCand, cand_one, cand_more, IsCor, cor_one, cor_more, IsQualifier, qualifier_within, qualifier_repeats, qualifier_between, IsStart, start_leaf, start_group, IsUnit, unit_one, unit_more, IsAnds, ands_one, ands_more, IsOrs, ors_one, ors_more, IsPattern, pattern_one, pattern_more}
-use Rattle.pattern_types.specs.PlainLeaf.{PlainLeaf, one, every, some, PlainLeaves, none, more, put}
+use Rattle.pattern_types.specs.PlainLeaf.{PlainLeaf, one, every, some, PlainLeaves, none, more, leaves_with}
 use Rattle.pattern_reader.specs.LeafMeaning.{IsNoAll, IsNoAny, Means, means_test, means_group, means_all, means_any, AllParts, all_first, all_more, AnyParts, any_first, any_more}
 use Rattle.pattern_types.specs.PlainPattern.{PlainPattern, a_leaf, a_both, an_either, a_then, a_limited}
 use Rattle.pattern_reader.specs.PatternMeaning.{MeansPattern, means_leaf, means_both, means_either, means_then, means_limited}
 use Rattle.pattern_writer.specs.Leaf.{binds}
-use Rattle.pattern_writer.specs.Canonical.{level}
+use Rattle.pattern_writer.specs.Canonical.{precedence_level}
 use Rattle.pattern_writer.proofs.DepthsLemmas.{Measured, measured_is, is_flat, only_flat, Flat, flats, flat_join, first_flat, last_flat, mid_flat, joined, round, among, qualifying}
 
 -- classes of flat kinds
@@ -73,10 +73,10 @@ abbrev mutual
 
 abbrev pub need : PlainPattern → ℕ
 need (a_leaf f) = formula_need f
-need (a_both m n) = max (wrapped 2 (level m) (need m)) (wrapped 3 (level n) (need n))
-need (an_either m n) = max (wrapped 1 (level m) (need m)) (wrapped 2 (level n) (need n))
-need (a_then m n) = max (wrapped 0 (level m) (need m)) (wrapped 1 (level n) (need n))
-need (a_limited m l) = wrapped 3 (level m) (need m)
+need (a_both m n) = max (wrapped 2 (precedence_level m) (need m)) (wrapped 3 (precedence_level n) (need n))
+need (an_either m n) = max (wrapped 1 (precedence_level m) (need m)) (wrapped 2 (precedence_level n) (need n))
+need (a_then m n) = max (wrapped 0 (precedence_level m) (need m)) (wrapped 1 (precedence_level n) (need n))
+need (a_limited m l) = wrapped 3 (precedence_level m) (need m)
 
 abbrev pub qualifiers_in : PlainPattern → ℕ
 qualifiers_in (a_leaf f) = 0
@@ -94,7 +94,7 @@ wrapped_high k b n = grind (arith, nat_tests)
 wrapped_down : (j k b n : ℕ) → j ≤ k → wrapped j b n ≤ wrapped k b n
 wrapped_down j k b n h = grind (arith, nat_tests)
 
-pub put_need : (least : ℕ) (fs : PlainLeaves) (f : PlainLeaf) → parts_need least (put fs f) ≡ max (parts_need least fs) (wrapped least (binds f) (formula_need f))
+pub put_need : (least : ℕ) (fs : PlainLeaves) (f : PlainLeaf) → parts_need least (leaves_with fs f) ≡ max (parts_need least fs) (wrapped least (binds f) (formula_need f))
 put_need least none f = omega arith
 put_need least (more g fs) f = let e = put_need least fs f in omega (arith, e)
 
@@ -145,9 +145,9 @@ plain_measured (test_compare {a = a} {b = b} x y) p = two_measured a b (path_fla
 plain_measured (test_not_compare {a = a} {b = b} o x h y) p = two_measured a (o ∷ b) (path_flat x) (first_flat o b 0 0 (only_flat kind.Not o.kind h refl) (check_measured y))
 
 -- one part more
-part_more : (least : ℕ) (xs ys : List Token) (o : Token) (fs : PlainLeaves) (f : PlainLeaf) → is_flat o.kind ≡ true → Deep xs 0 (parts_need least fs) → Deep ys 0 (wrapped least (binds f) (formula_need f)) → Deep (xs ++ o ∷ ys) 0 (parts_need least (put fs f))
+part_more : (least : ℕ) (xs ys : List Token) (o : Token) (fs : PlainLeaves) (f : PlainLeaf) → is_flat o.kind ≡ true → Deep xs 0 (parts_need least fs) → Deep ys 0 (wrapped least (binds f) (formula_need f)) → Deep (xs ++ o ∷ ys) 0 (parts_need least (leaves_with fs f))
 part_more least xs ys o fs f e c d =
-    deep_less (xs ++ o ∷ ys) 0 (parts_need least (put fs f)) (max (parts_need least fs) (wrapped least (binds f) (formula_need f))) (let g = put_need least fs f in omega (arith, g)) (deep_mid xs o ys 0 0 (parts_need least fs) (wrapped least (binds f) (formula_need f)) e c d)
+    deep_less (xs ++ o ∷ ys) 0 (parts_need least (leaves_with fs f)) (max (parts_need least fs) (wrapped least (binds f) (formula_need f))) (let g = put_need least fs f in omega (arith, g)) (deep_mid xs o ys 0 0 (parts_need least fs) (wrapped least (binds f) (formula_need f)) e c d)
 
 mutual
   test_deep : (text : List ℕ) {ts : List Token} {c : Comparison} {f : PlainLeaf} → IsTest ts c → Means text c f → Deep ts 0 (wrapped 2 (binds f) (formula_need f))
@@ -182,30 +182,30 @@ mutual
   cor_deep text (cor_more {a = a} {b = b} o x k y) (means_any (any_more {fs = fs} {f = f} h m)) = part_more 1 a b o fs f (only_flat kind.Or o.kind k refl) (any_deep text x h) (cand_deep text y m)
 
 mutual
-  start_deep : (text : List ℕ) {ts : List Token} {p : Tree} {m : PlainPattern} → IsStart ts p → MeansPattern text p m → Deep ts (qualifiers_in m) (wrapped 3 (level m) (need m))
+  start_deep : (text : List ℕ) {ts : List Token} {p : Tree} {m : PlainPattern} → IsStart ts p → MeansPattern text p m → Deep ts (qualifiers_in m) (wrapped 3 (precedence_level m) (need m))
   start_deep text (start_leaf a b {ts = ts} h x k) (means_leaf {f = f} w) =
       deep_less _ 0 (formula_need f) (wrapped 0 (binds f) (formula_need f)) (let e = wrapped_least (binds f) (formula_need f) in omega (arith, e)) (deep_square a b ts 0 (wrapped 0 (binds f) (formula_need f)) (only_flat kind.SquareOpen a.kind h refl) (only_flat kind.SquareClose b.kind k refl) (cor_deep text x w))
   start_deep text {m = m} (start_group a b {ts = ts} h x k) w =
-      deep_less _ (qualifiers_in m) (wrapped 3 (level m) (need m)) (wrapped 0 (level m) (need m) + 1) (let e = wrapped_least (level m) (need m) in let g = wrapped_high 3 (level m) (need m) in omega (arith, e, g)) (deep_round a b ts (qualifiers_in m) (wrapped 0 (level m) (need m)) h k (pattern_deep text x w))
+      deep_less _ (qualifiers_in m) (wrapped 3 (precedence_level m) (need m)) (wrapped 0 (precedence_level m) (need m) + 1) (let e = wrapped_least (precedence_level m) (need m) in let g = wrapped_high 3 (precedence_level m) (need m) in omega (arith, e, g)) (deep_round a b ts (qualifiers_in m) (wrapped 0 (precedence_level m) (need m)) h k (pattern_deep text x w))
 
-  unit_deep : (text : List ℕ) {ts : List Token} {p : Tree} {m : PlainPattern} → IsUnit ts p → MeansPattern text p m → Deep ts (qualifiers_in m) (wrapped 3 (level m) (need m))
+  unit_deep : (text : List ℕ) {ts : List Token} {p : Tree} {m : PlainPattern} → IsUnit ts p → MeansPattern text p m → Deep ts (qualifiers_in m) (wrapped 3 (precedence_level m) (need m))
   unit_deep text (unit_one x) w = start_deep text x w
   unit_deep text (unit_more {a = a} {b = b} x y) (means_limited {m = m} w l) =
       let d = unit_deep text x w in
       let g = d.at_least in
       record { n = max d.n 0; measured = joined a b d.n (qualifiers_in m) 0 1 d.measured (qualifier_measured y); at_least = omega (arith, g) }
 
-  ands_deep : (text : List ℕ) {ts : List Token} {p : Tree} {m : PlainPattern} → IsAnds ts p → MeansPattern text p m → Deep ts (qualifiers_in m) (wrapped 2 (level m) (need m))
-  ands_deep text {m = m} (ands_one x) w = deep_less _ (qualifiers_in m) (wrapped 2 (level m) (need m)) (wrapped 3 (level m) (need m)) (wrapped_down 2 3 (level m) (need m) (omega arith)) (unit_deep text x w)
+  ands_deep : (text : List ℕ) {ts : List Token} {p : Tree} {m : PlainPattern} → IsAnds ts p → MeansPattern text p m → Deep ts (qualifiers_in m) (wrapped 2 (precedence_level m) (need m))
+  ands_deep text {m = m} (ands_one x) w = deep_less _ (qualifiers_in m) (wrapped 2 (precedence_level m) (need m)) (wrapped 3 (precedence_level m) (need m)) (wrapped_down 2 3 (precedence_level m) (need m) (omega arith)) (unit_deep text x w)
   ands_deep text (ands_more {a = a} {b = b} o x h y) (means_both {m = m} {n = n} v w) =
-      deep_mid a o b (qualifiers_in m) (qualifiers_in n) (wrapped 2 (level m) (need m)) (wrapped 3 (level n) (need n)) (only_flat kind.And o.kind h refl) (ands_deep text x v) (unit_deep text y w)
+      deep_mid a o b (qualifiers_in m) (qualifiers_in n) (wrapped 2 (precedence_level m) (need m)) (wrapped 3 (precedence_level n) (need n)) (only_flat kind.And o.kind h refl) (ands_deep text x v) (unit_deep text y w)
 
-  ors_deep : (text : List ℕ) {ts : List Token} {p : Tree} {m : PlainPattern} → IsOrs ts p → MeansPattern text p m → Deep ts (qualifiers_in m) (wrapped 1 (level m) (need m))
-  ors_deep text {m = m} (ors_one x) w = deep_less _ (qualifiers_in m) (wrapped 1 (level m) (need m)) (wrapped 2 (level m) (need m)) (wrapped_down 1 2 (level m) (need m) (omega arith)) (ands_deep text x w)
+  ors_deep : (text : List ℕ) {ts : List Token} {p : Tree} {m : PlainPattern} → IsOrs ts p → MeansPattern text p m → Deep ts (qualifiers_in m) (wrapped 1 (precedence_level m) (need m))
+  ors_deep text {m = m} (ors_one x) w = deep_less _ (qualifiers_in m) (wrapped 1 (precedence_level m) (need m)) (wrapped 2 (precedence_level m) (need m)) (wrapped_down 1 2 (precedence_level m) (need m) (omega arith)) (ands_deep text x w)
   ors_deep text (ors_more {a = a} {b = b} o x h y) (means_either {m = m} {n = n} v w) =
-      deep_mid a o b (qualifiers_in m) (qualifiers_in n) (wrapped 1 (level m) (need m)) (wrapped 2 (level n) (need n)) (only_flat kind.Or o.kind h refl) (ors_deep text x v) (ands_deep text y w)
+      deep_mid a o b (qualifiers_in m) (qualifiers_in n) (wrapped 1 (precedence_level m) (need m)) (wrapped 2 (precedence_level n) (need n)) (only_flat kind.Or o.kind h refl) (ors_deep text x v) (ands_deep text y w)
 
-  pub pattern_deep : (text : List ℕ) {ts : List Token} {p : Tree} {m : PlainPattern} → IsPattern ts p → MeansPattern text p m → Deep ts (qualifiers_in m) (wrapped 0 (level m) (need m))
-  pattern_deep text {m = m} (pattern_one x) w = deep_less _ (qualifiers_in m) (wrapped 0 (level m) (need m)) (wrapped 1 (level m) (need m)) (wrapped_down 0 1 (level m) (need m) (omega arith)) (ors_deep text x w)
+  pub pattern_deep : (text : List ℕ) {ts : List Token} {p : Tree} {m : PlainPattern} → IsPattern ts p → MeansPattern text p m → Deep ts (qualifiers_in m) (wrapped 0 (precedence_level m) (need m))
+  pattern_deep text {m = m} (pattern_one x) w = deep_less _ (qualifiers_in m) (wrapped 0 (precedence_level m) (need m)) (wrapped 1 (precedence_level m) (need m)) (wrapped_down 0 1 (precedence_level m) (need m) (omega arith)) (ors_deep text x w)
   pattern_deep text (pattern_more {a = a} {b = b} o x h y) (means_then {m = m} {n = n} v w) =
-      deep_mid a o b (qualifiers_in m) (qualifiers_in n) (wrapped 0 (level m) (need m)) (wrapped 1 (level n) (need n)) (only_flat kind.FollowedBy o.kind h refl) (pattern_deep text x v) (ors_deep text y w)
+      deep_mid a o b (qualifiers_in m) (qualifiers_in n) (wrapped 0 (precedence_level m) (need m)) (wrapped 1 (precedence_level n) (need n)) (only_flat kind.FollowedBy o.kind h refl) (pattern_deep text x v) (ors_deep text y w)

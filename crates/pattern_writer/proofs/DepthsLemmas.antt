@@ -12,21 +12,21 @@ use Rattle.pattern_lexer.specs.declared.token.TokenKind.{TokenKind}
 use Rattle.pattern_lexer.specs.declared.token.TokenKind.TheVariants as kind
 use Rattle.pattern_grammar.specs.declared.class.TokenClass.{TokenClass}
 use Rattle.pattern_grammar.specs.declared.class.TokenClass.TheVariants.{Only, Qualifying}
-use Rattle.pattern_grammar.specs.TokenClass.{same, is_in, IsA}
-use Rattle.pattern_grammar.specs.Depth.{how_many, EndsWithIn, IsDeepOpen, NoneTooMany}
+use Rattle.pattern_grammar.specs.TokenClass.{is_same_kind, is_in, IsA}
+use Rattle.pattern_grammar.specs.Depth.{class_count, EndsWithIn, IsDeepOpen, NoneTooMany}
 
 -- tokens of one kind
-pub same_is : (w k : TokenKind) → same w k ≡ true → k ≡ w
+pub same_is : (w k : TokenKind) → is_same_kind w k ≡ true → k ≡ w
 same_is w k h = sym (same_true the_type (search rules) w k h)
 
 -- how many of joined tokens are of a class
-many_first : (class : TokenClass) (t : Token) (ts : List Token) (b : Bool) → is_in class t.kind ≡ b → how_many class (t ∷ ts) ≡ cond b 1 0 + how_many class ts
-many_first class t ts b e = sum_by-cons (λ u. cond (is_in class u.kind) 1 0) t ts ∙ ap (λ c. cond c 1 0 + how_many class ts) e
+many_first : (class : TokenClass) (t : Token) (ts : List Token) (b : Bool) → is_in class t.kind ≡ b → class_count class (t ∷ ts) ≡ cond b 1 0 + class_count class ts
+many_first class t ts b e = sum_by-cons (λ u. cond (is_in class u.kind) 1 0) t ts ∙ ap (λ c. cond c 1 0 + class_count class ts) e
 
-many_last : (class : TokenClass) (ts : List Token) (t : Token) (b : Bool) → is_in class t.kind ≡ b → how_many class (ts ++ t ∷ []) ≡ how_many class ts + cond b 1 0
-many_last class ts t b e = sum_by_push (λ u. cond (is_in class u.kind) 1 0) ts t ∙ ap (λ c. how_many class ts + cond c 1 0) e
+many_last : (class : TokenClass) (ts : List Token) (t : Token) (b : Bool) → is_in class t.kind ≡ b → class_count class (ts ++ t ∷ []) ≡ class_count class ts + cond b 1 0
+many_last class ts t b e = sum_by_push (λ u. cond (is_in class u.kind) 1 0) ts t ∙ ap (λ c. class_count class ts + cond c 1 0) e
 
-many_joined : (class : TokenClass) (xs ys : List Token) → how_many class (xs ++ ys) ≡ how_many class xs + how_many class ys
+many_joined : (class : TokenClass) (xs ys : List Token) → class_count class (xs ++ ys) ≡ class_count class xs + class_count class ys
 many_joined class xs ys = sum_by-append (λ u. cond (is_in class u.kind) 1 0) xs ys
 
 -- none of the tokens opens a parenthesis too many after those
@@ -43,30 +43,30 @@ deep_join before [] ys h k = subst (λ z. NoneDeep z ys) (append-nil before) k
 deep_join before (x ∷ xs) ys h k = (h.0, deep_join (before ++ x ∷ []) xs ys h.1 (subst (λ z. NoneDeep z ys) (sym (append_assoc before (x ∷ []) xs)) k))
 
 -- what holds of the tokens where none is one too many, and the other way round
-one_more : (before ts : List Token) (t : Token) → NoneTooMany (before ++ t ∷ ts) → how_many Qualifying before ≤ 64 → how_many Qualifying (before ++ t ∷ []) ≤ 64
-one_more before ts t none few = by (cases_Bool (is_in Qualifying t.kind)) (cases_lt (how_many Qualifying before) 64)
+one_more : (before ts : List Token) (t : Token) → NoneTooMany (before ++ t ∷ ts) → class_count Qualifying before ≤ 64 → class_count Qualifying (before ++ t ∷ []) ≤ 64
+one_more before ts t none few = by (cases_Bool (is_in Qualifying t.kind)) (cases_lt (class_count Qualifying before) 64)
   where
-    by : (is_in Qualifying t.kind ≡ true) ⊎ (is_in Qualifying t.kind ≡ false) → (how_many Qualifying before < 64) ⊎ (64 ≤ how_many Qualifying before) → how_many Qualifying (before ++ t ∷ []) ≤ 64
+    by : (is_in Qualifying t.kind ≡ true) ⊎ (is_in Qualifying t.kind ≡ false) → (class_count Qualifying before < 64) ⊎ (64 ≤ class_count Qualifying before) → class_count Qualifying (before ++ t ∷ []) ≤ 64
     by (inr e) h = omega (arith, few, many_last Qualifying before t false e)
     by (inl e) (inl h) = omega (arith, h, many_last Qualifying before t true e)
     by (inl e) (inr h) = absurd (none before t ts refl (inr (record { qualifies = e; deep = h })))
 
-none_parts : (before ts : List Token) → NoneTooMany (before ++ ts) → how_many Qualifying before ≤ 64 → NoneDeep before ts × (how_many Qualifying (before ++ ts) ≤ 64)
-none_parts before [] none few = (tt, subst (λ z. how_many Qualifying z ≤ 64) (sym (append-nil before)) few)
+none_parts : (before ts : List Token) → NoneTooMany (before ++ ts) → class_count Qualifying before ≤ 64 → NoneDeep before ts × (class_count Qualifying (before ++ ts) ≤ 64)
+none_parts before [] none few = (tt, subst (λ z. class_count Qualifying z ≤ 64) (sym (append-nil before)) few)
 none_parts before (t ∷ ts) none few =
     let e = append_assoc before (t ∷ []) ts in
     let p = none_parts (before ++ t ∷ []) ts (subst NoneTooMany (sym e) none) (one_more before ts t none few) in
-    ((λ d. none before t ts refl (inl d), p.0), subst (λ z. how_many Qualifying z ≤ 64) e p.1)
+    ((λ d. none before t ts refl (inl d), p.0), subst (λ z. class_count Qualifying z ≤ 64) e p.1)
 
-none_join : (ts : List Token) → NoneDeep [] ts → how_many Qualifying ts ≤ 64 → NoneTooMany ts
+none_join : (ts : List Token) → NoneDeep [] ts → class_count Qualifying ts ≤ 64 → NoneTooMany ts
 none_join ts deep few before token after e (inl d) = (deep_parts [] before (token ∷ after) (subst (NoneDeep []) e deep)).1.0 d
 none_join ts deep few before token after e (inr d) =
-    let h : how_many Qualifying (before ++ token ∷ after) ≤ 64 = subst (λ z. how_many Qualifying z ≤ 64) e few in
+    let h : class_count Qualifying (before ++ token ∷ after) ≤ 64 = subst (λ z. class_count Qualifying z ≤ 64) e few in
     absurd (omega (arith, h, d.deep, many_joined Qualifying before (token ∷ after), many_first Qualifying token after true d.qualifies))
 
 -- this many parentheses are open after the tokens
 abbrev Opened : List Token → ℕ → Type 0
-Opened before x = how_many (Only kind.RoundOpen) before ≡ x + how_many (Only kind.RoundClose) before
+Opened before x = class_count (Only kind.RoundOpen) before ≡ x + class_count (Only kind.RoundClose) before
 
 pub record Behind (before : List Token) (x : ℕ) : Type 0 where
   pub opened : Opened before x
@@ -77,7 +77,7 @@ pub record Measured (ts : List Token) (n q : ℕ) : Type 0 where
   pub keeps : (before : List Token) (x : ℕ) → Behind before x → Behind (before ++ ts) x
   pub needs : (before : List Token) (x : ℕ) → Behind before x → x ≤ 64 → NoneDeep before ts → x + n ≤ 64
   pub fits : (before : List Token) (x : ℕ) → Behind before x → x + n ≤ 64 → NoneDeep before ts
-  pub qualifiers : how_many Qualifying ts ≡ q
+  pub qualifiers : class_count Qualifying ts ≡ q
 
 behind_none : Behind [] 0
 behind_none = record { opened = refl; apart = λ e. nowhere e.prefix e.last e.spelled }
@@ -122,14 +122,14 @@ not_deep before t e d = false≢true (sym e ∙ d.opens)
 
 -- a token that neither opens nor closes
 abbrev pub is_plain : TokenKind → Bool
-is_plain k = not (same kind.RoundOpen k || same kind.RoundClose k || same kind.Among k)
+is_plain k = not (is_same_kind kind.RoundOpen k || is_same_kind kind.RoundClose k || is_same_kind kind.Among k)
 
 none_of : (a b c : Bool) → not (a || b || c) ≡ true → (a ≡ false) × (b ≡ false) × (c ≡ false)
 none_of a b c e = grind arith
 
-plain : (t : Token) → is_plain t.kind ≡ true → Measured (t ∷ []) 0 (how_many Qualifying (t ∷ []))
+plain : (t : Token) → is_plain t.kind ≡ true → Measured (t ∷ []) 0 (class_count Qualifying (t ∷ []))
 plain t e =
-    let p = none_of (same kind.RoundOpen t.kind) (same kind.RoundClose t.kind) (same kind.Among t.kind) e in
+    let p = none_of (is_same_kind kind.RoundOpen t.kind) (is_same_kind kind.RoundClose t.kind) (is_same_kind kind.Among t.kind) e in
     record {
       keeps = λ before x b. record { opened = opened_more before t false false x x p.0 p.1 refl b.opened; apart = not_in before t p.2 };
       needs = λ before x b h d. omega arith;
@@ -144,9 +144,9 @@ is_flat k = is_plain k && not (is_in Qualifying k)
 flat : (t : Token) → is_flat t.kind ≡ true → Measured (t ∷ []) 0 0
 flat t e =
     let p = and_parts (is_plain t.kind) (not (is_in Qualifying t.kind)) e in
-    measured_is (t ∷ []) 0 (how_many Qualifying (t ∷ [])) 0 0 refl (rw (not-true (is_in Qualifying t.kind) p.1) refl) (plain t p.0)
+    measured_is (t ∷ []) 0 (class_count Qualifying (t ∷ [])) 0 0 refl (rw (not-true (is_in Qualifying t.kind) p.1) refl) (plain t p.0)
 
-pub only_flat : (w k : TokenKind) → same w k ≡ true → is_flat w ≡ true → is_flat k ≡ true
+pub only_flat : (w k : TokenKind) → is_same_kind w k ≡ true → is_flat w ≡ true → is_flat k ≡ true
 only_flat w k e h = ap is_flat (same_is w k e) ∙ h
 
 pub max_last : (n : ℕ) → max n 0 ≡ n
@@ -181,20 +181,20 @@ flats (t ∷ ts) h = first_flat t ts 0 0 h.0 (flats ts h.1)
 
 flats_deep : (before ts : List Token) → Flat ts → NoneDeep before ts
 flats_deep before [] h = tt
-flats_deep before (t ∷ ts) h = (not_deep before t (none_of (same kind.RoundOpen t.kind) (same kind.RoundClose t.kind) (same kind.Among t.kind) (and_parts (is_plain t.kind) (not (is_in Qualifying t.kind)) h.0).0).0, flats_deep (before ++ t ∷ []) ts h.1)
+flats_deep before (t ∷ ts) h = (not_deep before t (none_of (is_same_kind kind.RoundOpen t.kind) (is_same_kind kind.RoundClose t.kind) (is_same_kind kind.Among t.kind) (and_parts (is_plain t.kind) (not (is_in Qualifying t.kind)) h.0).0).0, flats_deep (before ++ t ∷ []) ts h.1)
 
 -- the first token of a qualifier, and the rest of it
 pub qualifying : (w : TokenKind) (t : Token) (ts : List Token) → IsA (Only w) t → is_plain w ≡ true → is_in Qualifying w ≡ true → Flat ts → Measured (t ∷ ts) 0 1
 qualifying w t ts h p q f =
     let e = same_is w t.kind h in
-    measured_is (t ∷ ts) (max 0 0) (how_many Qualifying (t ∷ []) + 0) 0 1 refl (rw (e, q) refl) (joined (t ∷ []) ts 0 (how_many Qualifying (t ∷ [])) 0 0 (plain t (ap is_plain e ∙ p)) (flats ts f))
+    measured_is (t ∷ ts) (max 0 0) (class_count Qualifying (t ∷ []) + 0) 0 1 refl (rw (e, q) refl) (joined (t ∷ []) ts 0 (class_count Qualifying (t ∷ [])) 0 0 (plain t (ap is_plain e ∙ p)) (flats ts f))
 
 -- tokens between parentheses
 inside : (before : List Token) (a : Token) (x : ℕ) → IsA (Only kind.RoundOpen) a → Opened before x → Behind (before ++ a ∷ []) (x + 1)
-inside before a x h o = let e = same_is kind.RoundOpen a.kind h in record { opened = opened_more before a true false x (x + 1) h (ap (same kind.RoundClose) e) (omega arith) o; apart = not_in before a (ap (same kind.Among) e) }
+inside before a x h o = let e = same_is kind.RoundOpen a.kind h in record { opened = opened_more before a true false x (x + 1) h (ap (is_same_kind kind.RoundClose) e) (omega arith) o; apart = not_in before a (ap (is_same_kind kind.Among) e) }
 
 outside : (before : List Token) (b : Token) (x : ℕ) → IsA (Only kind.RoundClose) b → Opened before (x + 1) → Behind (before ++ b ∷ []) x
-outside before b x h o = let e = same_is kind.RoundClose b.kind h in record { opened = opened_more before b false true (x + 1) x (ap (same kind.RoundOpen) e) h (omega arith) o; apart = not_in before b (ap (same kind.Among) e) }
+outside before b x h o = let e = same_is kind.RoundClose b.kind h in record { opened = opened_more before b false true (x + 1) x (ap (is_same_kind kind.RoundOpen) e) h (omega arith) o; apart = not_in before b (ap (is_same_kind kind.Among) e) }
 
 room_for : (before : List Token) (a : Token) (x : ℕ) → IsA (Only kind.RoundOpen) a → Behind before x → ¬ IsDeepOpen before a → x + 1 ≤ 64
 room_for before a x h b d = by (cases_lt x 64)
@@ -210,9 +210,9 @@ module _ (a b : Token) (ts : List Token) (n q : ℕ) (h : IsA (Only kind.RoundOp
       (outside ((before ++ a ∷ []) ++ ts) b x k (m.keeps (before ++ a ∷ []) (x + 1) (inside before a x h o)).opened)
 
   round_deep : (before : List Token) → NoneDeep before ts → NoneDeep before (ts ++ b ∷ [])
-  round_deep before d = deep_join before ts (b ∷ []) d (not_deep (before ++ ts) b (ap (same kind.RoundOpen) (same_is kind.RoundClose b.kind k)), tt)
+  round_deep before d = deep_join before ts (b ∷ []) d (not_deep (before ++ ts) b (ap (is_same_kind kind.RoundOpen) (same_is kind.RoundClose b.kind k)), tt)
 
-  round_qualifiers : how_many Qualifying (a ∷ ts ++ b ∷ []) ≡ q
+  round_qualifiers : class_count Qualifying (a ∷ ts ++ b ∷ []) ≡ q
   round_qualifiers =
       omega (
         arith,
@@ -237,10 +237,10 @@ among a b c ts h k l f =
     let e = same_is kind.Among a.kind h in
     let m = flats ts f in
     record {
-      keeps = λ before x o. subst (λ z. Behind z x) (append_assoc before (a ∷ []) (b ∷ ts ++ c ∷ [])) (round_keeps b c ts 0 0 k l m (before ++ a ∷ []) x (opened_more before a false false x x (ap (same kind.RoundOpen) e) (ap (same kind.RoundClose) e) refl o.opened));
+      keeps = λ before x o. subst (λ z. Behind z x) (append_assoc before (a ∷ []) (b ∷ ts ++ c ∷ [])) (round_keeps b c ts 0 0 k l m (before ++ a ∷ []) x (opened_more before a false false x x (ap (is_same_kind kind.RoundOpen) e) (ap (is_same_kind kind.RoundClose) e) refl o.opened));
       needs = λ before x o low d. omega arith;
       fits = λ before x o low. (
-        not_deep before a (ap (same kind.RoundOpen) e),
+        not_deep before a (ap (is_same_kind kind.RoundOpen) e),
         (λ d. d.groups (record { prefix = before; last = a; spelled = refl; among = h }), round_deep b c ts 0 0 k l m ((before ++ a ∷ []) ++ b ∷ []) (flats_deep ((before ++ a ∷ []) ++ b ∷ []) ts f)),
       );
       qualifiers = omega (arith, many_first Qualifying a (b ∷ ts ++ c ∷ []) false (ap (is_in Qualifying) e), round_qualifiers b c ts 0 0 k l m);

@@ -9,7 +9,7 @@ use Rattle.pattern_grammar.specs.Grammar.{IsTest, test_group, test_exists, test_
 use Rattle.pattern_types.specs.declared.check.Check.{Check}
 use Rattle.pattern_types.specs.declared.check.Check.TheVariants as check
 use Rattle.pattern_reader.specs.Meaning.{IsCheckOf}
-use Rattle.pattern_types.specs.PlainLeaf.{PlainLeaf, PlainLeaves, none, more, put}
+use Rattle.pattern_types.specs.PlainLeaf.{PlainLeaf, PlainLeaves, none, more, leaves_with}
 use Rattle.pattern_reader.specs.LeafMeaning.{Means, means_test, means_group, means_all, means_any, AllParts, all_first, all_more, AnyParts, any_first, any_more}
 use Rattle.pattern_types.specs.declared.limit.Limit.{Limit}
 use Rattle.pattern_types.specs.declared.limit.Limit.TheVariants.{Within, Repeats, Between}
@@ -25,7 +25,7 @@ fit_exists whole check.Exists h = tt
 fit_exists whole _ h = absurd h
 
 -- one part more
-put_fit : (fs : PlainLeaves) (f : PlainLeaf) → FitFormulas fs → FitFormula f → FitFormulas (put fs f)
+put_fit : (fs : PlainLeaves) (f : PlainLeaf) → FitFormulas fs → FitFormula f → FitFormulas (leaves_with fs f)
 put_fit none f h k = (k, tt)
 put_fit (more g gs) f h k = (h.0, put_fit gs f h.1 k)
 
@@ -33,11 +33,11 @@ abbrev IsSome : PlainLeaves → Type 0
 IsSome none = ⊥
 IsSome (more f fs) = Unit {0}
 
-put_some : (fs : PlainLeaves) (f : PlainLeaf) → IsSome (put fs f)
+put_some : (fs : PlainLeaves) (f : PlainLeaf) → IsSome (leaves_with fs f)
 put_some none f = tt
 put_some (more g gs) f = tt
 
-two_some : (fs : PlainLeaves) (f : PlainLeaf) → IsSome fs → AreSome (put fs f)
+two_some : (fs : PlainLeaves) (f : PlainLeaf) → IsSome fs → AreSome (leaves_with fs f)
 two_some none f h = absurd h
 two_some (more g none) f h = tt
 two_some (more g (more k gs)) f h = tt

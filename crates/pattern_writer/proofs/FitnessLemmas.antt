@@ -10,7 +10,7 @@ use Rattle.pattern_lexer.specs.declared.token.TokenKind.{TokenKind}
 use Rattle.pattern_lexer.specs.declared.token.TokenKind.TheVariants as kind
 use Rattle.pattern_lexer.specs.Values.{quoted}
 use Rattle.pattern_lexer.specs.Table.{IsToken}
-use Rattle.pattern_lexer.specs.Spans.{text_at}
+use Rattle.pattern_lexer.specs.Spans.{token_text_at}
 use Rattle.pattern_grammar.specs.declared.class.TokenClass.TheVariants.{Root, Ordered, Equality}
 use Rattle.pattern_grammar.specs.TokenClass.{IsA, is_in}
 use Rattle.pattern_grammar.specs.declared.path.StepTree.{StepTree}
@@ -70,8 +70,8 @@ fit_steps whole (step_tree.Name t ∷ ts) (step.Each ∷ ss) n h = absurd h.0
 pub fit_path : (whole : List ℕ) (ts : List Token) (p : PathTree) (path : Path) → IsPath ts p → AllLexed whole ts → IsPathOf whole p path → FitPath path
 fit_path whole ts p path h x m =
     let s = path_shape whole ts p h x in
-    let e : path.kind ≡ text_at whole p.root = m.root.is in
-    let w = root_word p.root.kind (text_at whole p.root) s.1 s.0.is in
+    let e : path.kind ≡ token_text_at whole p.root = m.root.is in
+    let w = root_word p.root.kind (token_text_at whole p.root) s.1 s.0.is in
     record {
       root = subst (λ (y : List ℕ). IsWord y ⊎ IsHyphenWord y) (sym e) w;
       free = λ f. s.0.free (sym e ∙ f);
@@ -89,7 +89,7 @@ same_symbols _ text symbols e h f = absurd (cc)
 pub fit_constant : (whole : List ℕ) (t : Token) (c : Constant) → Lexed whole t → IsConstantOf whole t c → FitConstant c
 fit_constant whole t (Integer z) x h = h.1.is.fits
 fit_constant whole t (Hex bytes) x h = (decode_of-ok h.1.is.0 bytes h.1.is.2).3
-fit_constant whole t (Binary bytes) x h = (h.1.is.0, same_symbols t.kind (text_at whole t) (encode_of standard bytes) h.0 x.is h.1.is.1)
+fit_constant whole t (Binary bytes) x h = (h.1.is.0, same_symbols t.kind (token_text_at whole t) (encode_of standard bytes) h.0 x.is h.1.is.1)
 fit_constant whole t _ x h = tt
 
 lexed_more : (whole : List ℕ) (ts : List Token) (t : Token) → AllLexed whole ts → Lexed whole t → AllLexed whole (ts ++ t ∷ [])

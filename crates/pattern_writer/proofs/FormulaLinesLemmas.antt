@@ -7,9 +7,9 @@ use Rattle.pattern_lexer.specs.declared.token.TokenKind.TheVariants as kind
 use Rattle.pattern_grammar.specs.declared.class.TokenClass.TheVariants.{Only}
 use Rattle.pattern_grammar.specs.Tree.{Comparison, group, all, any}
 use Rattle.pattern_grammar.specs.Grammar.{IsTest, test_group, IsCand, cand_one, cand_more, IsCor, cor_one, cor_more}
-use Rattle.pattern_types.specs.PlainLeaf.{PlainLeaf, one, every, some, PlainLeaves, none, more, put}
+use Rattle.pattern_types.specs.PlainLeaf.{PlainLeaf, one, every, some, PlainLeaves, none, more, leaves_with}
 use Rattle.pattern_reader.specs.LeafMeaning.{Means, means_group, means_all, means_any, AllParts, all_first, all_more, AnyParts, any_first, any_more}
-use Rattle.pattern_writer.specs.Parts.{joined, IsWithin}
+use Rattle.pattern_writer.specs.Parts.{joined_texts, IsParenthesizedBelow}
 use Rattle.pattern_writer.specs.Leaf.{binds, IsFormulaText, AreTextsOf}
 use Rattle.pattern_writer.proofs.LongestLemmas.{Stops, Ends, ends_stops}
 use Rattle.pattern_writer.proofs.WrittenLemmas.{Written, IsOne, is_one, IsPair, is_pair, MeanPair, pair, spaced, as_tree, as_text, before}
@@ -67,7 +67,7 @@ pub binds_low : (f : PlainLeaf) → binds f ≤ 2
 binds_low (one t) = omega arith
 binds_low _ = omega arith
 
-within : (least : ℕ) (f : PlainLeaf) (text : List ℕ) → least ≤ 2 → ((inner : List ℕ) → IsFormulaText f inner → Written (IsDeep (IsBound (binds f)) (formula_need f)) (MeansFormula f) Ends inner) → IsWithin least (binds f) (IsFormulaText f) text → Written (IsDeep (IsBound least) (wrapped least (binds f) (formula_need f))) (MeansFormula f) Ends text
+within : (least : ℕ) (f : PlainLeaf) (text : List ℕ) → least ≤ 2 → ((inner : List ℕ) → IsFormulaText f inner → Written (IsDeep (IsBound (binds f)) (formula_need f)) (MeansFormula f) Ends inner) → IsParenthesizedBelow least (binds f) (IsFormulaText f) text → Written (IsDeep (IsBound least) (wrapped least (binds f) (formula_need f))) (MeansFormula f) Ends text
 within least f text k w h = as_text (sym h.2) (within_by (nat_le least (binds f)) least (binds f) (formula_need f) f h.0 (le_from least (binds f)) k (binds_low f) (w h.0 h.1))
 
 -- lists of parts
@@ -75,7 +75,7 @@ abbrev append : PlainLeaves → PlainLeaves → PlainLeaves
 append none gs = gs
 append (more f fs) gs = more f (append fs gs)
 
-append-put : (fs : PlainLeaves) (f : PlainLeaf) (gs : PlainLeaves) → append (put fs f) gs ≡ append fs (more f gs)
+append-put : (fs : PlainLeaves) (f : PlainLeaf) (gs : PlainLeaves) → append (leaves_with fs f) gs ≡ append fs (more f gs)
 append-put none f gs = refl
 append-put (more g fs) f gs = ap (more g) (append-put fs f gs)
 
@@ -104,22 +104,22 @@ or_more : (n m : ℕ) (ts : List Token) (x : Comparison × (Token × Comparison)
 or_more n m ts x (is_pair h (is_pair (is_one o i) k)) = (cor_more o h.0 i k.0, mid_flat _ o _ n 0 m 0 (only_flat kind.Or o.kind i refl) h.1 k.1)
 
 -- the parts so far, and one more
-put_measured : (least : ℕ) (fs : PlainLeaves) (f : PlainLeaf) (ts : List Token) → Measured ts (max (parts_need least fs) (wrapped least (binds f) (formula_need f))) 0 → Measured ts (parts_need least (put fs f)) 0
-put_measured least fs f ts m = measured_is ts (max (parts_need least fs) (wrapped least (binds f) (formula_need f))) 0 (parts_need least (put fs f)) 0 (sym (put_need least fs f)) refl m
+put_measured : (least : ℕ) (fs : PlainLeaves) (f : PlainLeaf) (ts : List Token) → Measured ts (max (parts_need least fs) (wrapped least (binds f) (formula_need f))) 0 → Measured ts (parts_need least (leaves_with fs f)) 0
+put_measured least fs f ts m = measured_is ts (max (parts_need least fs) (wrapped least (binds f) (formula_need f))) 0 (parts_need least (leaves_with fs f)) 0 (sym (put_need least fs f)) refl m
 
-joint_all : (fs : PlainLeaves) (f : PlainLeaf) (a t : List ℕ) → Written (IsDeep IsCand (parts_need 2 fs)) (MeanAll fs) Ends a → Written (IsDeep IsTest (wrapped 2 (binds f) (formula_need f))) (MeansFormula f) Ends t → Written (IsDeep IsCand (parts_need 2 (put fs f))) (MeanAll (put fs f)) Ends (a ++ (codes " AND " ++ t))
+joint_all : (fs : PlainLeaves) (f : PlainLeaf) (a t : List ℕ) → Written (IsDeep IsCand (parts_need 2 fs)) (MeanAll fs) Ends a → Written (IsDeep IsTest (wrapped 2 (binds f) (formula_need f))) (MeansFormula f) Ends t → Written (IsDeep IsCand (parts_need 2 (leaves_with fs f))) (MeanAll (leaves_with fs f)) Ends (a ++ (codes " AND " ++ t))
 joint_all fs f a t w v =
     let n = parts_need 2 fs in
     let k = wrapped 2 (binds f) (formula_need f) in
-    as_tree (IsDeep IsCand (parts_need 2 (put fs f))) (MeanAll (put fs f)) (λ whole ts x i m. let j = and_more n k ts x i in (all x.0 x.1.1, (j.0, put_measured 2 fs f ts j.1), all_more m.0 m.1.1))
+    as_tree (IsDeep IsCand (parts_need 2 (leaves_with fs f))) (MeanAll (leaves_with fs f)) (λ whole ts x i m. let j = and_more n k ts x i in (all x.0 x.1.1, (j.0, put_measured 2 fs f ts j.1), all_more m.0 m.1.1))
     (pair (IsDeep IsCand n) (IsPair (IsOne (Only kind.And)) (IsDeep IsTest k)) (MeanAll fs) (MeanPair (MeansOne kind.And (codes "AND")) (MeansFormula f)) Ends Ends a (codes " AND " ++ t) (λ after e. (stop_space, λ x. omega arith)) w
     (spaced (pair (IsOne (Only kind.And)) (IsDeep IsTest k) (MeansOne kind.And (codes "AND")) (MeansFormula f) Stops Ends (codes "AND") (32 ∷ t) (λ after e. stop_space) (literal (Only kind.And) kind.And (codes "AND") refl refl tt refl (λ e. cc)) (spaced v))))
 
-joint_any : (fs : PlainLeaves) (f : PlainLeaf) (a t : List ℕ) → Written (IsDeep IsCor (parts_need 1 fs)) (MeanAny fs) Ends a → Written (IsDeep IsCand (wrapped 1 (binds f) (formula_need f))) (MeansFormula f) Ends t → Written (IsDeep IsCor (parts_need 1 (put fs f))) (MeanAny (put fs f)) Ends (a ++ (codes " OR " ++ t))
+joint_any : (fs : PlainLeaves) (f : PlainLeaf) (a t : List ℕ) → Written (IsDeep IsCor (parts_need 1 fs)) (MeanAny fs) Ends a → Written (IsDeep IsCand (wrapped 1 (binds f) (formula_need f))) (MeansFormula f) Ends t → Written (IsDeep IsCor (parts_need 1 (leaves_with fs f))) (MeanAny (leaves_with fs f)) Ends (a ++ (codes " OR " ++ t))
 joint_any fs f a t w v =
     let n = parts_need 1 fs in
     let k = wrapped 1 (binds f) (formula_need f) in
-    as_tree (IsDeep IsCor (parts_need 1 (put fs f))) (MeanAny (put fs f)) (λ whole ts x i m. let j = or_more n k ts x i in (any x.0 x.1.1, (j.0, put_measured 1 fs f ts j.1), any_more m.0 m.1.1))
+    as_tree (IsDeep IsCor (parts_need 1 (leaves_with fs f))) (MeanAny (leaves_with fs f)) (λ whole ts x i m. let j = or_more n k ts x i in (any x.0 x.1.1, (j.0, put_measured 1 fs f ts j.1), any_more m.0 m.1.1))
     (pair (IsDeep IsCor n) (IsPair (IsOne (Only kind.Or)) (IsDeep IsCand k)) (MeanAny fs) (MeanPair (MeansOne kind.Or (codes "OR")) (MeansFormula f)) Ends Ends a (codes " OR " ++ t) (λ after e. (stop_space, λ x. omega arith)) w
     (spaced (pair (IsOne (Only kind.Or)) (IsDeep IsCand k) (MeansOne kind.Or (codes "OR")) (MeansFormula f) Stops Ends (codes "OR") (32 ∷ t) (λ after e. stop_space) (literal (Only kind.Or) kind.Or (codes "OR") refl refl tt refl (λ e. cc)) (spaced v))))
 
@@ -138,7 +138,7 @@ mutual
   plain_leaf (every fs) text fit h = as_text (sym h.2) (as_tree (IsDeep IsCand (parts_need 2 fs)) (MeansFormula (every fs)) (λ whole ts c i m. (c, i, many_all whole c fs fit.0 m)) (all_of fs h.0 fit.0 fit.1 h.1))
   plain_leaf (some fs) text fit h = as_text (sym h.2) (as_tree (IsDeep IsCor (parts_need 1 fs)) (MeansFormula (some fs)) (λ whole ts c i m. (c, i, many_any whole c fs fit.0 m)) (any_of fs h.0 fit.0 fit.1 h.1))
 
-  all_of : (fs : PlainLeaves) (texts : List (List ℕ)) → AreSome fs → FitFormulas fs → AreTextsOf fs 2 texts → Written (IsDeep IsCand (parts_need 2 fs)) (MeanAll fs) Ends (joined (codes " AND ") texts)
+  all_of : (fs : PlainLeaves) (texts : List (List ℕ)) → AreSome fs → FitFormulas fs → AreTextsOf fs 2 texts → Written (IsDeep IsCand (parts_need 2 fs)) (MeanAll fs) Ends (joined_texts (codes " AND ") texts)
   all_of none texts s fit h = absurd s
   all_of (more f fs) [] s fit h = absurd h
   all_of (more f fs) (t ∷ ts) s fit h = all_rest fs (more f none) t ts fit.1 h.1 (first_all f t (within 2 f t (omega arith) (λ inner k. plain_leaf f inner fit.0 k) h.0))
@@ -149,10 +149,10 @@ mutual
   all_rest (more f fs) sofar a [] fit h w = absurd h
   all_rest (more f fs) sofar a (t ∷ ts) fit h w =
       let joint = joint_all sofar f a t w (within 2 f t (omega arith) (λ inner k. plain_leaf f inner fit.0 k) h.0) in
-      let all = all_rest fs (put sofar f) (a ++ (codes " AND " ++ t)) ts fit.1 h.1 joint in
+      let all = all_rest fs (leaves_with sofar f) (a ++ (codes " AND " ++ t)) ts fit.1 h.1 joint in
       as_text (append_assoc a (codes " AND " ++ t) (flat_map (λ y. codes " AND " ++ y) ts)) (subst (λ (x : PlainLeaves). Written (IsDeep IsCand (parts_need 2 x)) (MeanAll x) Ends ((a ++ (codes " AND " ++ t)) ++ flat_map (λ y. codes " AND " ++ y) ts)) (append-put sofar f fs) all)
 
-  any_of : (fs : PlainLeaves) (texts : List (List ℕ)) → AreSome fs → FitFormulas fs → AreTextsOf fs 1 texts → Written (IsDeep IsCor (parts_need 1 fs)) (MeanAny fs) Ends (joined (codes " OR ") texts)
+  any_of : (fs : PlainLeaves) (texts : List (List ℕ)) → AreSome fs → FitFormulas fs → AreTextsOf fs 1 texts → Written (IsDeep IsCor (parts_need 1 fs)) (MeanAny fs) Ends (joined_texts (codes " OR ") texts)
   any_of none texts s fit h = absurd s
   any_of (more f fs) [] s fit h = absurd h
   any_of (more f fs) (t ∷ ts) s fit h = any_rest fs (more f none) t ts fit.1 h.1 (first_any f t (within 1 f t (omega arith) (λ inner k. plain_leaf f inner fit.0 k) h.0))
@@ -163,5 +163,5 @@ mutual
   any_rest (more f fs) sofar a [] fit h w = absurd h
   any_rest (more f fs) sofar a (t ∷ ts) fit h w =
       let joint = joint_any sofar f a t w (within 1 f t (omega arith) (λ inner k. plain_leaf f inner fit.0 k) h.0) in
-      let all = any_rest fs (put sofar f) (a ++ (codes " OR " ++ t)) ts fit.1 h.1 joint in
+      let all = any_rest fs (leaves_with sofar f) (a ++ (codes " OR " ++ t)) ts fit.1 h.1 joint in
       as_text (append_assoc a (codes " OR " ++ t) (flat_map (λ y. codes " OR " ++ y) ts)) (subst (λ (x : PlainLeaves). Written (IsDeep IsCor (parts_need 1 x)) (MeanAny x) Ends ((a ++ (codes " OR " ++ t)) ++ flat_map (λ y. codes " OR " ++ y) ts)) (append-put sofar f fs) all)

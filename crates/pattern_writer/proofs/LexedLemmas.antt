@@ -7,15 +7,15 @@ use Rattle.pattern_lexer.specs.declared.token.TokenKind.TheVariants as kind
 use Rattle.pattern_lexer.specs.declared.refusal.LeftWord.TheVariants.{Matches}
 use Rattle.pattern_lexer.specs.Word.{IsWord, IsHyphenWord}
 use Rattle.pattern_lexer.specs.Table.{IsToken}
-use Rattle.pattern_lexer.specs.Spans.{text_at}
+use Rattle.pattern_lexer.specs.Spans.{token_text_at}
 use Rattle.pattern_lexer.specs.Reading.{AreTokens}
 use Rattle.pattern_grammar.specs.TokenClass.{is_in}
 use Rattle.pattern_grammar.specs.declared.class.TokenClass.TheVariants.{Root}
 use Rattle.pattern_writer.proofs.CuttingLemmas.{further_drop}
 
 pub record Lexed (whole : List ℕ) (t : Token) : Type 0 where
-  pub is : IsToken t.kind (text_at whole t)
-  pub free : text_at whole t ≢ codes "MATCHES"
+  pub is : IsToken t.kind (token_text_at whole t)
+  pub free : token_text_at whole t ≢ codes "MATCHES"
 
 abbrev pub AllLexed : List ℕ → List Token → Type 0
 AllLexed whole [] = Unit {0}
@@ -37,7 +37,7 @@ all_lexed whole at left (t ∷ ts) rest b e h =
     let k = further_drop whole (at + length n.blanks) n.text h.0 d.0 d.1 in
     let f : t.from ≡ at + length n.blanks = n.from in
     let g : t.to ≡ at + length n.blanks + length n.text = n.to ∙ ap (λ (i : ℕ). i + length n.text) f in
-    let spelled : text_at whole t ≡ n.text = ap (λ (i : ℕ). take (t.to - i) (drop i whole)) f ∙ ap (λ (i : ℕ). take (i - (at + length n.blanks)) (drop (at + length n.blanks) whole)) g ∙ k.2 in (
+    let spelled : token_text_at whole t ≡ n.text = ap (λ (i : ℕ). take (t.to - i) (drop i whole)) f ∙ ap (λ (i : ℕ). take (i - (at + length n.blanks)) (drop (at + length n.blanks) whole)) g ∙ k.2 in (
       record {
         is = subst (λ (x : List ℕ). IsToken t.kind x) (sym spelled) n.first.token;
         free = λ x. n.usable.used Matches (sym spelled ∙ x);

@@ -16,7 +16,7 @@ use Rattle.pattern_types.specs.declared.path.Step.TheVariants as step
 use Rattle.pattern_types.specs.declared.path.Path.{Path}
 use Rattle.pattern_reader.specs.Meaning.{IsNameOf, IsStepOf, IsPathOf}
 use Rattle.std.specs.List.{AllZip}
-use Rattle.pattern_writer.specs.Parts.{joined}
+use Rattle.pattern_writer.specs.Parts.{joined_texts}
 use Rattle.pattern_writer.specs.Path.{IsNameText, IsStepText, AreStepsText, IsPathText}
 use Rattle.pattern_writer.proofs.LongestLemmas.{IsStop, Stops, Ends, ends_stops}
 use Rattle.std.proofs.lemmas.Slice.Zip.{all_zipped_more}
@@ -122,7 +122,7 @@ all_further k done (s ∷ ss) a (t ∷ ts) fit h w =
     let v = all_further k (done ++ s ∷ []) ss (a ++ t) ts fit.1 h.1 (one_further k done s a t fit.0 h.0 w) in
     as_text (append_assoc a t (flat_map (λ y. [] ++ y) ts)) (subst (λ (x : List Step). Written IsPath (MeansPath (path_of k x)) Stops ((a ++ t) ++ flat_map (λ y. [] ++ y) ts)) (append_assoc done (s ∷ []) ss) v)
 
-joined_plain : (texts : List (List ℕ)) → joined [] texts ≡ flat_map (λ (y : List ℕ). [] ++ y) texts
+joined_plain : (texts : List (List ℕ)) → joined_texts [] texts ≡ flat_map (λ (y : List ℕ). [] ++ y) texts
 joined_plain [] = refl
 joined_plain (t ∷ ts) = refl
 
@@ -135,7 +135,7 @@ first_steps p n b fit h =
     (pair (IsPair (IsOne Root) (IsOne (Only kind.Colon))) (IsOne Name) (MeanPair (λ (whole : List ℕ) (t : Token). At IsItself whole t p.kind) (λ (whole : List ℕ) (t : Token). Stands whole t kind.Colon (codes ":"))) (λ (whole : List ℕ) (t : Token). IsNameOf whole t n) Anything Stops (p.kind ++ codes ":") b (λ after e. tt)
     (pair (IsOne Root) (IsOne (Only kind.Colon)) (λ (whole : List ℕ) (t : Token). At IsItself whole t p.kind) (λ (whole : List ℕ) (t : Token). Stands whole t kind.Colon (codes ":")) Stops Anything p.kind (codes ":") (λ after e. stop_colon) (root p.kind fit.root fit.free) colon) (name n b h))
 
-whole_path : (p : Path) (rest : List Step) (n a texts : _) → FitPath p → FitFurther rest → IsNameText n a → AllZip IsStepText rest texts → Written IsPath (MeansPath (path_of p.kind (step.Name n ∷ rest))) Stops ((p.kind ++ codes ":") ++ (a ++ [] ++ joined [] texts))
+whole_path : (p : Path) (rest : List Step) (n a texts : _) → FitPath p → FitFurther rest → IsNameText n a → AllZip IsStepText rest texts → Written IsPath (MeansPath (path_of p.kind (step.Name n ∷ rest))) Stops ((p.kind ++ codes ":") ++ (a ++ [] ++ joined_texts [] texts))
 whole_path p rest n a texts fit further h k =
     let w = all_further p.kind (step.Name n ∷ []) rest ((p.kind ++ codes ":") ++ a) texts further k (first_steps p n a fit h) in
     as_text (append_assoc (p.kind ++ codes ":") a (flat_map (λ y. [] ++ y) texts) ∙ ap (λ (x : List ℕ). (p.kind ++ codes ":") ++ x) (ap (λ (x : List ℕ). x ++ flat_map (λ y. [] ++ y) texts) (sym (append-nil a)) ∙ ap (λ (x : List ℕ). (a ++ []) ++ x) (sym (joined_plain texts)))) w

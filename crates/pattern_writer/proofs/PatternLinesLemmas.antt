@@ -17,10 +17,10 @@ use Rattle.pattern_types.specs.declared.limit.Limit.TheVariants.{Within, Repeats
 use Rattle.pattern_types.specs.PlainLeaf.{PlainLeaf}
 use Rattle.pattern_types.specs.PlainPattern.{PlainPattern, a_leaf, a_both, an_either, a_then, a_limited}
 use Rattle.pattern_reader.specs.PatternMeaning.{IsLimitOf, MeansPattern, means_leaf, means_both, means_either, means_then, means_limited}
-use Rattle.pattern_writer.specs.Parts.{IsWithin}
+use Rattle.pattern_writer.specs.Parts.{IsParenthesizedBelow}
 use Rattle.pattern_writer.specs.Leaf.{binds}
 use Rattle.pattern_writer.specs.Limit.{IsLimitText}
-use Rattle.pattern_writer.specs.Canonical.{level, IsCanonical}
+use Rattle.pattern_writer.specs.Canonical.{precedence_level, IsCanonical}
 use Rattle.pattern_writer.proofs.LongestLemmas.{Stops, Ends, ends_stops}
 use Rattle.pattern_writer.proofs.PiecesLemmas.{Stands}
 use Rattle.pattern_writer.proofs.WrittenLemmas.{Written, IsOne, is_one, IsPair, is_pair, MeanPair, pair, spaced, as_tree, as_text, before}
@@ -78,15 +78,15 @@ within_by : (t : Bool) (least b n q : ℕ) (m : PlainPattern) (inner : List ℕ)
 within_by true least b n q m inner h k l w = downed least b n q m inner (h refl) l w
 within_by false least b n q m inner h k l w = downed least 3 (n + 1) q m (codes "(" ++ inner ++ codes ")") k (omega arith) (in_round m n q inner (downed 0 b n q m inner (omega arith) l w))
 
-level_low : (m : PlainPattern) → level m ≤ 3
+level_low : (m : PlainPattern) → precedence_level m ≤ 3
 level_low (a_leaf f) = omega arith
 level_low _ = omega arith
 
 abbrev IsNeeded : ℕ → PlainPattern → List Token → Tree → Type 0
-IsNeeded least m = IsDeepLine (IsLevel least) (wrapped least (level m) (need m)) (qualifiers_in m)
+IsNeeded least m = IsDeepLine (IsLevel least) (wrapped least (precedence_level m) (need m)) (qualifiers_in m)
 
-within : (least : ℕ) (m : PlainPattern) (text : List ℕ) → least ≤ 3 → ((inner : List ℕ) → IsCanonical m inner → Written (IsDeepLine (IsLevel (level m)) (need m) (qualifiers_in m)) (MeansTree m) Ends inner) → IsWithin least (level m) (IsCanonical m) text → Written (IsNeeded least m) (MeansTree m) Ends text
-within least m text k w h = as_text (sym h.2) (within_by (nat_le least (level m)) least (level m) (need m) (qualifiers_in m) m h.0 (le_from least (level m)) k (level_low m) (w h.0 h.1))
+within : (least : ℕ) (m : PlainPattern) (text : List ℕ) → least ≤ 3 → ((inner : List ℕ) → IsCanonical m inner → Written (IsDeepLine (IsLevel (precedence_level m)) (need m) (qualifiers_in m)) (MeansTree m) Ends inner) → IsParenthesizedBelow least (precedence_level m) (IsCanonical m) text → Written (IsNeeded least m) (MeansTree m) Ends text
+within least m text k w h = as_text (sym h.2) (within_by (nat_le least (precedence_level m)) least (precedence_level m) (need m) (qualifiers_in m) m h.0 (le_from least (precedence_level m)) k (level_low m) (w h.0 h.1))
 
 -- qualifiers
 abbrev MeansLimit : Limit → List ℕ → Qualifier → Type 0
@@ -162,7 +162,7 @@ then_sides m n ts x (is_pair h (is_pair (is_one o i) k)) = (pattern_more o h.0 i
 limited : (m : PlainPattern) (l : Limit) (ts : List Token) (x : Tree × Qualifier) → IsPair (IsNeeded 3 m) IsQualifier ts x → IsDeepLine IsUnit (need (a_limited m l)) (qualifiers_in (a_limited m l)) ts (qualified x.0 x.1)
 limited m l ts x (is_pair h k) = (unit_more h.0 k, measured_is _ (max (need (a_limited m l)) 0) (qualifiers_in m + 1) (need (a_limited m l)) (qualifiers_in m + 1) (max_last (need (a_limited m l))) refl (joined _ _ (need (a_limited m l)) (qualifiers_in m) 0 1 h.1 (qualifier_measured k)))
 
-pub canonical : (m : PlainPattern) (text : List ℕ) → FitMeant m → IsCanonical m text → Written (IsDeepLine (IsLevel (level m)) (need m) (qualifiers_in m)) (MeansTree m) Ends text
+pub canonical : (m : PlainPattern) (text : List ℕ) → FitMeant m → IsCanonical m text → Written (IsDeepLine (IsLevel (precedence_level m)) (need m) (qualifiers_in m)) (MeansTree m) Ends text
 canonical (a_leaf f) text fit h = as_text (sym h.2) (in_square f (formula_need f) h.0 (lowered 0 (binds f) (formula_need f) f h.0 (omega arith) (binds_low f) (plain_leaf f h.0 fit h.1)))
 canonical (a_both m n) text fit h =
     as_text (sides_text h.0 (codes "AND") h.1 ∙ sym h.4) (as_tree (IsDeepLine IsAnds (need (a_both m n)) (qualifiers_in (a_both m n))) (MeansTree (a_both m n)) (λ whole ts x i y. (both x.0 x.1.1, and_sides m n ts x i, means_both y.0 y.1.1))
@@ -179,4 +179,4 @@ canonical (a_limited m l) text fit h =
 
 -- as a whole pattern
 pub whole_pattern : (m : PlainPattern) (text : List ℕ) → FitMeant m → IsCanonical m text → Written (IsDeepLine IsPattern (need m) (qualifiers_in m)) (MeansTree m) Ends text
-whole_pattern m text fit h = downed 0 (level m) (need m) (qualifiers_in m) m text (omega arith) (level_low m) (canonical m text fit h)
+whole_pattern m text fit h = downed 0 (precedence_level m) (need m) (qualifiers_in m) m text (omega arith) (level_low m) (canonical m text fit h)

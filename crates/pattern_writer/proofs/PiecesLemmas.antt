@@ -2,7 +2,7 @@
 use Rattle.std.proofs.Common.{◌≡◌, ℕ, List, [], ◌∷◌, ◌++◌, refl, sym, ap, ◌∙◌, append_assoc}
 use Rattle.pattern_lexer.specs.declared.token.Token.{Token}
 use Rattle.pattern_lexer.specs.declared.token.TokenKind.{TokenKind}
-use Rattle.pattern_lexer.specs.Spans.{IsCut, text_at}
+use Rattle.pattern_lexer.specs.Spans.{IsCut, token_text_at}
 
 pub data Piece : Type 0 where
   space : Piece
@@ -23,7 +23,7 @@ printed-append (piece kind text ∷ ps) qs = ap (λ (x : List ℕ). text ++ x) (
 pub record Stands (whole : List ℕ) (token : Token) (wanted : TokenKind) (spelling : List ℕ) : Type 0 where
   pub kind : token.kind ≡ wanted
   pub cut : IsCut whole token
-  pub text : text_at whole token ≡ spelling
+  pub text : token_text_at whole token ≡ spelling
 
 -- a token for each piece that is no space
 abbrev pub Match : List ℕ → List Piece → List Token → Type 0

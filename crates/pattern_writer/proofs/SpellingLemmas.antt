@@ -10,7 +10,7 @@ use Rattle.pattern_reader.specs.declared.read.TheConstants.{MAX_TEXT}
 use Rattle.pattern_reader.specs.declared.pattern_refusal.PatternRefusal.{PatternRefusal}
 use Rattle.pattern_reader.specs.declared.pattern_refusal.PatternRefusal.TheVariants as refused
 use Rattle.pattern_reader.specs.Read.{IsSpelled, IsReadAs, IsRefusedAs}
-use Rattle.pattern_writer.specs.Canonical.{level, IsCanonical}
+use Rattle.pattern_writer.specs.Canonical.{precedence_level, IsCanonical}
 use Rattle.pattern_writer.proofs.FitLemmas.{FitMeant}
 use Rattle.pattern_writer.proofs.LongestLemmas.{Ends}
 use Rattle.pattern_writer.proofs.WrittenLemmas.{Written}
@@ -53,7 +53,7 @@ limits m text tree s means =
     let low = within s.tokens deep.n (qualifiers_in m) deep.measured s.of_tokens.shallow in
     let a = low.0 in
     let g = deep.at_least in
-    let e = wrapped_least (level m) (need m) in
+    let e = wrapped_least (precedence_level m) (need m) in
     (omega (arith, a, g, e), low.1)
 
 pub reads_back : (p : Pattern) (text canonical : List ℕ) → IsReadAs text p → IsCanonical (plain_pattern p) canonical → length canonical ≤ MAX_TEXT → IsReadAs canonical p

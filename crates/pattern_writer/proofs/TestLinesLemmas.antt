@@ -25,10 +25,10 @@ use Rattle.pattern_reader.specs.Meaning.{IsConstantOf, IsCheckOf}
 use Rattle.std.specs.List.{AllZip}
 use Rattle.pattern_types.specs.PlainLeaf.{one}
 use Rattle.pattern_reader.specs.LeafMeaning.{Means, means_test}
-use Rattle.pattern_writer.specs.Parts.{joined}
+use Rattle.pattern_writer.specs.Parts.{joined_texts}
 use Rattle.pattern_writer.specs.Constant.{IsConstantText}
 use Rattle.pattern_writer.proofs.DepthLinesLemmas.{IsPlain}
-use Rattle.pattern_writer.specs.Check.{AreWords, AreAmong, not_text, operator_text, IsCheckedText, IsTestText}
+use Rattle.pattern_writer.specs.Check.{AreWords, IsSetLiteralText, not_text, operator_text, IsCheckedText, IsTestText}
 use Rattle.pattern_writer.proofs.LongestLemmas.{Stops, Ends, ends_stops}
 use Rattle.std.proofs.lemmas.Slice.Zip.{all_zipped_more}
 use Rattle.pattern_writer.proofs.PiecesLemmas.{Stands}
@@ -106,7 +106,7 @@ all_constants done (v ∷ vs) a (t ∷ ts) fit h w =
     as_text (append_assoc a (codes ", " ++ t) (flat_map (λ y. codes ", " ++ y) ts)) (subst (λ (x : List Value). Written AreConstants (MeanConstants x) Ends ((a ++ (codes ", " ++ t)) ++ flat_map (λ y. codes ", " ++ y) ts)) (append_assoc done (v ∷ []) vs) all)
 all_constants done _ a _ fit h w = absurd h
 
-constants : (vs : List Value) (texts : List (List ℕ)) → FitList vs → AllZip IsConstantText vs texts → Written AreConstants (MeanConstants vs) Ends (joined (codes ", ") texts)
+constants : (vs : List Value) (texts : List (List ℕ)) → FitList vs → AllZip IsConstantText vs texts → Written AreConstants (MeanConstants vs) Ends (joined_texts (codes ", ") texts)
 constants [] texts fit h = absurd fit
 constants (v ∷ vs) [] fit h = absurd h
 constants (v ∷ vs) (t ∷ ts) fit h =
@@ -122,7 +122,7 @@ close_round = literal (Only kind.RoundClose) kind.RoundClose (codes ")") refl re
 among : (ts : List Token) (x : Token × ((Token × List Token) × Token)) → IsPair (IsOne (Only kind.Among)) (IsPair (IsPair (IsOne (Only kind.RoundOpen)) AreConstants) (IsOne (Only kind.RoundClose))) ts x → IsCheck ts (check_tree.Among x.1.0.1)
 among ts x (is_pair (is_one a h) (is_pair (is_pair (is_one b i) l) (is_one c j))) = check_among a b c h i l j
 
-is_among : (vs : List Value) (text : List ℕ) → FitList vs → AreAmong vs text → Written IsCheck (MeansCheck (check.Among vs)) Ends (codes "IN" ++ 32 ∷ text)
+is_among : (vs : List Value) (text : List ℕ) → FitList vs → IsSetLiteralText vs text → Written IsCheck (MeansCheck (check.Among vs)) Ends (codes "IN" ++ 32 ∷ text)
 is_among vs text fit h =
     let inner = h.0 in
     let inside : Written AreConstants (MeanConstants vs) Ends inner = as_text (sym h.1.2) (constants vs h.1.0 fit h.1.1) in

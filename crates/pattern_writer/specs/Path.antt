@@ -5,7 +5,7 @@ use Rattle.pattern_lexer.specs.Values.{IsStringText}
 use Rattle.pattern_types.specs.declared.path.Step.{Step}
 use Rattle.pattern_types.specs.declared.path.Step.TheVariants.{Name, Place, Each}
 use Rattle.pattern_types.specs.declared.path.Path.{Path}
-use Rattle.pattern_writer.specs.Parts.{IsAfter, AreSides, AreJoined}
+use Rattle.pattern_writer.specs.Parts.{IsAfterText, AreSides, AreJoined}
 
 -- a name that needs no quotes: a Word other than MATCHES, which is reserved
 pub record IsBare (name : List ℕ) : Type 0 where
@@ -18,7 +18,7 @@ IsNameText name text = (IsBare name × (text ≡ name)) ⊎ ((¬ IsBare name) ×
 
 -- step = "." name | "[" ( Number | "*" ) "]"
 abbrev pub IsStepText : Step → List ℕ → Type 0
-IsStepText (Name name) text = IsAfter (codes ".") (IsNameText name) text
+IsStepText (Name name) text = IsAfterText (codes ".") (IsNameText name) text
 IsStepText (Place place) text = text ≡ codes "[" ++ decimal place ++ codes "]"
 IsStepText Each text = text ≡ codes "[*]"
 
@@ -34,4 +34,4 @@ AreStepsText (first ∷ steps) text = AreSides (IsFirstText first) [] (AreJoined
 
 -- path = kind ":" name { step }
 abbrev pub IsPathText : Path → List ℕ → Type 0
-IsPathText path = IsAfter (path.kind ++ codes ":") (AreStepsText path.steps)
+IsPathText path = IsAfterText (path.kind ++ codes ":") (AreStepsText path.steps)

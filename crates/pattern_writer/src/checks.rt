@@ -1,8 +1,9 @@
 ghost use Rattle.std.specs.Prelude.{◌≡◌, ◌++◌, OnOk, codes};
-ghost use Rattle.pattern_writer.specs.Parts.{IsAfter, Adds};
+ghost use Rattle.pattern_writer.specs.Parts.{IsAfterText, AppendsText};
 ghost use Rattle.pattern_writer.specs.Path.{IsPathText};
 ghost use Rattle.pattern_writer.specs.Constant.{IsConstantText};
-ghost use Rattle.pattern_writer.specs.Check.{not_text, operator_text, IsAsked, AreAmong, AreWords};
+ghost use Rattle.pattern_writer.specs.Check.{not_text, operator_text, IsComparisonText};
+ghost use Rattle.pattern_writer.specs.Check.{IsSetLiteralText, AreWords};
 ghost use Rattle.pattern_writer.specs.Check.{IsTestText};
 
 use crate::constants::{write_constant, write_list};
@@ -37,8 +38,8 @@ fn write_comparison(
     value: &Constant,
     out: &mut Text,
 ) -> Result<(), NoMemory>
-    ensures { OnOk result (Adds
-        (IsAsked test.now.path test.now.negated operator.now (IsConstantText value.now)) out.old
+    ensures { OnOk result (AppendsText
+        (IsComparisonText test.now.path test.now.negated operator.now (IsConstantText value.now)) out.old
         out.new) }
 {
     write_path(&test.path, out)?;
@@ -53,8 +54,8 @@ fn write_among(
     values: &[Constant],
     out: &mut Text,
 ) -> Result<(), NoMemory>
-    ensures { OnOk result (Adds
-        (IsAsked test.now.path test.now.negated (codes "IN") (AreAmong values.now)) out.old
+    ensures { OnOk result (AppendsText
+        (IsComparisonText test.now.path test.now.negated (codes "IN") (IsSetLiteralText values.now)) out.old
         out.new) }
 {
     write_path(&test.path, out)?;
@@ -64,8 +65,8 @@ fn write_among(
 
 /// Writes a comparison with a string.
 fn write_textual(test: &Test, operator: &str, words: &str, out: &mut Text) -> Result<(), NoMemory>
-    ensures { OnOk result (Adds
-        (IsAsked test.now.path test.now.negated operator.now (AreWords words.now)) out.old
+    ensures { OnOk result (AppendsText
+        (IsComparisonText test.now.path test.now.negated operator.now (AreWords words.now)) out.old
         out.new) }
 {
     write_path(&test.path, out)?;
@@ -75,8 +76,8 @@ fn write_textual(test: &Test, operator: &str, words: &str, out: &mut Text) -> Re
 
 /// Writes EXISTS, with NOT before it for a negated test.
 fn write_existence(test: &Test, out: &mut Text) -> Result<(), NoMemory>
-    ensures { OnOk result (Adds
-        (IsAfter (not_text test.now.negated ++ codes "EXISTS ") (IsPathText test.now.path)) out.old
+    ensures { OnOk result (AppendsText
+        (IsAfterText (not_text test.now.negated ++ codes "EXISTS ") (IsPathText test.now.path)) out.old
         out.new) }
 {
     out.push(not_word(test.negated))?;
@@ -86,7 +87,7 @@ fn write_existence(test: &Test, out: &mut Text) -> Result<(), NoMemory>
 
 /// Writes a test.
 pub(crate) fn write_test(alloc: Global, test: &Test, out: &mut Text) -> Result<(), NoMemory>
-    ensures { OnOk result (Adds (IsTestText test.now) out.old out.new) }
+    ensures { OnOk result (AppendsText (IsTestText test.now) out.old out.new) }
 {
     match &test.check {
         Check::Equal(value) => write_comparison(alloc, test, "=", value, out),

@@ -3,9 +3,9 @@ ghost use Rattle.hex.specs.Hex.{encode_lower};
 ghost use Rattle.base64.specs.Engines.{standard};
 ghost use Rattle.base64.specs.GeneralPurpose.{encode_of};
 ghost use Rattle.pattern_lexer.specs.Values.{quoted};
-ghost use Rattle.pattern_writer.specs.Parts.{Adds, AreJoined};
+ghost use Rattle.pattern_writer.specs.Parts.{AppendsText, AreJoined};
 ghost use Rattle.pattern_writer.specs.Constant.{IsTimeText, IsConstantText};
-ghost use Rattle.pattern_writer.specs.Check.{AreAmong};
+ghost use Rattle.pattern_writer.specs.Check.{IsSetLiteralText};
 
 use crate::parts::write_between;
 use crate::words::write_words;
@@ -27,7 +27,7 @@ fn write_quoted(letter: &str, inside: &str, out: &mut Text) -> Result<(), NoMemo
 
 /// Writes a timestamp literal.
 pub(crate) fn write_time(instant: Instant, out: &mut Text) -> Result<(), NoMemory>
-    ensures { OnOk result (Adds (IsTimeText instant) out.old out.new) }
+    ensures { OnOk result (AppendsText (IsTimeText instant) out.old out.new) }
 {
     let mut buffer = [0; 32];
     let length = stix_times::write(instant, &mut buffer);
@@ -37,7 +37,7 @@ pub(crate) fn write_time(instant: Instant, out: &mut Text) -> Result<(), NoMemor
 
 /// Writes `true` or `false`.
 fn write_truth(truth: bool, out: &mut Text) -> Result<(), NoMemory>
-    ensures { OnOk result (Adds (IsConstantText (Constant.Boolean truth)) out.old out.new) }
+    ensures { OnOk result (AppendsText (IsConstantText (Constant.Boolean truth)) out.old out.new) }
 {
     out.push(if truth { "true" } else { "false" })
 }
@@ -64,7 +64,7 @@ pub(crate) fn write_constant(
     constant: &Constant,
     out: &mut Text,
 ) -> Result<(), NoMemory>
-    ensures { OnOk result (Adds (IsConstantText constant.now) out.old out.new) }
+    ensures { OnOk result (AppendsText (IsConstantText constant.now) out.old out.new) }
 {
     match constant {
         Constant::Integer(whole) => out.push(itoa::Buffer::new().format(*whole)),
@@ -78,7 +78,7 @@ pub(crate) fn write_constant(
 
 /// Writes constants with commas between them.
 fn write_constants(alloc: Global, constants: &[Constant], out: &mut Text) -> Result<(), NoMemory>
-    ensures { OnOk result (Adds (AreJoined (codes ", ") IsConstantText constants.now) out.old
+    ensures { OnOk result (AppendsText (AreJoined (codes ", ") IsConstantText constants.now) out.old
         out.new) }
 {
     for (index, constant) in constants.iter().enumerate() {
@@ -94,7 +94,7 @@ pub(crate) fn write_list(
     constants: &[Constant],
     out: &mut Text,
 ) -> Result<(), NoMemory>
-    ensures { OnOk result (Adds (AreAmong constants.now) out.old out.new) }
+    ensures { OnOk result (AppendsText (IsSetLiteralText constants.now) out.old out.new) }
 {
     out.push("(")?;
     write_constants(alloc, constants, out)?;

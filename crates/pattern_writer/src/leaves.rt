@@ -1,7 +1,7 @@
 ghost use Rattle.std.specs.Prelude.{◌≡◌, OnOk};
-ghost use Rattle.pattern_types.specs.PlainLeaf.{plain_leaf, listed};
-ghost use Rattle.pattern_writer.specs.Parts.{IsWithin, Adds};
-ghost use Rattle.pattern_writer.specs.Leaf.{binds, IsFormulaText, AreParts};
+ghost use Rattle.pattern_types.specs.PlainLeaf.{plain_leaf, leaves_of_list};
+ghost use Rattle.pattern_writer.specs.Parts.{IsParenthesizedBelow, AppendsText};
+ghost use Rattle.pattern_writer.specs.Leaf.{binds, IsFormulaText, AreJoinedOperands};
 
 use crate::checks::write_test;
 use crate::parts::write_between;
@@ -23,8 +23,8 @@ fn precedence(leaf: &Leaf) -> u8
 /// Writes a leaf, in parentheses if its precedence is below `least`.
 #[cycle(leaves)]
 fn write_part(alloc: Global, least: u8, leaf: &Leaf, out: &mut Text) -> Result<(), NoMemory>
-    ensures { OnOk result (Adds
-        (IsWithin least (binds (plain_leaf leaf.now)) (IsFormulaText (plain_leaf leaf.now))) out.old
+    ensures { OnOk result (AppendsText
+        (IsParenthesizedBelow least (binds (plain_leaf leaf.now)) (IsFormulaText (plain_leaf leaf.now))) out.old
         out.new) }
 {
     if least <= precedence(leaf) {
@@ -44,7 +44,7 @@ fn write_parts(
     parts: &[Leaf],
     out: &mut Text,
 ) -> Result<(), NoMemory>
-    ensures { OnOk result (Adds (AreParts least between.now (listed parts.now)) out.old out.new) }
+    ensures { OnOk result (AppendsText (AreJoinedOperands least between.now (leaves_of_list parts.now)) out.old out.new) }
 {
     for (index, part) in parts.iter().enumerate() {
         write_between(index, between, out)?;
@@ -56,7 +56,7 @@ fn write_parts(
 /// Writes the comparison expression in the brackets of a pattern.
 #[cycle(leaves)]
 pub(crate) fn write_leaf(alloc: Global, leaf: &Leaf, out: &mut Text) -> Result<(), NoMemory>
-    ensures { OnOk result (Adds (IsFormulaText (plain_leaf leaf.now)) out.old out.new) }
+    ensures { OnOk result (AppendsText (IsFormulaText (plain_leaf leaf.now)) out.old out.new) }
 {
     match leaf {
         Leaf::Test(test) => write_test(alloc, test, out),

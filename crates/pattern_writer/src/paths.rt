@@ -1,5 +1,5 @@
 ghost use Rattle.std.specs.Prelude.{◌↔◌, IsTrue, OnOk, []};
-ghost use Rattle.pattern_writer.specs.Parts.{Adds, AreJoined};
+ghost use Rattle.pattern_writer.specs.Parts.{AppendsText, AreJoined};
 ghost use Rattle.pattern_writer.specs.Path.{IsBare, IsNameText, IsStepText, IsFirstText};
 ghost use Rattle.pattern_writer.specs.Path.{IsPathText};
 
@@ -17,7 +17,7 @@ fn is_bare(name: &str) -> bool
 
 /// Writes a name, in quotes if it needs them.
 fn write_name(name: &str, out: &mut Text) -> Result<(), NoMemory>
-    ensures { OnOk result (Adds (IsNameText name.now) out.old out.new) }
+    ensures { OnOk result (AppendsText (IsNameText name.now) out.old out.new) }
 {
     if is_bare(name) {
         return out.push(name);
@@ -27,7 +27,7 @@ fn write_name(name: &str, out: &mut Text) -> Result<(), NoMemory>
 
 /// Writes a list index in brackets.
 fn write_place(place: u32, out: &mut Text) -> Result<(), NoMemory>
-    ensures { OnOk result (Adds (IsStepText (Step.Place place)) out.old out.new) }
+    ensures { OnOk result (AppendsText (IsStepText (Step.Place place)) out.old out.new) }
 {
     out.push("[")?;
     out.push(itoa::Buffer::new().format(place))?;
@@ -36,7 +36,7 @@ fn write_place(place: u32, out: &mut Text) -> Result<(), NoMemory>
 
 /// Writes a step after another one.
 fn write_step(step: &Step, out: &mut Text) -> Result<(), NoMemory>
-    ensures { OnOk result (Adds (IsStepText step.now) out.old out.new) }
+    ensures { OnOk result (AppendsText (IsStepText step.now) out.old out.new) }
 {
     match step {
         Step::Name(name) => {
@@ -50,7 +50,7 @@ fn write_step(step: &Step, out: &mut Text) -> Result<(), NoMemory>
 
 /// Writes the first step, after the colon.
 fn write_first(step: &Step, out: &mut Text) -> Result<(), NoMemory>
-    ensures { OnOk result (Adds (IsFirstText step.now) out.old out.new) }
+    ensures { OnOk result (AppendsText (IsFirstText step.now) out.old out.new) }
 {
     match step {
         Step::Name(name) => write_name(name.as_str(), out),
@@ -60,7 +60,7 @@ fn write_first(step: &Step, out: &mut Text) -> Result<(), NoMemory>
 
 /// Writes steps one after another.
 fn write_steps(steps: &[Step], out: &mut Text) -> Result<(), NoMemory>
-    ensures { OnOk result (Adds (AreJoined [] IsStepText steps.now) out.old out.new) }
+    ensures { OnOk result (AppendsText (AreJoined [] IsStepText steps.now) out.old out.new) }
 {
     for step in steps {
         write_step(step, out)?;
@@ -70,7 +70,7 @@ fn write_steps(steps: &[Step], out: &mut Text) -> Result<(), NoMemory>
 
 /// Writes an object path.
 pub(crate) fn write_path(path: &Path, out: &mut Text) -> Result<(), NoMemory>
-    ensures { OnOk result (Adds (IsPathText path.now) out.old out.new) }
+    ensures { OnOk result (AppendsText (IsPathText path.now) out.old out.new) }
 {
     out.push(path.kind.as_str())?;
     out.push(":")?;

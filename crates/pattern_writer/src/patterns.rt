@@ -4,9 +4,10 @@
 
 ghost use Rattle.std.specs.Prelude.{◌≡◌, ◌+◌, ◌<◌, OnOk, IfOk, codes};
 ghost use Rattle.pattern_types.specs.PlainPattern.{plain_pattern};
-ghost use Rattle.pattern_writer.specs.Parts.{AreSides, IsBetween, IsWithin, Adds};
+ghost use Rattle.pattern_writer.specs.Parts.{AreSides, IsBetween, IsParenthesizedBelow};
+ghost use Rattle.pattern_writer.specs.Parts.{AppendsText};
 ghost use Rattle.pattern_writer.specs.Leaf.{IsFormulaText};
-ghost use Rattle.pattern_writer.specs.Canonical.{level, IsCanonical};
+ghost use Rattle.pattern_writer.specs.Canonical.{precedence_level, IsCanonical};
 ghost use Rattle.pattern_types.specs.PlainLeaf.{plain_leaf};
 
 use crate::leaves::write_leaf;
@@ -17,7 +18,7 @@ use std::alloc::Global;
 
 /// The precedence of the text of a pattern. Higher binds tighter. Allocates nothing.
 fn precedence(pattern: &Pattern) -> u8
-    ensures { result ≡ level (plain_pattern pattern.now) }
+    ensures { result ≡ precedence_level (plain_pattern pattern.now) }
 {
     match pattern {
         Pattern::Leaf(_)
@@ -32,7 +33,7 @@ fn precedence(pattern: &Pattern) -> u8
 
 /// Writes a leaf in its brackets.
 fn write_brackets(alloc: Global, leaf: &Leaf, out: &mut Text) -> Result<(), NoMemory>
-    ensures { OnOk result (Adds
+    ensures { OnOk result (AppendsText
         (IsBetween (codes "[") (codes "]") (IsFormulaText (plain_leaf leaf.now))) out.old out.new) }
 {
     out.push("[")?;
@@ -43,8 +44,8 @@ fn write_brackets(alloc: Global, leaf: &Leaf, out: &mut Text) -> Result<(), NoMe
 /// Writes a pattern, in parentheses if its precedence is below `least`.
 #[cycle(patterns)]
 fn write_part(alloc: Global, least: u8, pattern: &Pattern, out: &mut Text) -> Result<(), NoMemory>
-    ensures { OnOk result (Adds
-        (IsWithin least (level (plain_pattern pattern.now))
+    ensures { OnOk result (AppendsText
+        (IsParenthesizedBelow least (precedence_level (plain_pattern pattern.now))
         (IsCanonical (plain_pattern pattern.now))) out.old out.new) }
 {
     if least <= precedence(pattern) {
@@ -66,10 +67,10 @@ fn write_sides(
     out: &mut Text,
 ) -> Result<(), NoMemory>
     requires { binds < 3 }
-    ensures { OnOk result (Adds
-        (AreSides (IsWithin binds (level (plain_pattern left.now))
+    ensures { OnOk result (AppendsText
+        (AreSides (IsParenthesizedBelow binds (precedence_level (plain_pattern left.now))
         (IsCanonical (plain_pattern left.now))) operator.now
-        (IsWithin (binds + 1) (level (plain_pattern right.now))
+        (IsParenthesizedBelow (binds + 1) (precedence_level (plain_pattern right.now))
         (IsCanonical (plain_pattern right.now)))) out.old out.new) }
 {
     write_part(alloc, binds, left, out)?;
@@ -80,7 +81,7 @@ fn write_sides(
 /// Writes a pattern.
 #[cycle(patterns)]
 fn write(alloc: Global, pattern: &Pattern, out: &mut Text) -> Result<(), NoMemory>
-    ensures { OnOk result (Adds (IsCanonical (plain_pattern pattern.now)) out.old out.new) }
+    ensures { OnOk result (AppendsText (IsCanonical (plain_pattern pattern.now)) out.old out.new) }
 {
     match pattern {
         Pattern::Leaf(leaf) => write_brackets(alloc, leaf, out),

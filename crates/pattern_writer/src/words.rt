@@ -1,7 +1,7 @@
 ghost use Rattle.std.specs.Prelude.{◌≡◌, ◌++◌, OnOk, flat_map};
 ghost use Rattle.std.specs.Char.{encode_utf8};
 ghost use Rattle.pattern_lexer.specs.Values.{escaped, IsStringText};
-ghost use Rattle.pattern_writer.specs.Parts.{Adds};
+ghost use Rattle.pattern_writer.specs.Parts.{AppendsText};
 ghost use Rattle.pattern_writer.specs.Check.{AreWords};
 
 use flow_values::{NoMemory, Text};
@@ -31,7 +31,7 @@ fn write_characters(words: &str, out: &mut Text) -> Result<(), NoMemory>
 
 /// Writes a string literal.
 pub(crate) fn write_words(words: &str, out: &mut Text) -> Result<(), NoMemory>
-    ensures { OnOk result (Adds (AreWords words.now) out.old out.new) }
+    ensures { OnOk result (AppendsText (AreWords words.now) out.old out.new) }
 {
     out.push("'")?;
     write_characters(words, out)?;

@@ -8,11 +8,11 @@ use Rattle.serde_json.specs.Find.{as_str}
 use Rattle.stix_json.specs.declared.value.Json.{Json}
 use Rattle.stix_json.specs.DataOf.{data_of}
 use Rattle.stix_bundles.specs.Objects.{data_in}
-use Rattle.stix_bundles.specs.Lookup.{Means}
+use Rattle.stix_bundles.specs.Lookup.{ResolvesTo}
 use Rattle.stix_bundles.specs.Observations.{AreResolved}
 
 resolved_more : (objects : List Data) (texts : List (List ℕ)) (text : List ℕ) (places : List ℕ) (place : Option ℕ) → AreResolved objects texts places
-    → Means objects text place → AreResolved objects (texts ++ text ∷ []) (places ++ option_to_list place)
+    → ResolvesTo objects text place → AreResolved objects (texts ++ text ∷ []) (places ++ option_to_list place)
 resolved_more objects [] text places place are is =
     (place, [], is, refl, ap (λ (ps : List ℕ). ps ++ option_to_list place) are ∙ sym (append-nil (option_to_list place)))
 resolved_more objects (other ∷ texts) text places place are is = (
@@ -24,7 +24,7 @@ resolved_more objects (other ∷ texts) text places place are is = (
 )
 
 resolved_item : (objects : List Data) (texts : List (List ℕ)) (item : Option (List ℕ)) (places : List ℕ) (place : Option ℕ) → AreResolved objects texts places
-    → MatchOption item (place ≡ None) (λ text. Means objects text place) → AreResolved objects (texts ++ cons_option item []) (places ++ option_to_list place)
+    → MatchOption item (place ≡ None) (λ text. ResolvesTo objects text place) → AreResolved objects (texts ++ cons_option item []) (places ++ option_to_list place)
 resolved_item objects texts None places place are none =
     subst (λ (ps : List ℕ). AreResolved objects (texts ++ []) ps) (sym (ap (λ (o : Option ℕ). places ++ option_to_list o) none ∙ append-nil places))
     (subst (λ (ts : List (List ℕ)). AreResolved objects ts places) (sym (append-nil texts)) are)
@@ -36,7 +36,7 @@ texts_of items k = filter_map as_str (data_in (take k items))
 
 -- the same in a loop over items
 pub resolved_step : (objects : List Data) (items : List Json) (k : ℕ) (item : Json) (places : List ℕ) (place : Option ℕ) → k < length items → get_or items k item ≡ item
-    → AreResolved objects (texts_of items k) places → MatchOption (as_str (data_of item)) (place ≡ None) (λ text. Means objects text place)
+    → AreResolved objects (texts_of items k) places → MatchOption (as_str (data_of item)) (place ≡ None) (λ text. ResolvesTo objects text place)
     → AreResolved objects (texts_of items (k + 1)) (places ++ option_to_list place)
 resolved_step objects items k item places place inside read are is =
     let grown : take (k + 1) items ≡ take k items ++ item ∷ [] = take_more items k item inside ∙ ap (λ (x : Json). take k items ++ x ∷ []) read in

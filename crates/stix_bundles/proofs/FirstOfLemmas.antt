@@ -5,7 +5,7 @@ use Rattle.std.proofs.lemmas.Bool.{cases_Bool, false≢true}
 use Rattle.std.proofs.lemmas.Slice.Eq.{bytes_eq-Decides}
 use Rattle.serde_json.specs.Data.{Data}
 use Rattle.serde_json.specs.Find.{get, as_object}
-use Rattle.stix_json.specs.Properties.{text_at}
+use Rattle.stix_json.specs.Properties.{property_text}
 use Rattle.stix_bundles.specs.Bundle.{IsObject}
 use Rattle.stix_bundles.specs.Observations.{IsObservedData, is_observed_data, Embeds, NoneEmbeds, IsFirstEmbedding}
 use Rattle.stix_bundles.proofs.ObjectsLemmas.{same_some}
@@ -65,7 +65,7 @@ from_test (Some t) wanted is = ap Some ((bytes_eq-Decides t wanted).0 is)
 
 observed_told : IsTold IsObservedData
 observed_told d = elim (cases_Bool (is_observed_data d)) [
-  | inl is ↦ inl (from_test (text_at (codes "type") d) (codes "observed-data") is)
+  | inl is ↦ inl (from_test (property_text (codes "type") d) (codes "observed-data") is)
   | inr not ↦ inr (λ is. false≢true (sym not ∙ observed_test d is))
 ]
 

@@ -9,7 +9,7 @@ use Rattle.stix_ids.specs.declared.id.Id.{Id}
 use Rattle.stix_bundles.specs.declared.positions.Positions.{Positions}
 use Rattle.stix_objects.specs.Properties.{HasId}
 use Rattle.stix_bundles.specs.Lookup.{IsModified, IsEarlier, IsOf, IsVersionAt, IsLatest}
-use Rattle.stix_bundles.specs.inner.Index.{position_of, same_id, Puts, Supersedes, IsPositionOf, ArePositionsOf}
+use Rattle.stix_bundles.specs.inner.Index.{position_of, same_id, PutsPosition, Supersedes, IsPositionOf, ArePositionsOf}
 use Rattle.stix_bundles.proofs.ObjectsLemmas.{same_some}
 use Rattle.stix_bundles.proofs.TakeLemmas.{taken, taken_before, in_taken}
 use Rattle.stix_bundles.proofs.LookupLemmas.{of_version}
@@ -170,7 +170,7 @@ same_cases id other =
 
 -- the positions after that of an identifier's latest version was put
 pub positions_put : OneId → (ds : List Data) (at : ℕ) (d : Data) → slice_get ds at ≡ Some d → (id : Id) → HasId d id → (latest : ℕ) → IsLatest (take (at + 1) ds) id latest
-    → (before after : Positions) → ArePositionsOf (take at ds) before → Puts before after id latest → ArePositionsOf (take (at + 1) ds) after
+    → (before after : Positions) → ArePositionsOf (take at ds) before → PutsPosition before after id latest → ArePositionsOf (take (at + 1) ds) after
 positions_put one_id ds at d there id has latest is_latest before after is puts = λ other.
     subst (IsPositionOf (take (at + 1) ds) other) (sym (puts other))
     (elim (same_cases id other) [

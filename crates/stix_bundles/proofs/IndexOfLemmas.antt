@@ -6,7 +6,7 @@ use Rattle.stix_ids.specs.declared.id.Id.{Id}
 use Rattle.stix_bundles.specs.declared.positions.Positions.{Positions}
 use Rattle.stix_objects.specs.Properties.{HasId}
 use Rattle.stix_bundles.specs.Lookup.{IsModified, IsOf, IsLatest}
-use Rattle.stix_bundles.specs.inner.Index.{position_of, Puts, Supersedes, IsPositionOf, ArePositionsOf}
+use Rattle.stix_bundles.specs.inner.Index.{position_of, PutsPosition, Supersedes, IsPositionOf, ArePositionsOf}
 use Rattle.stix_bundles.proofs.ObjectsLemmas.{same_some}
 use Rattle.stix_bundles.proofs.IndexLemmas.{OneModified, OneId, held_beside, held_newly, positions_put}
 
@@ -15,7 +15,7 @@ pub add_beside : (ds : List Data) (at : ℕ) (d : Data) → slice_get ds at ≡ 
 add_beside ds at d there positions none is = λ id. held_beside ds at d there id (none id) (position_of positions id) (is id)
 
 pub put_well : OneId → (ds : List Data) (at : ℕ) (d : Data) → slice_get ds at ≡ Some d → (id : Id) → HasId d id → (latest : ℕ) → IsLatest (take (at + 1) ds) id latest
-    → (before after : Positions) → ArePositionsOf (take at ds) before → (outcome : Result (Unit {0}) NoMemory) → OnOk outcome (Puts before after id latest)
+    → (before after : Positions) → ArePositionsOf (take at ds) before → (outcome : Result (Unit {0}) NoMemory) → OnOk outcome (PutsPosition before after id latest)
     → OnOk outcome (ArePositionsOf (take (at + 1) ds) after)
 put_well one_id ds at d there id has latest is_latest before after is (Ok done) puts = positions_put one_id ds at d there id has latest is_latest before after is puts
 put_well one_id ds at d there id has latest is_latest before after is (Err error) puts = tt

@@ -16,7 +16,7 @@ use Rattle.serde_json.specs.Data.{Data, null}
 use Rattle.stix_bundles.specs.declared.last_time.LastTime.{LastTime}
 use Rattle.stix_bundles.specs.Observations.{IsObservedData, is_observed_data, IsObservedAt}
 use Rattle.stix_bundles.specs.inner.LastTimes.{IsLastTimeOf, AreLastTimesBefore}
-use Rattle.stix_json.specs.Properties.{text_at}
+use Rattle.stix_json.specs.Properties.{property_text}
 use Rattle.stix_bundles.proofs.ObjectsLemmas.{same_some}
 
 -- whether two last times stand at one place
@@ -35,10 +35,10 @@ test_no (Some t) wanted not = elim (cases_Bool (bytes_eq t wanted)) [
 ]
 
 pub observed_test : (d : Data) → IsObservedData d → is_observed_data d ≡ true
-observed_test d is = test_yes (text_at (codes "type") d) (codes "observed-data") is
+observed_test d is = test_yes (property_text (codes "type") d) (codes "observed-data") is
 
 pub other_test : (d : Data) → ¬ IsObservedData d → is_observed_data d ≡ false
-other_test d is = test_no (text_at (codes "type") d) (codes "observed-data") is
+other_test d is = test_no (property_text (codes "type") d) (codes "observed-data") is
 
 pub none_before : (ds : List Data) → AreLastTimesBefore ds 0 []
 none_before ds = record {

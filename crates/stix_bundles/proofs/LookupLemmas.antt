@@ -3,16 +3,16 @@ use Rattle.std.proofs.Common.{arith, ◌≡◌, inl, inr, ℕ, ℤ, List, Option
 use Rattle.std.proofs.lemmas.Int.{ints}
 use Rattle.serde_json.specs.Data.{Data}
 use Rattle.stix_ids.specs.declared.id.Id.{Id}
-use Rattle.stix_ids.specs.Identifier.{IsTextOf}
+use Rattle.stix_ids.specs.Identifier.{IsTextOfId}
 use Rattle.stix_objects.specs.declared.form.Precision.{Precision}
 use Rattle.stix_objects.specs.declared.form.Precision.TheVariants.{Millis}
 use Rattle.stix_objects.specs.Properties.{IsTimestampAt}
-use Rattle.stix_bundles.specs.Lookup.{IsModified, IsEarlier, IsOf, IsVersionAt, IsLatest, Means}
+use Rattle.stix_bundles.specs.Lookup.{IsModified, IsEarlier, IsOf, IsVersionAt, IsLatest, ResolvesTo}
 use Rattle.stix_bundles.specs.inner.Index.{IsPositionOf}
 
 -- a text is one identifier's
 abbrev pub OneIdentifier : Type 0
-OneIdentifier = (text : List ℕ) (first second : Id) → IsTextOf text first → IsTextOf text second → first ≡ second
+OneIdentifier = (text : List ℕ) (first second : Id) → IsTextOfId text first → IsTextOfId text second → first ≡ second
 
 -- a property is a timestamp of one instant
 abbrev pub OneTimestamp : Type 0
@@ -49,7 +49,7 @@ one_latest objects id a b first second =
       ]
     ]
 
-pub one_meaning : OneIdentifier → (objects : List Data) (text : List ℕ) (first second : Option ℕ) → Means objects text first → Means objects text second → first ≡ second
+pub one_meaning : OneIdentifier → (objects : List Data) (text : List ℕ) (first second : Option ℕ) → ResolvesTo objects text first → ResolvesTo objects text second → first ≡ second
 one_meaning one objects text None None is also = refl
 one_meaning one objects text None (Some b) is also =
     absurd (is also.0 b also.1 (of_version objects also.0 b also.2.modified also.2.version))
@@ -59,15 +59,15 @@ one_meaning one objects text (Some a) (Some b) is also =
     let same = one text also.0 is.0 also.1 is.1 in
     ap Some (one_latest objects is.0 a b is.2 (subst (λ (id : Id). IsLatest objects id b) same also.2))
 
-pub same_meaning : OneIdentifier → (objects : List Data) (id : Id) (text other : List ℕ) (resolved : Option ℕ) → IsTextOf text id → IsTextOf other id
-    → Means objects text resolved → Means objects other resolved
+pub same_meaning : OneIdentifier → (objects : List Data) (id : Id) (text other : List ℕ) (resolved : Option ℕ) → IsTextOfId text id → IsTextOfId other id
+    → ResolvesTo objects text resolved → ResolvesTo objects other resolved
 same_meaning one objects id text other None is also means = λ its at reads.
-    means its at (subst (λ (i : Id). IsTextOf text i) (one other id its also reads) is)
+    means its at (subst (λ (i : Id). IsTextOfId text i) (one other id its also reads) is)
 same_meaning one objects id text other (Some at) is also means =
     (id, also, subst (λ (i : Id). IsLatest objects i at) (one text means.0 id means.1 is) means.2)
 
 -- what is held for the identifier of a text is what the text means
-pub held_is_resolved : OneIdentifier → (objects : List Data) (text : List ℕ) (id : Id) → IsTextOf text id → (position_of : Option ℕ) → IsPositionOf objects id position_of → Means objects text position_of
+pub held_is_resolved : OneIdentifier → (objects : List Data) (text : List ℕ) (id : Id) → IsTextOfId text id → (position_of : Option ℕ) → IsPositionOf objects id position_of → ResolvesTo objects text position_of
 held_is_resolved one objects text id reads None is = λ its at also of.
     is at (subst (λ (i : Id). IsOf objects i at) (one text its id also reads) of)
 held_is_resolved one objects text id reads (Some at) is = (id, reads, is)

@@ -17,7 +17,7 @@ use Rattle.serde_json.specs.Data.{Data}
 use Rattle.flow_values.specs.declared.no_memory.NoMemory.{NoMemory}
 use Rattle.stix_bundles.specs.declared.last_time.LastTime.{LastTime}
 use Rattle.stix_bundles.specs.declared.observation.Observation.{Observation}
-use Rattle.stix_bundles.specs.Observations.{ObservationAt, AreObservations, how_many}
+use Rattle.stix_bundles.specs.Observations.{ObservationAt, AreObservations, observation_count}
 use Rattle.stix_bundles.specs.inner.LastTimes.{AreLastTimes, IsUpTo, AreInOrder, last_time_of, AreObservationsAt}
 use Rattle.stix_bundles.proofs.ObjectsLemmas.{same_some}
 use Rattle.stix_bundles.proofs.LastTimesLemmas.{same_place}
@@ -122,8 +122,8 @@ observations_well ds first ms are ordered (Err error) told = tt
 
 -- there are as many of them as observed-data
 pub counted_well : (ds : List Data) (first : ℕ) (ms : List LastTime) → AreLastTimes ds ms → (outcome : Result (List Observation) NoMemory)
-    → IfOk outcome (AreObservationsAt ds first ms) → IfOk outcome (λ list. length list ≡ how_many ds)
+    → IfOk outcome (AreObservationsAt ds first ms) → IfOk outcome (λ list. length list ≡ observation_count ds)
 counted_well ds first ms are (Ok list) told =
     ap length told.are ∙ length-map told.seen (λ s. s.observation) ∙ sym (length-map told.seen last_time_of) ∙ ap length told.at
-    ∙ are.count ∙ ap how_many (take-length ds)
+    ∙ are.count ∙ ap observation_count (take-length ds)
 counted_well ds first ms are (Err error) told = tt

@@ -10,7 +10,7 @@ use Rattle.stix_objects.specs.Breaks.{AreBreaksOf}
 use Rattle.stix_bundles.specs.declared.object_break.ObjectBreak.{ObjectBreak}
 use Rattle.stix_bundles.specs.declared.refusal.BundleRefusal.{BundleRefusal}
 use Rattle.stix_bundles.specs.declared.refusal.BundleRefusal.TheVariants.{NotBundle, Breaks, NoMemory}
-use Rattle.stix_bundles.specs.Bundle.{listed, IsObject, IsTyped, IsIdentified, IsListOf, HasObjects, IsOutlined, IsFirstNoObject, FailsAt, IsNoBundle, break_of_object, AreAllBreaks, IsBundle, IsBundleRefused}
+use Rattle.stix_bundles.specs.Bundle.{items_in_order, IsObject, HasBundleType, IsIdentified, IsListOf, HasObjects, IsOutlined, IsFirstNoObject, FailsAt, IsNoBundle, break_of_object, AreAllBreaks, IsBundle, IsBundleRefused}
 
 -- a value has one list of breaks
 abbrev pub OneList : Type 0
@@ -19,7 +19,7 @@ OneList = (d : Data) (a b : List Break) → AreBreaksOf d a → AreBreaksOf d b 
 one_members : (value : Data) (xs ys : List Data) → IsListOf value xs → IsListOf value ys → xs ≡ ys
 one_members value xs ys a b =
     let items : a.items ≡ b.items = ap (λ (o : Option Items). unwrap_or o a.items) (sym a.list ∙ b.list) in
-    a.members_are ∙ ap listed items ∙ sym b.members_are
+    a.members_are ∙ ap items_in_order items ∙ sym b.members_are
 
 one_found : (found : Option Data) (xs ys : List Data) → MatchOption found (xs ≡ []) (λ value. IsListOf value xs)
     → MatchOption found (ys ≡ []) (λ value. IsListOf value ys) → xs ≡ ys
@@ -63,10 +63,10 @@ one_first xs n m a b = elim (cases_lt n m) [
 
 -- one condition of three
 one_name : (d : Data) (n m : List ℕ)
-    → ((n ≡ codes "type") × (¬ IsTyped d)) ⊎ ((n ≡ codes "id") × IsTyped d × (¬ IsIdentified d))
-    ⊎ ((n ≡ codes "objects") × IsTyped d × IsIdentified d × ((objects : List Data) → ¬ HasObjects d objects))
-    → ((m ≡ codes "type") × (¬ IsTyped d)) ⊎ ((m ≡ codes "id") × IsTyped d × (¬ IsIdentified d))
-    ⊎ ((m ≡ codes "objects") × IsTyped d × IsIdentified d × ((objects : List Data) → ¬ HasObjects d objects))
+    → ((n ≡ codes "type") × (¬ HasBundleType d)) ⊎ ((n ≡ codes "id") × HasBundleType d × (¬ IsIdentified d))
+    ⊎ ((n ≡ codes "objects") × HasBundleType d × IsIdentified d × ((objects : List Data) → ¬ HasObjects d objects))
+    → ((m ≡ codes "type") × (¬ HasBundleType d)) ⊎ ((m ≡ codes "id") × HasBundleType d × (¬ IsIdentified d))
+    ⊎ ((m ≡ codes "objects") × HasBundleType d × IsIdentified d × ((objects : List Data) → ¬ HasObjects d objects))
     → n ≡ m
 one_name d n m (inl a) (inl b) = a.0 ∙ sym b.0
 one_name d n m (inl a) (inr (inl b)) = absurd (a.1 b.1)

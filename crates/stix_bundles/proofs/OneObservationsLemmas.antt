@@ -7,7 +7,7 @@ use Rattle.stix_ids.specs.declared.id.Id.{Id}
 use Rattle.stix_objects.specs.declared.form.Precision.TheVariants.{Any}
 use Rattle.stix_objects.specs.Properties.{IsTimestampAt, HasId}
 use Rattle.stix_bundles.specs.declared.observation.Observation.{Observation}
-use Rattle.stix_bundles.specs.Lookup.{Means}
+use Rattle.stix_bundles.specs.Lookup.{ResolvesTo}
 use Rattle.stix_bundles.specs.Observations.{IsObservationAt, ObservationAt, IsObservedBefore, AreResolved, references, AreObservations}
 use Rattle.stix_bundles.proofs.ObjectsLemmas.{same_some}
 use Rattle.stix_bundles.proofs.LookupLemmas.{OneTimestamp}
@@ -16,7 +16,7 @@ abbrev pub OneId : Type 0
 OneId = (d : Data) (first second : Id) → HasId d first → HasId d second → first ≡ second
 
 abbrev pub OneMeaning : Type 0
-OneMeaning = (objects : List Data) (text : List ℕ) (first second : Option ℕ) → Means objects text first → Means objects text second → first ≡ second
+OneMeaning = (objects : List Data) (text : List ℕ) (first second : Option ℕ) → ResolvesTo objects text first → ResolvesTo objects text second → first ≡ second
 
 -- what an observation rests on
 pub record Laws : Type 0 where

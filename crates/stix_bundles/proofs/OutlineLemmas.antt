@@ -8,13 +8,13 @@ use Rattle.stix_json.specs.declared.value.Json.{Json, the_lemmas}
 use Rattle.stix_json.specs.declared.value.Json.TheVariants as json
 use Rattle.stix_json.specs.DataOf.{data_of}
 use Rattle.stix_bundles.specs.Objects.{data_in}
-use Rattle.stix_bundles.specs.Bundle.{listed, IsObject, IsListOf}
+use Rattle.stix_bundles.specs.Bundle.{items_in_order, IsObject, IsListOf}
 use Rattle.stix_bundles.specs.declared.outline.Failure.{Failure}
 use Rattle.stix_bundles.specs.declared.outline.TheConstants.{MAX_OBJECTS}
 use Rattle.stix_bundles.specs.declared.outline.Failure.TheVariants.{NoObject, NoType, NoId, NoList, NoMember}
 use Rattle.stix_bundles.specs.inner.Failures.{FailsInObjects, FailsInMembers}
 
-pub listed_items : (ds : List Data) → listed (items_of ds) ≡ ds
+pub listed_items : (ds : List Data) → items_in_order (items_of ds) ≡ ds
 listed_items [] = refl
 listed_items (d ∷ ds) = ap (λ (rest : List Data). d ∷ rest) (listed_items ds)
 
@@ -38,7 +38,7 @@ pub list_is_row : (value : Json) (objects : List Json) (members : List Data) →
 list_is_row value objects members is list =
     let array_is : Some list.items ≡ Some (items_of (data_in objects)) = sym list.list ∙ ap (λ (value : Json). as_array (data_of value)) is ∙ ap as_array (data_of-Array objects) in
     let items : list.items ≡ items_of (data_in objects) = ap (λ (o : Option Items). unwrap_or o list.items) array_is in
-    list.members_are ∙ ap listed items ∙ listed_items (data_in objects)
+    list.members_are ∙ ap items_in_order items ∙ listed_items (data_in objects)
 
 -- what fails in the members fails in the list
 pub fails_in_list : (value : Data) (members : List Data) → IsListOf value members → (failure : Option Failure)

@@ -8,7 +8,7 @@ use Rattle.std.proofs.lemmas.Bool.{cases_Bool}
 use Rattle.std.proofs.lemmas.Bool.Decides.{nat_tests}
 use Rattle.std.proofs.lemmas.Slice.Eq.{bytes_eq-Decides}
 use Rattle.stix_ids.specs.declared.id.Id.{Id}
-use Rattle.stix_bundles.specs.inner.Index.{position_of, same_id, Puts}
+use Rattle.stix_bundles.specs.inner.Index.{position_of, same_id, PutsPosition}
 
 is_eq-nat_cmp : (a b : ℕ) → is_eq (nat_cmp a b) ≡ (a == b)
 is_eq-nat_cmp a b = grind (arith, nat_tests)
@@ -24,7 +24,7 @@ pub put_in_kinds : (before after : Kinds) (id : Id) (at : ℕ) (old new : Number
     → ((q : ℕ) → option_and_then (λ (numbers : Numbers). get nat_cmp numbers q) (get_by_text before id.kind) ≡ get nat_cmp old q)
     → ((q : ℕ) → get nat_cmp new q ≡ cond (is_eq (nat_cmp id.number q)) (Some at) (get nat_cmp old q))
     → ((cs : List ℕ) → get_by_text after cs ≡ cond (bytes_eq id.kind cs) (Some new) (get_by_text before cs))
-    → Puts (record { kinds = before }) (record { kinds = after }) id at
+    → PutsPosition (record { kinds = before }) (record { kinds = after }) id at
 put_in_kinds before after id at old new known inner outer = λ other.
     elim (cases_Bool (bytes_eq id.kind other.kind)) [
       | inl kinds ↦
@@ -50,7 +50,7 @@ put_in_kinds before after id at old new known inner outer = λ other.
 pub put_known : (before after : Kinds) (id : Id) (at : ℕ) (old new : Numbers) → Some old ≡ get_by_text before id.kind
     → ((q : ℕ) → get nat_cmp new q ≡ cond (is_eq (nat_cmp id.number q)) (Some at) (get nat_cmp old q))
     → ((cs : List ℕ) → get_by_text after cs ≡ cond (bytes_eq id.kind cs) (Some new) (get_by_text before cs))
-    → Puts (record { kinds = before }) (record { kinds = after }) id at
+    → PutsPosition (record { kinds = before }) (record { kinds = after }) id at
 put_known before after id at old new known inner outer =
     put_in_kinds before after id at old new (λ q. ap (λ (o : Option Numbers). option_and_then (λ (numbers : Numbers). get nat_cmp numbers q) o) (sym known)) inner outer
 
@@ -59,7 +59,7 @@ pub put_unknown : (before lent after : Kinds) (id : Id) (at : ℕ) (kind : List 
     → kind ≡ id.kind → empty.entries ≡ []
     → ((q : ℕ) → get nat_cmp new q ≡ cond (is_eq (nat_cmp id.number q)) (Some at) (get nat_cmp empty q))
     → ((cs : List ℕ) → get_by_text after cs ≡ cond (bytes_eq kind cs) (Some new) (get_by_text lent cs))
-    → Puts (record { kinds = before }) (record { kinds = after }) id at
+    → PutsPosition (record { kinds = before }) (record { kinds = after }) id at
 put_unknown before lent after id at kind empty new same lacks is none inner outer =
     put_in_kinds before after id at empty new
     (λ q.

@@ -8,7 +8,7 @@ use Rattle.stix_json.specs.declared.value.Json.{Json}
 use Rattle.stix_json.specs.declared.value.Json.TheVariants as json
 use Rattle.stix_json.specs.DataOf.{data_of}
 use Rattle.stix_bundles.specs.Objects.{data_in}
-use Rattle.stix_bundles.specs.Bundle.{listed}
+use Rattle.stix_bundles.specs.Bundle.{items_in_order}
 use Rattle.stix_bundles.specs.Observations.{references}
 use Rattle.stix_bundles.proofs.OutlineLemmas.{data_of-Array, listed_items}
 
@@ -17,4 +17,4 @@ pub references_of : (d : Data) (row : Json) (items : List Json) → Some (data_o
 references_of d row items there is =
     let value : get (codes "object_refs") d ≡ Some (array (items_of (data_in items))) =
     sym there ∙ ap (λ (value : Json). Some (data_of value)) is ∙ ap Some (data_of-Array items) in
-    ap (λ (o : Option Data). filter_map as_str (option_map_or listed (option_and_then as_array o) [])) value ∙ ap (filter_map as_str) (listed_items (data_in items))
+    ap (λ (o : Option Data). filter_map as_str (option_map_or items_in_order (option_and_then as_array o) [])) value ∙ ap (filter_map as_str) (listed_items (data_in items))

@@ -7,7 +7,7 @@ use Rattle.stix_objects.specs.Breaks.{AreBreaksOf}
 use Rattle.stix_bundles.specs.declared.object_break.ObjectBreak.{ObjectBreak}
 use Rattle.stix_bundles.specs.declared.refusal.BundleRefusal.{BundleRefusal}
 use Rattle.stix_bundles.specs.declared.refusal.BundleRefusal.TheVariants.{NotBundle, Breaks}
-use Rattle.stix_bundles.specs.Bundle.{IsObject, IsTyped, IsIdentified, HasObjects, IsOutlined, IsFirstNoObject, FailsAt, break_of_object, AreAllBreaks, IsBundle, IsBundleRefused}
+use Rattle.stix_bundles.specs.Bundle.{IsObject, HasBundleType, IsIdentified, HasObjects, IsOutlined, IsFirstNoObject, FailsAt, break_of_object, AreAllBreaks, IsBundle, IsBundleRefused}
 use Rattle.stix_bundles.proofs.ObjectsLemmas.{holds_all}
 use Rattle.stix_bundles.proofs.FirstOfLemmas.{first_or_none, object_told, no_object_told}
 
@@ -55,14 +55,14 @@ told_breaks d objects neither outline (first ∷ breaks) are =
 no_outline : SomeList → (d : Data) → IsNeither d → (objects : List Data) → ¬ IsOutlined d objects
 no_outline some d neither objects outline = some_breaks some 0 objects (told_breaks d objects neither outline)
 
-by_members : SomeList → (d : Data) → IsNeither d → IsObject d → IsTyped d → IsIdentified d → (objects : List Data) → HasObjects d objects
+by_members : SomeList → (d : Data) → IsNeither d → IsObject d → HasBundleType d → IsIdentified d → (objects : List Data) → HasObjects d objects
     → All IsObject objects ⊎ ((at : ℕ) × IsFirstNoObject objects at) → ⊥
 by_members some d neither object typed identified objects has (inl members) =
     no_outline some d neither objects (record { is_object = object; typed = typed; identified = identified; listed_are = has; members = members })
 by_members some d neither object typed identified objects has (inr (at, first)) =
     fails_nowhere d neither (codes "objects" ∷ index_part at ∷ []) (refl, object, typed, identified, (objects, has, (at, refl, first)))
 
-not_identified : SomeList → (d : Data) → IsNeither d → IsObject d → IsTyped d → ¬ IsIdentified d
+not_identified : SomeList → (d : Data) → IsNeither d → IsObject d → HasBundleType d → ¬ IsIdentified d
 not_identified some d neither object typed identified =
     fails_nowhere d neither (codes "objects" ∷ []) (
       object,
@@ -74,7 +74,7 @@ not_identified some d neither object typed identified =
       )),
     )
 
-not_typed : SomeList → (d : Data) → IsNeither d → IsObject d → ¬ IsTyped d
+not_typed : SomeList → (d : Data) → IsNeither d → IsObject d → ¬ HasBundleType d
 not_typed some d neither object typed =
     fails_nowhere d neither (codes "id" ∷ []) (object, inr (inl (refl, typed, not_identified some d neither object typed)))
 

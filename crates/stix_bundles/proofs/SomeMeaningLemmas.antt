@@ -5,7 +5,7 @@ use Rattle.std.proofs.lemmas.Option.{slice_get-get_or}
 use Rattle.serde_json.specs.Data.{Data, null}
 use Rattle.stix_ids.specs.declared.id.Id.{Id}
 use Rattle.stix_objects.specs.Properties.{HasId}
-use Rattle.stix_bundles.specs.Lookup.{IsModified, Means}
+use Rattle.stix_bundles.specs.Lookup.{IsModified, ResolvesTo}
 use Rattle.stix_bundles.specs.inner.Index.{Supersedes, IsPositionOf}
 use Rattle.stix_bundles.proofs.TakeLemmas.{taken_before}
 use Rattle.stix_bundles.proofs.LookupLemmas.{OneIdentifier, held_is_resolved}
@@ -46,7 +46,7 @@ position_before one ds id (suc at) within = λ fails.
 some_position : OneModified → (ds : List Data) (id : Id) → HasPosition ds id
 some_position one ds id = subst (λ (objects : List Data). HasPosition objects id) (take-length ds) (position_before one ds id (length ds) (omega arith))
 
-pub some_meaning : OneIdentifier → OneModified → (objects : List Data) (text : List ℕ) → ¬ ((resolved : Option ℕ) → ¬ Means objects text resolved)
+pub some_meaning : OneIdentifier → OneModified → (objects : List Data) (text : List ℕ) → ¬ ((resolved : Option ℕ) → ¬ ResolvesTo objects text resolved)
 some_meaning one_identifier one objects text = λ fails.
     fails None (λ id at reads of.
     some_position one objects id (λ place is. fails place (held_is_resolved one_identifier objects text id reads place is)))

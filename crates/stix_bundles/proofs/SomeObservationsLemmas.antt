@@ -10,13 +10,13 @@ use Rattle.std.proofs.lemmas.Option.{slice_get-get_or, get_or_from_slice_get}
 use Rattle.std.proofs.lemmas.List.Sorted.{IsPermutation-refl, IsPermutation-cons, IsPermutation-trans, IsPermutation-middle}
 use Rattle.serde_json.specs.Data.{Data}
 use Rattle.stix_ids.specs.declared.id.Id.{Id}
-use Rattle.stix_json.specs.Properties.{text_at}
+use Rattle.stix_json.specs.Properties.{property_text}
 use Rattle.stix_objects.specs.Breaks.{AreBreaksOf}
 use Rattle.stix_objects.specs.Sound.{IsNamed, IsTimed}
 use Rattle.stix_bundles.specs.declared.last_time.LastTime.{LastTime}
 use Rattle.stix_bundles.specs.declared.observation.Observation.{Observation}
 use Rattle.stix_bundles.specs.Bundle.{AreAllBreaks}
-use Rattle.stix_bundles.specs.Lookup.{Means}
+use Rattle.stix_bundles.specs.Lookup.{ResolvesTo}
 use Rattle.stix_bundles.specs.Observations.{IsObservedAt, IsObservationAt, AreResolved, references, AreObservations}
 use Rattle.stix_bundles.specs.inner.LastTimes.{IsLastTimeOf, AreLastTimesBefore, AreLastTimes, IsUpTo, AreInOrder, AreObservationsAt}
 use Rattle.stix_bundles.proofs.ObjectsLemmas.{same_some}
@@ -28,9 +28,9 @@ use Rattle.stix_bundles.proofs.ObservationsLemmas.{observations_of}
 -- what an observation rests on
 pub record Laws : Type 0 where
   pub named : (value : Data) → AreBreaksOf value [] → IsNamed value
-  pub timed : (value : Data) → AreBreaksOf value [] → text_at (codes "type") value ≡ Some (codes "observed-data")
+  pub timed : (value : Data) → AreBreaksOf value [] → property_text (codes "type") value ≡ Some (codes "observed-data")
       → IsTimed (codes "first_observed") (codes "last_observed") value
-  pub meaning : (objects : List Data) (text : List ℕ) → ¬ ((resolved : Option ℕ) → ¬ Means objects text resolved)
+  pub meaning : (objects : List Data) (text : List ℕ) → ¬ ((resolved : Option ℕ) → ¬ ResolvesTo objects text resolved)
 
 -- ---- last times
 

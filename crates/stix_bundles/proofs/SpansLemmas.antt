@@ -3,7 +3,7 @@ use Rattle.std.proofs.Common.{◌≡◌, ℕ, ℤ, ◌≤ℤ◌, ◌+◌, List, 
 use Rattle.std.proofs.lemmas.List.Elements.{All-from_get_or, All-map}
 use Rattle.std.proofs.lemmas.Option.{slice_get-get_or}
 use Rattle.serde_json.specs.Data.{Data}
-use Rattle.stix_json.specs.Properties.{text_at}
+use Rattle.stix_json.specs.Properties.{property_text}
 use Rattle.stix_objects.specs.declared.form.Precision.{Precision}
 use Rattle.stix_objects.specs.declared.form.Precision.TheVariants.{Any}
 use Rattle.stix_objects.specs.Breaks.{AreBreaksOf}
@@ -15,7 +15,7 @@ use Rattle.stix_bundles.specs.Observations.{IsObservationAt, ObservationAt, AreO
 use Rattle.stix_bundles.proofs.UnbrokenLemmas.{unbroken_at}
 
 abbrev Timed : Type 0
-Timed = (value : Data) → AreBreaksOf value [] → text_at (codes "type") value ≡ Some (codes "observed-data")
+Timed = (value : Data) → AreBreaksOf value [] → property_text (codes "type") value ≡ Some (codes "observed-data")
     → IsTimed (codes "first_observed") (codes "last_observed") value
 
 abbrev OneTimestamp : Type 0

@@ -7,7 +7,7 @@ use Rattle.serde_json.specs.Find.{get, as_array, as_object}
 use Rattle.stix_ids.specs.declared.id.Id.{Id}
 use Rattle.stix_json.specs.Walk.{path_text, index_part}
 use Rattle.stix_objects.specs.declared.rule_break.Break.{Break}
-use Rattle.stix_json.specs.Properties.{text_at}
+use Rattle.stix_json.specs.Properties.{property_text}
 use Rattle.stix_objects.specs.Breaks.{AreBreaksOf}
 use Rattle.stix_bundles.specs.declared.outline.TheConstants.{MAX_OBJECTS}
 use Rattle.stix_bundles.specs.declared.object_break.ObjectBreak.{ObjectBreak}
@@ -16,16 +16,16 @@ use Rattle.stix_bundles.specs.declared.refusal.BundleRefusal.TheVariants.{NotBun
 use Rattle.stix_objects.specs.Properties.{HasId}
 
 -- the items of a list, one after another
-abbrev pub listed : Items → List Data
-listed no_items = []
-listed (item d ds) = d ∷ listed ds
+abbrev pub items_in_order : Items → List Data
+items_in_order no_items = []
+items_in_order (item d ds) = d ∷ items_in_order ds
 
 abbrev pub IsObject : Data → Type 0
 IsObject d = IsSome (as_object d)
 
 -- its type is `bundle`
-abbrev pub IsTyped : Data → Type 0
-IsTyped d = text_at (codes "type") d ≡ Some (codes "bundle")
+abbrev pub HasBundleType : Data → Type 0
+HasBundleType d = property_text (codes "type") d ≡ Some (codes "bundle")
 
 -- its identifier is of the kind `bundle`
 abbrev pub IsIdentified : Data → Type 0
@@ -35,7 +35,7 @@ IsIdentified d = (id : Id) × HasId d id × (id.kind ≡ codes "bundle")
 pub record IsListOf (value : Data) (members : List Data) : Type 0 where
   pub items : Items
   pub list : as_array value ≡ Some items
-  pub members_are : members ≡ listed items
+  pub members_are : members ≡ items_in_order items
   pub some : 1 ≤ length members
   pub not_too_many : length members ≤ MAX_OBJECTS
 
@@ -46,7 +46,7 @@ HasObjects d objects = MatchOption (get (codes "objects") d) (objects ≡ []) (�
 -- a bundle's outline: the requirements on the bundle apart from those on its objects
 pub record IsOutlined (d : Data) (objects : List Data) : Type 0 where
   pub is_object : IsObject d
-  pub typed : IsTyped d
+  pub typed : HasBundleType d
   pub identified : IsIdentified d
   pub listed_are : HasObjects d objects
   pub members : All IsObject objects
@@ -62,10 +62,10 @@ pub record IsFirstNoObject (objects : List Data) (at : ℕ) : Type 0 where
 abbrev pub FailsAt : Data → List (List ℕ) → Type 0
 FailsAt d [] = ¬ IsObject d
 FailsAt d (name ∷ []) = IsObject d × (
-    ((name ≡ codes "type") × (¬ IsTyped d))
-    ⊎ ((name ≡ codes "id") × IsTyped d × (¬ IsIdentified d))
-    ⊎ ((name ≡ codes "objects") × IsTyped d × IsIdentified d × ((objects : List Data) → ¬ HasObjects d objects)))
-FailsAt d (name ∷ place ∷ []) = (name ≡ codes "objects") × IsObject d × IsTyped d × IsIdentified d
+    ((name ≡ codes "type") × (¬ HasBundleType d))
+    ⊎ ((name ≡ codes "id") × HasBundleType d × (¬ IsIdentified d))
+    ⊎ ((name ≡ codes "objects") × HasBundleType d × IsIdentified d × ((objects : List Data) → ¬ HasObjects d objects)))
+FailsAt d (name ∷ place ∷ []) = (name ≡ codes "objects") × IsObject d × HasBundleType d × IsIdentified d
     × ((objects : List Data) × HasObjects d objects × ((at : ℕ) × (place ≡ index_part at) × IsFirstNoObject objects at))
 FailsAt d (name ∷ place ∷ more ∷ parts) = ⊥
 

@@ -5,7 +5,7 @@ use Rattle.std.specs.Prelude.{◌≡◌, ◌⊎◌, ⊤, ℕ, ◌≤◌, ℤ, �
 use Rattle.serde_json.specs.Data.{Data}
 use Rattle.flow_values.specs.Answers.{FindsExactly}
 use Rattle.stix_ids.specs.declared.id.Id.{Id}
-use Rattle.stix_ids.specs.Identifier.{IsTextOf}
+use Rattle.stix_ids.specs.Identifier.{IsTextOfId}
 use Rattle.stix_objects.specs.declared.form.Precision.TheVariants.{Millis}
 use Rattle.stix_objects.specs.Properties.{IsTimestampAt, HasId}
 
@@ -43,6 +43,6 @@ pub record IsLatest (objects : List Data) (id : Id) (at : ℕ) : Type 0 where
 
 -- the position that a text resolves to: the latest version of its identifier, and none without a
 -- version
-abbrev pub Means : List Data → List ℕ → Option ℕ → Type 0
-Means objects text None = (id : Id) (at : ℕ) → IsTextOf text id → ¬ IsOf objects id at
-Means objects text (Some at) = (id : Id) × IsTextOf text id × IsLatest objects id at
+abbrev pub ResolvesTo : List Data → List ℕ → Option ℕ → Type 0
+ResolvesTo objects text None = (id : Id) (at : ℕ) → IsTextOfId text id → ¬ IsOf objects id at
+ResolvesTo objects text (Some at) = (id : Id) × IsTextOfId text id × IsLatest objects id at

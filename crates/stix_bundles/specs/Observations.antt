@@ -4,26 +4,26 @@ use Rattle.std.specs.Prelude.{◌≡◌, ◌⊎◌, ℕ, ◌+◌, ◌<◌, ◌<�
 use Rattle.std.specs.Option.{option_map_or}
 use Rattle.serde_json.specs.Data.{Data}
 use Rattle.serde_json.specs.Find.{get, as_array, as_str}
-use Rattle.stix_json.specs.Properties.{text_at}
+use Rattle.stix_json.specs.Properties.{property_text}
 use Rattle.stix_bundles.specs.declared.observation.Observation.{Observation}
 use Rattle.stix_bundles.specs.declared.observation.ObservationRefusal.{ObservationRefusal}
 use Rattle.stix_bundles.specs.declared.observation.ObservationRefusal.TheVariants.{EmbeddedObjects, NoMemory}
 use Rattle.stix_objects.specs.declared.form.Precision.TheVariants.{Any}
 use Rattle.stix_objects.specs.Properties.{IsTimestampAt, HasId}
-use Rattle.stix_bundles.specs.Bundle.{listed}
-use Rattle.stix_bundles.specs.Lookup.{Means}
+use Rattle.stix_bundles.specs.Bundle.{items_in_order}
+use Rattle.stix_bundles.specs.Lookup.{ResolvesTo}
 
 -- it is an observed-data
 abbrev pub IsObservedData : Data → Type 0
-IsObservedData d = text_at (codes "type") d ≡ Some (codes "observed-data")
+IsObservedData d = property_text (codes "type") d ≡ Some (codes "observed-data")
 
 -- whether it is an observed-data
 abbrev pub is_observed_data : Data → Bool
-is_observed_data d = option_map_or (λ type. bytes_eq type (codes "observed-data")) (text_at (codes "type") d) false
+is_observed_data d = option_map_or (λ type. bytes_eq type (codes "observed-data")) (property_text (codes "type") d) false
 
 -- the number of observed-data objects
-abbrev pub how_many : List Data → ℕ
-how_many objects = count_by is_observed_data objects
+abbrev pub observation_count : List Data → ℕ
+observation_count objects = count_by is_observed_data objects
 
 -- the object at the position is an observed-data
 pub record IsObservedAt (objects : List Data) (at : ℕ) : Type 0 where
@@ -52,13 +52,13 @@ NoneEmbeds objects = (at : ℕ) → ¬ EmbedsAt objects at
 
 -- the texts of its `object_refs`
 abbrev pub references : Data → List (List ℕ)
-references d = filter_map as_str (option_map_or listed (option_and_then as_array (get (codes "object_refs") d)) [])
+references d = filter_map as_str (option_map_or items_in_order (option_and_then as_array (get (codes "object_refs") d)) [])
 
 -- the positions that the texts resolve to, in order, and none for a text that doesn't resolve
 abbrev pub AreResolved : List Data → List (List ℕ) → List ℕ → Type 0
 AreResolved objects [] places = places ≡ []
 AreResolved objects (text ∷ texts) places = (place : Option ℕ) × (rest : List ℕ)
-    × Means objects text place × AreResolved objects texts rest × (places ≡ option_to_list place ++ rest)
+    × ResolvesTo objects text place × AreResolved objects texts rest × (places ≡ option_to_list place ++ rest)
 
 -- the observation of the observed-data at the position, with this number
 pub record IsObservationAt (objects : List Data) (at number : ℕ) (observation : Observation) : Type 0 where

@@ -9,7 +9,7 @@ ghost use Rattle.stix_ids.specs.PartsOf.{id_of};
 ghost use Rattle.stix_bundles.specs.Objects.{data_in};
 ghost use Rattle.stix_bundles.specs.Lookup.{IsEarlier, IsOf, IsLatest};
 ghost use Rattle.stix_bundles.specs.declared.outline.TheConstants.{MAX_OBJECTS};
-ghost use Rattle.stix_bundles.specs.inner.Index.{IsPositionOf, ArePositionsOf, IsIndexOf};
+ghost use Rattle.stix_bundles.specs.inner.Index.{IsPositionOf, ArePositionsOf, IsIndexOfObjects};
 ghost use Rattle.stix_bundles.specs.inner.Index.{Supersedes};
 
 use crate::index::{Index, MAX_UNINDEXED_OBJECTS};
@@ -28,7 +28,7 @@ use stix_times::laws::is_before;
 /// Builds the index of these objects.
 pub(crate) fn index_of(alloc: Global, objects: &[Json]) -> Result<Index, NoMemory>
     requires { length objects.now ≤ MAX_OBJECTS }
-    ensures { IfOk result (IsIndexOf (data_in objects.now)) }
+    ensures { IfOk result (IsIndexOfObjects (data_in objects.now)) }
 {
     if objects.len() <= MAX_UNINDEXED_OBJECTS {
         return Ok(Index::Unindexed);

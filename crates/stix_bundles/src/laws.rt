@@ -5,12 +5,12 @@ ghost use Rattle.std.specs.Prelude.{◌≡◌, ◌⊎◌, ℕ, ℤ, List, [], Op
 ghost use Rattle.std.specs.Prelude.{◌≤ℤ◌};
 ghost use Rattle.serde_json.specs.Data.{Data};
 ghost use Rattle.stix_ids.specs.declared.id.Id.{Id};
-ghost use Rattle.stix_ids.specs.Identifier.{IsTextOf};
+ghost use Rattle.stix_ids.specs.Identifier.{IsTextOfId};
 ghost use Rattle.stix_bundles.specs.declared.refusal.BundleRefusal.{BundleRefusal};
 ghost use Rattle.stix_bundles.specs.Bundle.{AreAllBreaks, IsBundle, IsBundleRefused};
 ghost use Rattle.stix_bundles.specs.declared.observation.Observation.{Observation};
 ghost use Rattle.stix_bundles.specs.Observations.{AreObservations, NoneEmbeds, IsFirstEmbedding};
-ghost use Rattle.stix_bundles.specs.Lookup.{IsModified, IsOf, Means};
+ghost use Rattle.stix_bundles.specs.Lookup.{IsModified, IsOf, ResolvesTo};
 
 use stix_ids::laws::one_identifier;
 use stix_objects::laws::{no_breaks, one_id, one_list, one_timestamp, some_list};
@@ -27,12 +27,12 @@ pub fn one_modified()
 /// one. The text of an object's own identifier resolves to some position.
 pub fn one_meaning()
     ensures one { (objects : List Data) (text : List ℕ) (first second : Option ℕ)
-        → Means objects text first → Means objects text second → first ≡ second }
+        → ResolvesTo objects text first → ResolvesTo objects text second → first ≡ second }
     ensures same { (objects : List Data) (id : Id) (text other : List ℕ) (resolved : Option ℕ)
-        → IsTextOf text id → IsTextOf other id → Means objects text resolved
-        → Means objects other resolved }
+        → IsTextOfId text id → IsTextOfId other id → ResolvesTo objects text resolved
+        → ResolvesTo objects other resolved }
     ensures own { (objects : List Data) (id : Id) (at : ℕ) (text : List ℕ) → IsOf objects id at
-        → IsTextOf text id → ¬ Means objects text None }
+        → IsTextOfId text id → ¬ ResolvesTo objects text None }
 {
     one_identifier();
     one_modified();
@@ -41,7 +41,7 @@ pub fn one_meaning()
 /// Every text resolves to a position or to none.
 pub fn some_meaning()
     ensures { (objects : List Data) (text : List ℕ)
-        → ¬ ((resolved : Option ℕ) → ¬ Means objects text resolved) }
+        → ¬ ((resolved : Option ℕ) → ¬ ResolvesTo objects text resolved) }
 {
     one_identifier();
     one_modified();

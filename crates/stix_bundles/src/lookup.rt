@@ -1,5 +1,5 @@
 ghost use Rattle.stix_bundles.specs.Objects.{data_in};
-ghost use Rattle.stix_bundles.specs.Lookup.{Means};
+ghost use Rattle.stix_bundles.specs.Lookup.{ResolvesTo};
 
 use crate::Bundle;
 use stix_ids::IdRef;
@@ -9,7 +9,7 @@ use stix_ids::laws::one_identifier;
 /// identifier, or the bundle has no such object. Logarithmic in the number of identifiers.
 /// Allocates nothing.
 pub fn find(bundle: &Bundle, text: &str) -> Option<u32>
-    ensures { Means (data_in bundle.now) text.now result }
+    ensures { ResolvesTo (data_in bundle.now) text.now result }
 {
     one_identifier();
     match IdRef::read(text) {

@@ -7,8 +7,9 @@ ghost use Rattle.stix_objects.specs.declared.form.Precision.TheVariants.{Any};
 ghost use Rattle.stix_bundles.specs.Objects.{data_in};
 ghost use Rattle.stix_bundles.specs.declared.outline.TheConstants.{MAX_OBJECTS};
 ghost use Rattle.stix_objects.specs.Properties.{IsTimestampAt, HasId};
-ghost use Rattle.stix_bundles.specs.Lookup.{Means};
-ghost use Rattle.stix_bundles.specs.Observations.{how_many, NoneEmbeds, Embeds, IsFirstEmbedding};
+ghost use Rattle.stix_bundles.specs.Lookup.{ResolvesTo};
+ghost use Rattle.stix_bundles.specs.Observations.{observation_count, NoneEmbeds, Embeds};
+ghost use Rattle.stix_bundles.specs.Observations.{IsFirstEmbedding};
 ghost use Rattle.stix_bundles.specs.Observations.{IsObservedData, references, AreResolved};
 ghost use Rattle.stix_bundles.specs.Observations.{IsObservationAt, AreObservations, AreRefused};
 ghost use Rattle.stix_bundles.specs.inner.LastTimes.{IsLastTimeOf, AreObservationsAt};
@@ -34,10 +35,10 @@ pub fn observations(
     bundle: &Bundle,
     first: u64,
 ) -> Result<Items<Observation>, ObservationRefusal>
-    requires { first + how_many (data_in bundle.now) ≤ 2 ^ 64 }
+    requires { first + observation_count (data_in bundle.now) ≤ 2 ^ 64 }
     ensures ok { IfOk result (AreObservations (data_in bundle.now) first) }
     ensures counted { IfOk result (λ observations. length observations
-        ≡ how_many (data_in bundle.now)) }
+        ≡ observation_count (data_in bundle.now)) }
     ensures whole { OnOk result (NoneEmbeds (data_in bundle.now)) }
     ensures err { IfErr result (AreRefused (data_in bundle.now)) }
 {
@@ -52,10 +53,10 @@ pub fn observations(
 
 /// The observations of a bundle, whether or not some observed-data embeds its objects.
 fn all_observed(alloc: Global, bundle: &Bundle, first: u64) -> Result<Items<Observation>, NoMemory>
-    requires { first + how_many (data_in bundle.now) ≤ 2 ^ 64 }
+    requires { first + observation_count (data_in bundle.now) ≤ 2 ^ 64 }
     ensures ok { IfOk result (AreObservations (data_in bundle.now) first) }
     ensures counted { IfOk result (λ observations. length observations
-        ≡ how_many (data_in bundle.now)) }
+        ≡ observation_count (data_in bundle.now)) }
 {
     let last_times = last_times_in_order(alloc, bundle.objects())?;
     observed(alloc, bundle, first, last_times.as_slice())
@@ -177,7 +178,7 @@ fn resolved(alloc: Global, bundle: &Bundle, items: &[Json]) -> Result<Items<u32>
 /// The position that an item resolves to, if it is a text.
 fn place_of(bundle: &Bundle, item: &Json) -> Option<u32>
     ensures { MatchOption (as_str (data_of item.now)) (result ≡ None)
-        (λ text. Means (data_in bundle.now) text result) }
+        (λ text. ResolvesTo (data_in bundle.now) text result) }
 {
     match item {
         Json::String(text) => find(bundle, text.as_str()),

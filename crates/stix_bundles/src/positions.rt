@@ -1,7 +1,7 @@
 ghost use Rattle.std.specs.Prelude.{◌≡◌, ◌≢◌, Some, None, OnOk};
 ghost use Rattle.stix_ids.specs.declared.id.Id.{Id};
 ghost use Rattle.stix_ids.specs.PartsOf.{id_of};
-ghost use Rattle.stix_bundles.specs.inner.Index.{position_of, Puts};
+ghost use Rattle.stix_bundles.specs.inner.Index.{position_of, PutsPosition};
 
 use flow_values::NoMemory;
 use std::alloc::Global;
@@ -34,7 +34,7 @@ impl Positions {
 
     /// Sets the position of an identifier, and replaces an earlier one.
     pub(crate) fn put(&mut self, alloc: Global, id: IdRef<'_>, at: u32) -> Result<(), NoMemory>
-        ensures { OnOk result (Puts self.old self.new (id_of id.entry) at) }
+        ensures { OnOk result (PutsPosition self.old self.new (id_of id.entry) at) }
     {
         if let Some(numbers) = self.kinds.get_mut(id.kind) {
             numbers.insert(id.number, at)?;

@@ -1,8 +1,8 @@
 ghost use Rattle.std.specs.Prelude.{◌≡◌, ◌≢◌, IsOkAnd, IfOk, IfErr, IfSome, IfNone};
 ghost use Rattle.stix_ids.specs.declared.refusal.IdRefusal.TheVariants.{NoMemory as OutOfMemory};
 ghost use Rattle.stix_ids.specs.declared.id.Id.{Id as Identifier};
-ghost use Rattle.stix_ids.specs.Identifier.{IsCut, HasSeparator, IsTextOf};
-ghost use Rattle.stix_ids.specs.Reading.{IsRefused};
+ghost use Rattle.stix_ids.specs.Identifier.{IsSplitId, HasSeparator, IsTextOfId};
+ghost use Rattle.stix_ids.specs.Reading.{IsRefusedId};
 ghost use Rattle.stix_ids.specs.PartsOf.{id_of};
 
 use crate::hyphenated::read_number;
@@ -24,9 +24,9 @@ pub struct IdRef<'a> {
 impl<'a> IdRef<'a> {
     /// Reads an identifier without an allocation, so it never returns `NoMemory`.
     pub fn read(text: &'a str) -> Result<IdRef<'a>, IdRefusal>
-        ensures ok { IfOk result (λ parts. IsTextOf text.now (id_of parts)) }
-        ensures err { IfErr result (λ refusal. (refusal ≢ OutOfMemory) × IsRefused text.now refusal) }
-        ensures named { (id : Identifier) → IsTextOf text.now id
+        ensures ok { IfOk result (λ parts. IsTextOfId text.now (id_of parts)) }
+        ensures err { IfErr result (λ refusal. (refusal ≢ OutOfMemory) × IsRefusedId text.now refusal) }
+        ensures named { (id : Identifier) → IsTextOfId text.now id
             → IsOkAnd result (λ parts. id_of parts ≡ id) }
     {
         let Some((kind, last)) = split_at_separator(text) else {
@@ -55,7 +55,7 @@ impl<'a> IdRef<'a> {
 
 /// Splits a text into what precedes the `--` and the last 36 bytes, which follow it.
 fn split_at_separator(text: &str) -> Option<(&str, &[u8])>
-    ensures some { IfSome result (λ cut. IsCut text.now cut.0.now cut.1.now) }
+    ensures some { IfSome result (λ cut. IsSplitId text.now cut.0.now cut.1.now) }
     ensures none { IfNone result (¬ HasSeparator text.now) }
 {
     let at = text.len().checked_sub(SUFFIX_LENGTH)?;

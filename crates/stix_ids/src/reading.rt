@@ -2,8 +2,8 @@ ghost use Rattle.std.specs.Prelude.{◌≡◌, ◌≢◌, ◌⊎◌, ◌↔◌, 
 ghost use Rattle.stix_ids.specs.declared.id.Id.{Id};
 ghost use Rattle.stix_ids.specs.declared.refusal.IdRefusal.{IdRefusal};
 ghost use Rattle.stix_ids.specs.declared.refusal.IdRefusal.TheVariants.{NoMemory};
-ghost use Rattle.stix_ids.specs.Identifier.{IsTextOf, IsOfKind};
-ghost use Rattle.stix_ids.specs.Reading.{IsRefused};
+ghost use Rattle.stix_ids.specs.Identifier.{IsTextOfId, IsOfKind};
+ghost use Rattle.stix_ids.specs.Reading.{IsRefusedId};
 
 use crate::parts::IdRef;
 use crate::{Id, IdRefusal};
@@ -13,12 +13,12 @@ use std::alloc::Global;
 /// `NoMemory` only if the text is an identifier: a bad text is reported as such even without
 /// memory.
 pub fn read_id(alloc: Global, text: &str) -> Result<Id, IdRefusal>
-    ensures ok { IfOk result (IsTextOf text.now) }
-    ensures err { IfErr result (IsRefused text.now) }
+    ensures ok { IfOk result (IsTextOfId text.now) }
+    ensures err { IfErr result (IsRefusedId text.now) }
     // Completeness: every identifier is accepted, unless memory runs out.
-    ensures named { (id : Id) → IsTextOf text.now id → (result ≡ Ok id) ⊎ (result ≡ Err NoMemory) }
+    ensures named { (id : Id) → IsTextOfId text.now id → (result ≡ Ok id) ⊎ (result ≡ Err NoMemory) }
     // The refusal is exact: a refusal that applies to the text is the one returned.
-    ensures refused { (refusal : IdRefusal) → refusal ≢ NoMemory → IsRefused text.now refusal
+    ensures refused { (refusal : IdRefusal) → refusal ≢ NoMemory → IsRefusedId text.now refusal
         → result ≡ Err refusal }
 {
     Ok(IdRef::read(text)?.to_id(alloc)?)
@@ -36,7 +36,7 @@ pub fn is_of_kind(text: &str, kind: &str) -> bool
 
 /// Whether the text is this identifier. Allocates nothing.
 pub fn is_text_of(id: &Id, text: &str) -> bool
-    ensures { IsTrue result ↔ IsTextOf text.now id.now }
+    ensures { IsTrue result ↔ IsTextOfId text.now id.now }
 {
     match IdRef::read(text) {
         Ok(parts) => parts.number == id.number && parts.kind == id.kind.as_str(),

@@ -1,6 +1,6 @@
 ghost use Rattle.std.specs.Prelude.{IfOk};
 ghost use Rattle.stix_ids.specs.Kind.{IsKind};
-ghost use Rattle.stix_ids.specs.Identifier.{IsCanonicalTextOf};
+ghost use Rattle.stix_ids.specs.Identifier.{IsCanonicalIdText};
 
 use crate::Id;
 use crate::hyphenated::write_uuid;
@@ -11,7 +11,7 @@ use std::alloc::Global;
 /// The canonical text of the identifier, with lower-case digits. Allocates once.
 pub fn write_id(alloc: Global, id: &Id) -> Result<Text, NoMemory>
     requires { IsKind id.now.kind }
-    ensures { IfOk result (λ text. IsCanonicalTextOf text id.now) }
+    ensures { IfOk result (λ text. IsCanonicalIdText text id.now) }
 {
     let kind = id.kind.as_str();
     let mut buffer = [0; 36];

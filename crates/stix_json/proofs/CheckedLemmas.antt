@@ -25,13 +25,13 @@ use Rattle.stix_json.specs.declared.checked.Checked.TheVariants.{Good, Bad}
 use Rattle.stix_json.specs.declared.value.Field.{Field}
 use Rattle.stix_json.specs.DataOf.{Member, members_of, data_of, field_data}
 use Rattle.stix_json.specs.Walk.{index_part}
-use Rattle.stix_json.specs.inner.FirstErrors.{first_error_under, first_of, first_error, items_first_error, members_first_error}
+use Rattle.stix_json.specs.inner.FirstErrors.{first_error_under, deciding_error, first_error, items_first_error, members_first_error}
 use Rattle.stix_json.specs.inner.Insertion.{insert_named}
-use Rattle.stix_json.specs.inner.Checking.{IsCheckedAs, AreElements, AreFields, AreRawMembers, IsReadError, name_of}
+use Rattle.stix_json.specs.inner.Checking.{IsCheckedAs, AreElements, AreFields, AreRawMembers, IsReadError, member_name}
 use Rattle.stix_json.proofs.FirstErrorLemmas.{sooner_none, list_first_error_push, members_first_error_push}
 use Rattle.stix_json.proofs.ValueErrorsLemmas.{map_pushed, data_of-Array, data_of-Object}
 
-still_some : (a : Option FirstError) (f : FirstError) → first_of a (Some f) ≡ None → ⊥
+still_some : (a : Option FirstError) (f : FirstError) → deciding_error a (Some f) ≡ None → ⊥
 still_some None f is = cc
 still_some (Some (Deep location)) f is = cc
 still_some (Some (InvalidValue value_error)) (Deep location) is = cc
@@ -46,7 +46,7 @@ counted done d = length-append done (d ∷ [])
 pub elements_good : (levels : ℕ) (done : List Data) (d : Data) (old new : Elements) (item : Json) → AreElements levels done old → first_error levels d ≡ None → data_of item ≡ d
     → new.first_error ≡ old.first_error → new.len ≡ old.len + 1 → (old.first_error ≡ None → new.items.items ≡ old.items.items ++ item ∷ []) → AreElements levels (done ++ d ∷ []) new
 elements_good levels done d old new item is good same kept len items = record {
-  found = kept ∙ is.found ∙ sym (list_first_error_push levels done d ∙ ap (λ (o : Option FirstError). first_of (items_first_error levels 0 (items_of done)) (option_map (first_error_under (index_part (length done))) o)) good ∙ sooner_none (items_first_error levels 0 (items_of done)));
+  found = kept ∙ is.found ∙ sym (list_first_error_push levels done d ∙ ap (λ (o : Option FirstError). deciding_error (items_first_error levels 0 (items_of done)) (option_map (first_error_under (index_part (length done))) o)) good ∙ sooner_none (items_first_error levels 0 (items_of done)));
   good = λ none.
       let before : old.first_error ≡ None = sym kept ∙ none in
       ap (map data_of) (items before) ∙ map_pushed data_of old.items.items item ∙ ap (λ (ds : List Data). ds ++ data_of item ∷ []) (is.good before) ∙ ap (λ (e : Data). done ++ e ∷ []) same;
@@ -55,10 +55,10 @@ elements_good levels done d old new item is good same kept len items = record {
 
 -- an item more against which this stands first
 pub elements_bad : (levels : ℕ) (done : List Data) (d : Data) (old new : Elements) (f : FirstError) → AreElements levels done old → first_error levels d ≡ Some f
-    → new.first_error ≡ first_of old.first_error (Some (first_error_under (index_part old.len) f)) → new.len ≡ old.len + 1 → AreElements levels (done ++ d ∷ []) new
+    → new.first_error ≡ deciding_error old.first_error (Some (first_error_under (index_part old.len) f)) → new.len ≡ old.len + 1 → AreElements levels (done ++ d ∷ []) new
 elements_bad levels done d old new f is bad noted len = record {
-  found = noted ∙ ap (λ (n : ℕ). first_of old.first_error (Some (first_error_under (index_part n) f))) is.count ∙ ap (λ (o : Option FirstError). first_of o (Some (first_error_under (index_part (length done)) f))) is.found
-      ∙ sym (list_first_error_push levels done d ∙ ap (λ (o : Option FirstError). first_of (items_first_error levels 0 (items_of done)) (option_map (first_error_under (index_part (length done))) o)) bad);
+  found = noted ∙ ap (λ (n : ℕ). deciding_error old.first_error (Some (first_error_under (index_part n) f))) is.count ∙ ap (λ (o : Option FirstError). deciding_error o (Some (first_error_under (index_part (length done)) f))) is.found
+      ∙ sym (list_first_error_push levels done d ∙ ap (λ (o : Option FirstError). deciding_error (items_first_error levels 0 (items_of done)) (option_map (first_error_under (index_part (length done))) o)) bad);
   good = λ none. absurd (still_some old.first_error (first_error_under (index_part old.len) f) (sym noted ∙ none));
   count = len ∙ ap (λ (n : ℕ). n + 1) is.count ∙ sym (counted done d);
 }
@@ -70,18 +70,18 @@ pub fields_good : (levels : ℕ) (done : List Member) (d : Data) (name : List �
     → AreFields levels (done ++ record { name = name; value = d } ∷ []) new
 fields_good levels done d name old new field are good same kept fields =
     let m : Member = record { name = name; value = d } in record {
-      found = kept ∙ are.found ∙ sym (members_first_error_push levels done m ∙ ap (λ (o : Option FirstError). first_of (members_first_error levels (members_of done)) (option_map (first_error_under name) o)) good ∙ sooner_none (members_first_error levels (members_of done)));
+      found = kept ∙ are.found ∙ sym (members_first_error_push levels done m ∙ ap (λ (o : Option FirstError). deciding_error (members_first_error levels (members_of done)) (option_map (first_error_under name) o)) good ∙ sooner_none (members_first_error levels (members_of done)));
       good = λ none.
           let before : old.first_error ≡ None = sym kept ∙ none in
           ap (map field_data) (fields before) ∙ map_pushed field_data old.fields.items field ∙ ap (λ (ms : List Member). ms ++ field_data field ∷ []) (are.good before) ∙ ap (λ (n : Member). done ++ n ∷ []) same;
     }
 
 pub fields_bad : (levels : ℕ) (done : List Member) (d : Data) (name : List ℕ) (old new : Fields) (f : FirstError) → AreFields levels done old → first_error levels d ≡ Some f
-    → new.first_error ≡ first_of old.first_error (Some (first_error_under name f)) → AreFields levels (done ++ record { name = name; value = d } ∷ []) new
+    → new.first_error ≡ deciding_error old.first_error (Some (first_error_under name f)) → AreFields levels (done ++ record { name = name; value = d } ∷ []) new
 fields_bad levels done d name old new f are bad noted =
     let m : Member = record { name = name; value = d } in record {
-      found = noted ∙ ap (λ (o : Option FirstError). first_of o (Some (first_error_under name f))) are.found
-          ∙ sym (members_first_error_push levels done m ∙ ap (λ (o : Option FirstError). first_of (members_first_error levels (members_of done)) (option_map (first_error_under name) o)) bad);
+      found = noted ∙ ap (λ (o : Option FirstError). deciding_error o (Some (first_error_under name f))) are.found
+          ∙ sym (members_first_error_push levels done m ∙ ap (λ (o : Option FirstError). deciding_error (members_first_error levels (members_of done)) (option_map (first_error_under name) o)) bad);
       good = λ none. absurd (still_some old.first_error (first_error_under name f) (sym noted ∙ none));
     }
 
@@ -99,16 +99,16 @@ equal_names : (k l : List ℕ) → slice_cmp nat_cmp k l ≡ Equal → k ≡ l
 equal_names k l is = (bytes_eq-Decides k l).0 (sym (is_eq-slice_cmp k l) ∙ ap is_eq is)
 
 insert_at : (levels : ℕ) (k l : List ℕ) (d e : Data) (ms : Members) (g h : RawMember) (gs : List RawMember) → g.name ≡ k → h.name ≡ l → IsCheckedAs levels d g.checked
-    → AreRawMembers levels (member l e ms) (h ∷ gs) → AreRawMembers levels (put k d ms) (insert_named name_of g gs)
-    → AreRawMembers levels (put k d (member l e ms)) (insert_named name_of g (h ∷ gs))
+    → AreRawMembers levels (member l e ms) (h ∷ gs) → AreRawMembers levels (put k d ms) (insert_named member_name g gs)
+    → AreRawMembers levels (put k d (member l e ms)) (insert_named member_name g (h ∷ gs))
 insert_at levels k l d e ms g h gs named called its are rest =
-    subst (λ (o : Ordering). AreRawMembers levels (put k d (member l e ms)) (match_ordering o (g ∷ h ∷ gs) (g ∷ gs) (h ∷ insert_named name_of g gs)))
+    subst (λ (o : Ordering). AreRawMembers levels (put k d (member l e ms)) (match_ordering o (g ∷ h ∷ gs) (g ∷ gs) (h ∷ insert_named member_name g gs)))
     (ap (λ (n : List ℕ). slice_cmp nat_cmp n l) (sym named) ∙ ap (λ (n : List ℕ). slice_cmp nat_cmp g.name n) (sym called))
-    (insert_by levels (slice_cmp nat_cmp k l) k l d e ms (put k d ms) g h gs (insert_named name_of g gs) named its are rest (equal_names k l))
+    (insert_by levels (slice_cmp nat_cmp k l) k l d e ms (put k d ms) g h gs (insert_named member_name g gs) named its are rest (equal_names k l))
 
 -- a member more
 pub gathered_insert : (levels : ℕ) (k : List ℕ) (d : Data) (ms : Members) (g : RawMember) (gs : List RawMember) → g.name ≡ k → IsCheckedAs levels d g.checked
-    → AreRawMembers levels ms gs → AreRawMembers levels (put k d ms) (insert_named name_of g gs)
+    → AreRawMembers levels ms gs → AreRawMembers levels (put k d ms) (insert_named member_name g gs)
 gathered_insert levels k d no_members g [] named its are = (named, its, tt)
 gathered_insert levels k d no_members g (h ∷ gs) named its are = absurd are
 gathered_insert levels k d (member l e ms) g [] named its are = absurd are

@@ -10,17 +10,17 @@ use Rattle.stix_json.specs.declared.first_error.FirstError.{FirstError}
 use Rattle.stix_json.specs.declared.first_error.FirstError.TheVariants.{TooDeep as Deep, InvalidValue}
 use Rattle.stix_json.specs.declared.refusal.JsonRefusal.{JsonRefusal}
 use Rattle.stix_json.specs.DataOf.{Member, members_of}
-use Rattle.stix_json.specs.Refusal.{refusal_of}
+use Rattle.stix_json.specs.Refusal.{data_refusal}
 use Rattle.stix_json.specs.declared.refusal.JsonRefusal.TheVariants.{NotJson, TooDeep, NotWhole, Null, OutOfRange, NotList, NoMemory}
 use Rattle.stix_json.specs.Reading.{IsRefusalOf, IsValueOf, IsJsonRefusedAs}
 use Rattle.stix_json.specs.Walk.{index_part}
-use Rattle.stix_json.specs.inner.ValueErrors.{under, path_of, value_error_under, first_value_error, items_value_error, members_value_error, too_deep, items_too_deep, members_too_deep, number_value_error, value_error_here}
-use Rattle.stix_json.specs.inner.FirstErrors.{first_error_under, first_of, first_error, items_first_error, members_first_error, refusal_of_first_error}
+use Rattle.stix_json.specs.inner.ValueErrors.{location_under, location_path, value_error_under, first_value_error, items_value_error, members_value_error, too_deep, items_too_deep, members_too_deep, number_value_error, value_error_here}
+use Rattle.stix_json.specs.inner.FirstErrors.{first_error_under, deciding_error, first_error, items_first_error, members_first_error, refusal_of_first_error}
 use Rattle.stix_json.proofs.WalkLemmas.{deep_refused, value_error_refused, nothing_refused}
 
 -- ---- what counts
 
-pub sooner_again : (a b c : Option FirstError) → first_of (first_of a b) c ≡ first_of a (first_of b c)
+pub sooner_again : (a b c : Option FirstError) → deciding_error (deciding_error a b) c ≡ deciding_error a (deciding_error b c)
 sooner_again None b c = refl
 sooner_again (Some (Deep location)) b c = refl
 sooner_again (Some (InvalidValue value_error)) None c = refl
@@ -29,7 +29,7 @@ sooner_again (Some (InvalidValue value_error)) (Some (InvalidValue later)) None 
 sooner_again (Some (InvalidValue value_error)) (Some (InvalidValue later)) (Some (Deep location)) = refl
 sooner_again (Some (InvalidValue value_error)) (Some (InvalidValue later)) (Some (InvalidValue last)) = refl
 
-pub sooner_none : (a : Option FirstError) → first_of a None ≡ a
+pub sooner_none : (a : Option FirstError) → deciding_error a None ≡ a
 sooner_none None = refl
 sooner_none (Some (Deep location)) = refl
 sooner_none (Some (InvalidValue value_error)) = refl
@@ -40,24 +40,24 @@ next_place : (at n : ℕ) → (at + 1) + n ≡ at + suc n
 next_place at n = omega arith
 
 items_first_error_push : (levels at : ℕ) (ds : List Data) (d : Data)
-    → items_first_error levels at (items_of (ds ++ d ∷ [])) ≡ first_of (items_first_error levels at (items_of ds)) (option_map (first_error_under (index_part (at + length ds))) (first_error levels d))
+    → items_first_error levels at (items_of (ds ++ d ∷ [])) ≡ deciding_error (items_first_error levels at (items_of ds)) (option_map (first_error_under (index_part (at + length ds))) (first_error levels d))
 items_first_error_push levels at [] d =
     sooner_none (option_map (first_error_under (index_part at)) (first_error levels d)) ∙ ap (λ (n : ℕ). option_map (first_error_under (index_part n)) (first_error levels d)) (omega arith)
 items_first_error_push levels at (e ∷ ds) d =
-    ap (first_of (option_map (first_error_under (index_part at)) (first_error levels e))) (items_first_error_push levels (at + 1) ds d)
+    ap (deciding_error (option_map (first_error_under (index_part at)) (first_error levels e))) (items_first_error_push levels (at + 1) ds d)
     ∙ sym (sooner_again (option_map (first_error_under (index_part at)) (first_error levels e)) (items_first_error levels (at + 1) (items_of ds)) (option_map (first_error_under (index_part ((at + 1) + length ds))) (first_error levels d)))
-    ∙ ap (λ (n : ℕ). first_of (items_first_error levels at (items_of (e ∷ ds))) (option_map (first_error_under (index_part n)) (first_error levels d))) (next_place at (length ds))
+    ∙ ap (λ (n : ℕ). deciding_error (items_first_error levels at (items_of (e ∷ ds))) (option_map (first_error_under (index_part n)) (first_error levels d))) (next_place at (length ds))
 
 pub list_first_error_push : (levels : ℕ) (ds : List Data) (d : Data)
-    → items_first_error levels 0 (items_of (ds ++ d ∷ [])) ≡ first_of (items_first_error levels 0 (items_of ds)) (option_map (first_error_under (index_part (length ds))) (first_error levels d))
+    → items_first_error levels 0 (items_of (ds ++ d ∷ [])) ≡ deciding_error (items_first_error levels 0 (items_of ds)) (option_map (first_error_under (index_part (length ds))) (first_error levels d))
 list_first_error_push levels ds d =
-    items_first_error_push levels 0 ds d ∙ ap (λ (n : ℕ). first_of (items_first_error levels 0 (items_of ds)) (option_map (first_error_under (index_part n)) (first_error levels d))) (omega arith)
+    items_first_error_push levels 0 ds d ∙ ap (λ (n : ℕ). deciding_error (items_first_error levels 0 (items_of ds)) (option_map (first_error_under (index_part n)) (first_error levels d))) (omega arith)
 
 pub members_first_error_push : (levels : ℕ) (ms : List Member) (m : Member)
-    → members_first_error levels (members_of (ms ++ m ∷ [])) ≡ first_of (members_first_error levels (members_of ms)) (option_map (first_error_under m.name) (first_error levels m.value))
+    → members_first_error levels (members_of (ms ++ m ∷ [])) ≡ deciding_error (members_first_error levels (members_of ms)) (option_map (first_error_under m.name) (first_error levels m.value))
 members_first_error_push levels [] m = sooner_none (option_map (first_error_under m.name) (first_error levels m.value))
 members_first_error_push levels (first ∷ ms) m =
-    ap (first_of (option_map (first_error_under first.name) (first_error levels first.value))) (members_first_error_push levels ms m)
+    ap (deciding_error (option_map (first_error_under first.name) (first_error levels first.value))) (members_first_error_push levels ms m)
     ∙ sym (sooner_again (option_map (first_error_under first.name) (first_error levels first.value)) (members_first_error levels (members_of ms)) (option_map (first_error_under m.name) (first_error levels m.value)))
 
 -- ---- a whole value
@@ -73,7 +73,7 @@ graver_value_error None = refl
 graver_value_error (Some value_error) = refl
 
 graver_sooner : (part : List ℕ) (deep later : Option Location) (value_error after : Option ValueError)
-    → first_of (option_map (first_error_under part) (graver deep value_error)) (graver later after) ≡ graver (option_or (option_map (under part) deep) later) (option_or (option_map (value_error_under part) value_error) after)
+    → deciding_error (option_map (first_error_under part) (graver deep value_error)) (graver later after) ≡ graver (option_or (option_map (location_under part) deep) later) (option_or (option_map (value_error_under part) value_error) after)
 graver_sooner part None None None after = refl
 graver_sooner part None None (Some value_error) None = refl
 graver_sooner part None None (Some value_error) (Some next) = refl
@@ -102,13 +102,13 @@ mutual
   members_split levels (member name d ms) =
       rw (split levels d, members_split levels ms) (graver_sooner name (too_deep levels d) (members_too_deep levels ms) (first_value_error d) (members_value_error ms))
 
-good_by : (d : Data) (deep : Option Location) (value_error : Option ValueError) → too_deep MAX_LEVELS d ≡ deep → first_value_error d ≡ value_error → graver deep value_error ≡ None → refusal_of d ≡ None
+good_by : (d : Data) (deep : Option Location) (value_error : Option ValueError) → too_deep MAX_LEVELS d ≡ deep → first_value_error d ≡ value_error → graver deep value_error ≡ None → data_refusal d ≡ None
 good_by d None None shallow good is = nothing_refused d shallow good
 good_by d None (Some value_error) shallow good is = absurd cc
 good_by d (Some location) value_error shallow good is = absurd cc
 
 -- nothing is refused in a value against which nothing stands
-pub no_first_error : (d : Data) → first_error MAX_LEVELS d ≡ None → refusal_of d ≡ None
+pub no_first_error : (d : Data) → first_error MAX_LEVELS d ≡ None → data_refusal d ≡ None
 no_first_error d is = good_by d (too_deep MAX_LEVELS d) (first_value_error d) refl refl (sym (split MAX_LEVELS d) ∙ is)
 
 refused_by : (d : Data) (found : FirstError) (deep : Option Location) (value_error : Option ValueError) → too_deep MAX_LEVELS d ≡ deep → first_value_error d ≡ value_error → graver deep value_error ≡ Some found
@@ -116,7 +116,7 @@ refused_by : (d : Data) (found : FirstError) (deep : Option Location) (value_err
 refused_by d found None None shallow good is = absurd cc
 refused_by d (Deep location) None (Some value_error) shallow good is = absurd cc
 refused_by d (InvalidValue one) None (Some value_error) shallow good is = let same : value_error ≡ one = cc in value_error_refused d one shallow (good ∙ ap Some same)
-refused_by d (Deep one) (Some location) value_error deep good is = let same : location ≡ one = cc in deep_refused d (path_of one) (ap (λ (p : Location). Some (path_of p)) (sym same) ∙ sym (ap (option_map path_of) deep))
+refused_by d (Deep one) (Some location) value_error deep good is = let same : location ≡ one = cc in deep_refused d (location_path one) (ap (λ (p : Location). Some (location_path p)) (sym same) ∙ sym (ap (option_map location_path) deep))
 refused_by d (InvalidValue one) (Some location) value_error deep good is = absurd cc
 
 -- what stands first against a value is what it is refused for

@@ -10,7 +10,7 @@ use Rattle.std.specs.List.{AllByRecursion, AllAdjacentBelow, IsAllAdjacentAnswer
 use Rattle.std.specs.List.Sorted.{IsStableBy, ties}
 use Rattle.std.specs.Option.{option_or}
 use Rattle.std.specs.Ordering.{match_ordering, ordering_reverse}
-use Rattle.stix_json.specs.inner.Insertion.{insert_named, insert_all, last_named, ends_with, IsAfter, NamesAscend, NamesAreSorted}
+use Rattle.stix_json.specs.inner.Insertion.{insert_named, insert_all, last_named, ends_with, IsAfterName, NamesAscend, NamesAreSorted}
 
 -- ---- two names
 
@@ -89,19 +89,19 @@ module _ {X : Type 0} (name : X → List ℕ) where
   -- ---- the order of names
 
   behind_by : (q : List ℕ) (x y : X) (ys more : List X) → slice_cmp nat_cmp q (name x) ≡ Less → slice_cmp nat_cmp q (name y) ≡ Less → (o : Ordering)
-      → IsAfter name q (match_ordering o (x ∷ y ∷ ys) (x ∷ ys) (y ∷ more))
+      → IsAfterName name q (match_ordering o (x ∷ y ∷ ys) (x ∷ ys) (y ∷ more))
   behind_by q x y ys more first behind Less = first
   behind_by q x y ys more first behind Equal = first
   behind_by q x y ys more first behind Greater = behind
 
-  insert_behind : (q : List ℕ) (x : X) (ys : List X) → slice_cmp nat_cmp q (name x) ≡ Less → IsAfter name q ys → IsAfter name q (insert_named name x ys)
+  insert_behind : (q : List ℕ) (x : X) (ys : List X) → slice_cmp nat_cmp q (name x) ≡ Less → IsAfterName name q ys → IsAfterName name q (insert_named name x ys)
   insert_behind q x [] first behind = first
   insert_behind q x (y ∷ ys) first behind = behind_by q x y ys (insert_named name x ys) first behind (slice_cmp nat_cmp (name x) (name y))
 
-  ascends_by : (x y : X) (ys more : List X) → NamesAscend name (y ∷ ys) → (slice_cmp nat_cmp (name y) (name x) ≡ Less → IsAfter name (name y) more) → NamesAscend name more
+  ascends_by : (x y : X) (ys more : List X) → NamesAscend name (y ∷ ys) → (slice_cmp nat_cmp (name y) (name x) ≡ Less → IsAfterName name (name y) more) → NamesAscend name more
       → (o : Ordering) → slice_cmp nat_cmp (name x) (name y) ≡ o → NamesAscend name (match_ordering o (x ∷ y ∷ ys) (x ∷ ys) (y ∷ more))
   ascends_by x y ys more ascends above rest Less is = (is, ascends)
-  ascends_by x y ys more ascends above rest Equal is = (subst (λ (n : List ℕ). IsAfter name n ys) (sym (one_name (name x) (name y) is)) ascends.0, ascends.1)
+  ascends_by x y ys more ascends above rest Equal is = (subst (λ (n : List ℕ). IsAfterName name n ys) (sym (one_name (name x) (name y) is)) ascends.0, ascends.1)
   ascends_by x y ys more ascends above rest Greater is = (above (turned (name x) (name y) is), rest)
 
   insert_ascends : (x : X) (ys : List X) → NamesAscend name ys → NamesAscend name (insert_named name x ys)
@@ -113,14 +113,14 @@ module _ {X : Type 0} (name : X → List ℕ) where
   all_ascend [] found ascends = ascends
   all_ascend (x ∷ xs) found ascends = all_ascend xs (insert_named name x found) (insert_ascends x found ascends)
 
-  later_behind : (q : List ℕ) (x : X) (xs : List X) → slice_cmp nat_cmp q (name x) ≡ Less → IsAfter name (name x) xs → IsAfter name q xs
+  later_behind : (q : List ℕ) (x : X) (xs : List X) → slice_cmp nat_cmp q (name x) ≡ Less → IsAfterName name (name x) xs → IsAfterName name q xs
   later_behind q x [] less behind = tt
   later_behind q x (y ∷ ys) less behind = nat_list_cmp_total.trans q (name x) (name y) less behind
 
   -- ---- what a name finds
 
   -- a name before them finds none
-  none_before : (q : List ℕ) (xs : List X) → IsAfter name q xs → NamesAscend name xs → last_named name q xs ≡ None
+  none_before : (q : List ℕ) (xs : List X) → IsAfterName name q xs → NamesAscend name xs → last_named name q xs ≡ None
   none_before q [] behind ascends = refl
   none_before q (x ∷ xs) behind ascends = rw (none_before q xs (later_behind q x xs behind ascends.0) ascends.1, other_behind q (name x) behind)
 
@@ -152,7 +152,7 @@ module _ {X : Type 0} (name : X → List ℕ) where
   found_by q x y ys more ascends rest Less is = first_found q x (y ∷ ys) (is, ascends)
   found_by q x y ys more ascends rest Equal is =
       let same = one_name (name x) (name y) is in
-      first_found q x ys (subst (λ (n : List ℕ). IsAfter name n ys) (sym same) ascends.0, ascends.1)
+      first_found q x ys (subst (λ (n : List ℕ). IsAfterName name n ys) (sym same) ascends.0, ascends.1)
       ∙ placed_by x y (last_named name q ys) (bytes_eq (name x) q)
       ∙ ap (λ (n : List ℕ). if bytes_eq (name x) q then Some x else (if bytes_eq n q then Some y else last_named name q ys)) same
       ∙ ap (λ (found : Option X). if bytes_eq (name x) q then Some x else found) (sym (first_found q y ys ascends))

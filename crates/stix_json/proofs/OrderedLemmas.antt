@@ -10,7 +10,7 @@ use Rattle.serde_json.specs.Data.{Num, Data, null, boolean, number, string, arra
 use Rattle.serde_json.specs.Find.{get, get_member}
 use Rattle.serde_json.specs.Read.{of_json, of_items, of_members, number_of, read, max_depth}
 use Rattle.stix_json.specs.declared.value.Json.{Json}
-use Rattle.stix_json.specs.Refusal.{refusal_of}
+use Rattle.stix_json.specs.Refusal.{data_refusal}
 use Rattle.stix_json.specs.Reading.{IsValueOf, IsJsonAs, IsJsonOf}
 use Rattle.stix_json.specs.Ordered.{IsNameBefore, IsOrdered, ItemsAreOrdered, MembersAreOrdered}
 
@@ -95,7 +95,7 @@ read_ordered text d is = on_some (read text) d is (whole_ordered (option_and_the
 pub json_of : (bytes : List ℕ) (d : Data) (value : Json) → IsValueOf bytes d → IsJsonAs d value → IsJsonOf bytes value
 json_of bytes d value read good =
     let Q : Data → Type 0 = λ e. IsValueOf bytes e in
-    let R : Data → Type 0 = λ e. refusal_of e ≡ None in
+    let R : Data → Type 0 = λ e. data_refusal e ≡ None in
     record {
       value = subst Q (sym good.same) read;
       good = subst R (sym good.same) good.good;

@@ -19,9 +19,9 @@ use Rattle.serde_json.proofs.Numbers.{number_of-decimal, number_of-negative}
 use Rattle.stix_json.specs.Ordered.{IsNameBefore, IsOrdered, ItemsAreOrdered, MembersAreOrdered}
 use Rattle.stix_json.specs.Walk.{index_part}
 use Rattle.stix_json.specs.DataOf.{data_of}
-use Rattle.stix_json.specs.Refusal.{refusal_of}
+use Rattle.stix_json.specs.Refusal.{data_refusal}
 use Rattle.stix_json.specs.Reading.{IsJsonOf}
-use Rattle.stix_json.specs.inner.ValueErrors.{under, value_error_under, number_value_error, value_error_here, first_value_error, items_value_error, members_value_error, too_deep, items_too_deep, members_too_deep}
+use Rattle.stix_json.specs.inner.ValueErrors.{location_under, value_error_under, number_value_error, value_error_here, first_value_error, items_value_error, members_value_error, too_deep, items_too_deep, members_too_deep}
 use Rattle.stix_json.specs.declared.limits.TheConstants.{MAX_LEVELS, MAX_SAFE_INTEGER}
 use Rattle.stix_json.specs.declared.value_error.Reason.TheVariants.{OutOfRange as PastRange}
 use Rattle.stix_json.specs.declared.value.Json.{Json}
@@ -142,15 +142,15 @@ mutual
   items_shallow : (left at : ℕ) (ds : Items) → items_too_deep left at ds ≡ None → items_depth ds ≤ left
   items_shallow left at no_items h = omega arith
   items_shallow left at (item d ds) h =
-      let parts = option_or_none (option_map (under (index_part at)) (too_deep left d)) (items_too_deep left (at + 1) ds) h in
-      let first = shallow left d (option_map_none (under (index_part at)) (too_deep left d) parts.0) in
+      let parts = option_or_none (option_map (location_under (index_part at)) (too_deep left d)) (items_too_deep left (at + 1) ds) h in
+      let first = shallow left d (option_map_none (location_under (index_part at)) (too_deep left d) parts.0) in
       let later = items_shallow left (at + 1) ds parts.1 in omega (arith, first, later)
 
   members_shallow : (left : ℕ) (ms : Members) → members_too_deep left ms ≡ None → members_depth ms ≤ left
   members_shallow left no_members h = omega arith
   members_shallow left (member k d ms) h =
-      let parts = option_or_none (option_map (under k) (too_deep left d)) (members_too_deep left ms) h in
-      let first = shallow left d (option_map_none (under k) (too_deep left d) parts.0) in
+      let parts = option_or_none (option_map (location_under k) (too_deep left d)) (members_too_deep left ms) h in
+      let first = shallow left d (option_map_none (location_under k) (too_deep left d) parts.0) in
       let later = members_shallow left ms parts.1 in omega (arith, first, later)
 
 number_back : (n : Num) → IsWhole n → number_of (number_text n) ≡ Some n
@@ -205,7 +205,7 @@ text_back d ts text ordered sent lexed shallow =
 
 -- the text of an ordered value with nothing refused is of that value
 pub reads_back : (value : Json) (ts : List Token) (text : List ℕ) → IsOrdered (data_of value) → ts ≡ json_tokens (outline (data_of value)) → tokens text ≡ ts → IsUtf8 text
-    → refusal_of (data_of value) ≡ None → IsJsonOf text value
+    → data_refusal (data_of value) ≡ None → IsJsonOf text value
 reads_back value ts text ordered sent lexed utf8 good =
     let found = nothing_found (data_of value) good in
     let low : depth (data_of value) ≤ max_depth = let h = shallow MAX_LEVELS (data_of value) found.0 in omega (arith, h) in

@@ -26,7 +26,7 @@ use Rattle.stix_json.specs.DataOf.{Member, members_of, data_of, field_data}
 use Rattle.stix_json.specs.Ordered.{IsOrdered}
 use Rattle.stix_json.specs.Walk.{index_part}
 use Rattle.stix_json.specs.Reading.{IsValueOf, HasNoValue, IsJsonAs, IsRefusalOf, IsJsonOf, IsJsonRefusedAs}
-use Rattle.stix_json.specs.inner.ValueErrors.{path_of, value_error_under, refusal_at, number_value_error, value_error_here, first_value_error, items_value_error, members_value_error, too_deep}
+use Rattle.stix_json.specs.inner.ValueErrors.{location_path, value_error_under, refusal_at, number_value_error, value_error_here, first_value_error, items_value_error, members_value_error, too_deep}
 use Rattle.stix_json.proofs.ValueErrorsLemmas.{data_of-Object, same_member, option_or_none, option_map_none}
 use Rattle.stix_json.proofs.OrderedLemmas.{On, json_of, value_ordered}
 use Rattle.stix_json.proofs.WalkLemmas.{deep_refused, value_error_refused, nothing_refused}
@@ -202,7 +202,7 @@ by_value_error d ordered signed shallow (Some value_error) is = inr (refusal_at 
 
 by_depth : (d : Data) → IsOrdered d → HasTrueSigns d → (deep : Option Location) → too_deep MAX_LEVELS d ≡ deep → IsChecked d
 by_depth d ordered signed None is = by_value_error d ordered signed is (first_value_error d) refl
-by_depth d ordered signed (Some location) is = inr (TooDeep (path_of location), deep_refused d (path_of location) (sym (ap (option_map path_of) is)))
+by_depth d ordered signed (Some location) is = inr (TooDeep (location_path location), deep_refused d (location_path location) (sym (ap (option_map location_path) is)))
 
 refused_as : (bytes : List ℕ) (d : Data) (refusal : JsonRefusal) → IsValueOf bytes d → IsRefusalOf d refusal → (refusal ≢ NoMemory) × IsJsonRefusedAs bytes refusal
 refused_as bytes d NotJson value is = absurd is

@@ -13,26 +13,26 @@ use Rattle.stix_json.specs.declared.value_error.ValueError.{ValueError}
 use Rattle.stix_json.specs.declared.refusal.JsonRefusal.{JsonRefusal}
 use Rattle.stix_json.specs.declared.refusal.JsonRefusal.TheVariants.{TooDeep, NotWhole, Null, OutOfRange}
 use Rattle.stix_json.specs.Walk.{Visit, walk, walk_items, walk_members, path_text, index_part}
-use Rattle.stix_json.specs.Refusal.{first_reported, depth_refusal, visit_refusal, number_refusal, refusal_of}
+use Rattle.stix_json.specs.Refusal.{first_reported, depth_refusal, visit_refusal, number_refusal, data_refusal}
 use Rattle.stix_json.specs.Reading.{IsRefusalOf}
-use Rattle.stix_json.specs.inner.ValueErrors.{under, path_of, value_error_under, refusal_for, refusal_at, whole_value_error, value_error_here, first_value_error, items_value_error, members_value_error, too_deep, items_too_deep, members_too_deep}
+use Rattle.stix_json.specs.inner.ValueErrors.{location_under, location_path, value_error_under, refusal_for, refusal_at, whole_value_error, value_error_here, first_value_error, items_value_error, members_value_error, too_deep, items_too_deep, members_too_deep}
 
--- a place under some parts
+-- a place location_under some parts
 abbrev placed : List (List ℕ) → Location → Location
 placed [] location = location
-placed (part ∷ parts) location = under part (placed parts location)
+placed (part ∷ parts) location = location_under part (placed parts location)
 
-placed_more : (parts : List (List ℕ)) (part : List ℕ) (location : Location) → placed (parts ++ part ∷ []) location ≡ placed parts (under part location)
+placed_more : (parts : List (List ℕ)) (part : List ℕ) (location : Location) → placed (parts ++ part ∷ []) location ≡ placed parts (location_under part location)
 placed_more [] part location = refl
-placed_more (first ∷ parts) part location = ap (under first) (placed_more parts part location)
+placed_more (first ∷ parts) part location = ap (location_under first) (placed_more parts part location)
 
-under_below : (part : List ℕ) (parts : List (List ℕ)) → under part (placed parts Here) ≡ Below (path_text (part ∷ parts))
+under_below : (part : List ℕ) (parts : List (List ℕ)) → location_under part (placed parts Here) ≡ Below (path_text (part ∷ parts))
 under_below part [] = refl
-under_below part (next ∷ parts) = ap (under part) (under_below next parts)
+under_below part (next ∷ parts) = ap (location_under part) (under_below next parts)
 
-path_placed : (parts : List (List ℕ)) → path_of (placed parts Here) ≡ path_text parts
+path_placed : (parts : List (List ℕ)) → location_path (placed parts Here) ≡ path_text parts
 path_placed [] = refl
-path_placed (part ∷ parts) = ap path_of (under_below part parts)
+path_placed (part ∷ parts) = ap location_path (under_below part parts)
 
 or_again : (a b c : Option JsonRefusal) → option_or a (option_or b c) ≡ option_or (option_or a b) c
 or_again None b c = refl
@@ -45,7 +45,7 @@ first_told_append tell (x ∷ xs) ys = ap (option_or (tell x)) (first_told_appen
 -- ---- value errors
 
 abbrev value_error_placed : List (List ℕ) → ValueError → JsonRefusal
-value_error_placed parts value_error = refusal_for value_error.reason (path_of (placed parts value_error.location))
+value_error_placed parts value_error = refusal_for value_error.reason (location_path (placed parts value_error.location))
 
 range_told : (parts : List (List ℕ)) (b : Bool) → option_or (cond b None (Some (OutOfRange (path_text parts)))) None ≡ option_map (value_error_placed parts) (value_error_here (cond b None (Some PastRange)))
 range_told parts true = refl
@@ -58,7 +58,7 @@ number_told parts (Some whole) = range_told parts (nat_le (unsigned_abs whole) M
 value_error_of_part : (parts : List (List ℕ)) (part : List ℕ) (found later : Option ValueError)
     → option_or (option_map (value_error_placed (parts ++ part ∷ [])) found) (option_map (value_error_placed parts) later) ≡ option_map (value_error_placed parts) (option_or (option_map (value_error_under part) found) later)
 value_error_of_part parts part None later = refl
-value_error_of_part parts part (Some value_error) later = ap (λ location. Some (refusal_for value_error.reason (path_of location))) (placed_more parts part value_error.location)
+value_error_of_part parts part (Some value_error) later = ap (λ location. Some (refusal_for value_error.reason (location_path location))) (placed_more parts part value_error.location)
 
 mutual
   walk_value_error : (parts : List (List ℕ)) (d : Data) → first_reported visit_refusal (walk parts d) ≡ option_map (value_error_placed parts) (first_value_error d)
@@ -84,7 +84,7 @@ mutual
 -- ---- levels
 
 abbrev deep_placed : List (List ℕ) → Location → JsonRefusal
-deep_placed parts location = TooDeep (path_of (placed parts location))
+deep_placed parts location = TooDeep (location_path (placed parts location))
 
 past_last : (n : ℕ) → n ≡ MAX_LEVELS → nat_lt MAX_LEVELS (n + 1) ≡ true
 past_last n is = grind (arith, nat_tests)
@@ -93,9 +93,9 @@ not_past : (n left : ℕ) → suc left + n ≡ MAX_LEVELS → nat_lt MAX_LEVELS 
 not_past n left is = grind (arith, nat_tests)
 
 deep_of_part : (parts : List (List ℕ)) (part : List ℕ) (found later : Option Location)
-    → option_or (option_map (deep_placed (parts ++ part ∷ [])) found) (option_map (deep_placed parts) later) ≡ option_map (deep_placed parts) (option_or (option_map (under part) found) later)
+    → option_or (option_map (deep_placed (parts ++ part ∷ [])) found) (option_map (deep_placed parts) later) ≡ option_map (deep_placed parts) (option_or (option_map (location_under part) found) later)
 deep_of_part parts part None later = refl
-deep_of_part parts part (Some location) later = ap (λ location. Some (TooDeep (path_of location))) (placed_more parts part location)
+deep_of_part parts part (Some location) later = ap (λ location. Some (TooDeep (location_path location))) (placed_more parts part location)
 
 told_here : (parts : List (List ℕ)) (later : Option JsonRefusal) → length parts ≡ MAX_LEVELS
     → option_or (cond (nat_lt MAX_LEVELS (length parts + 1)) (Some (TooDeep (path_text parts))) None) later ≡ Some (deep_placed parts Here)
@@ -140,31 +140,31 @@ mutual
 -- ---- refusals
 
 -- what the two walks find is the refusal of the value
-refusal_found : (d : Data) → refusal_of d ≡ option_or (option_map (deep_placed []) (too_deep MAX_LEVELS d)) (option_map (value_error_placed []) (first_value_error d))
+refusal_found : (d : Data) → data_refusal d ≡ option_or (option_map (deep_placed []) (too_deep MAX_LEVELS d)) (option_map (value_error_placed []) (first_value_error d))
 refusal_found d = rw (walk_deep [] MAX_LEVELS d (omega arith), walk_value_error [] d) refl
 
-some_path : (found : Option Location) (later : Option JsonRefusal) (path : List ℕ) → Some path ≡ option_map path_of found → option_or (option_map (deep_placed []) found) later ≡ Some (TooDeep path)
+some_path : (found : Option Location) (later : Option JsonRefusal) (path : List ℕ) → Some path ≡ option_map location_path found → option_or (option_map (deep_placed []) found) later ≡ Some (TooDeep path)
 some_path None later path is = absurd (cc)
-some_path (Some location) later path is = let e : path_of location ≡ path = cc in ap (λ path. Some (TooDeep path)) e
+some_path (Some location) later path is = let e : location_path location ≡ path = cc in ap (λ path. Some (TooDeep path)) e
 
-pub deep_refused : (d : Data) (path : List ℕ) → Some path ≡ option_map path_of (too_deep MAX_LEVELS d) → refusal_of d ≡ Some (TooDeep path)
+pub deep_refused : (d : Data) (path : List ℕ) → Some path ≡ option_map location_path (too_deep MAX_LEVELS d) → data_refusal d ≡ Some (TooDeep path)
 deep_refused d path is = refusal_found d ∙ some_path (too_deep MAX_LEVELS d) (option_map (value_error_placed []) (first_value_error d)) path is
 
-pub nothing_refused : (d : Data) → too_deep MAX_LEVELS d ≡ None → first_value_error d ≡ None → refusal_of d ≡ None
+pub nothing_refused : (d : Data) → too_deep MAX_LEVELS d ≡ None → first_value_error d ≡ None → data_refusal d ≡ None
 nothing_refused d shallow good = refusal_found d ∙ rw (shallow, good) refl
 
-told_reason : (d : Data) (reason : Reason) (path : List ℕ) → refusal_of d ≡ Some (refusal_for reason path) → IsRefusalOf d (refusal_for reason path)
+told_reason : (d : Data) (reason : Reason) (path : List ℕ) → data_refusal d ≡ Some (refusal_for reason path) → IsRefusalOf d (refusal_for reason path)
 told_reason d NoWhole path is = is
 told_reason d IsNull path is = is
 told_reason d PastRange path is = is
 
 pub value_error_refused : (d : Data) (value_error : ValueError) → too_deep MAX_LEVELS d ≡ None → first_value_error d ≡ Some value_error → IsRefusalOf d (refusal_at value_error)
-value_error_refused d value_error shallow found = told_reason d value_error.reason (path_of value_error.location) (refusal_found d ∙ rw (shallow, found) refl)
+value_error_refused d value_error shallow found = told_reason d value_error.reason (location_path value_error.location) (refusal_found d ∙ rw (shallow, found) refl)
 
 both_none : (found : Option Location) (value_error : Option ValueError) → option_or (option_map (deep_placed []) found) (option_map (value_error_placed []) value_error) ≡ None → (found ≡ None) × (value_error ≡ None)
 both_none None None is = (refl, refl)
 both_none None (Some value_error) is = absurd (cc)
 both_none (Some location) value_error is = absurd (cc)
 
-pub nothing_found : (d : Data) → refusal_of d ≡ None → (too_deep MAX_LEVELS d ≡ None) × (first_value_error d ≡ None)
+pub nothing_found : (d : Data) → data_refusal d ≡ None → (too_deep MAX_LEVELS d ≡ None) × (first_value_error d ≡ None)
 nothing_found d good = both_none (too_deep MAX_LEVELS d) (first_value_error d) (sym (refusal_found d) ∙ good)

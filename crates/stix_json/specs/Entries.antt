@@ -38,7 +38,7 @@ AreEntriesFor (item d ds) [] = ⊥
 AreEntriesFor (item d ds) (e ∷ es) = IsEntryFor d e × AreEntriesFor ds es
 
 -- the entries of the list at a property of these bytes
-pub record AreEntriesOf (bytes name : List ℕ) (entries : List Entry) : Type 0 where
+pub record AreListEntriesOf (bytes name : List ℕ) (entries : List Entry) : Type 0 where
   pub whole : Data
   pub list : Items
   pub value : IsValueOf bytes whole

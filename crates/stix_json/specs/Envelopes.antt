@@ -6,7 +6,7 @@ use Rattle.serde_json.specs.Find.{get, as_bool}
 use Rattle.stix_json.specs.declared.envelope.Envelope.{Envelope}
 use Rattle.stix_json.specs.declared.refusal.JsonRefusal.{JsonRefusal}
 use Rattle.stix_json.specs.declared.refusal.JsonRefusal.TheVariants.{NotJson, TooDeep, NotWhole, Null, OutOfRange, NotList, NoMemory}
-use Rattle.stix_json.specs.Properties.{text_at}
+use Rattle.stix_json.specs.Properties.{property_text}
 use Rattle.stix_json.specs.Entries.{list_under, AreEntriesFor}
 use Rattle.stix_json.specs.Reading.{IsValueOf, HasNoValue}
 
@@ -23,7 +23,7 @@ more_in d = flag_or_false (get (codes "more") d)
 -- text
 abbrev pub next_in : Bool → Data → Option (Option (List ℕ))
 next_in false d = Some None
-next_in true d = option_map Some (text_at (codes "next") d)
+next_in true d = option_map Some (property_text (codes "next") d)
 
 -- the envelope of these bytes
 pub record IsEnvelopeOf (bytes : List ℕ) (envelope : Envelope) : Type 0 where

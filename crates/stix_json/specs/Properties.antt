@@ -4,8 +4,8 @@ use Rattle.serde_json.specs.Data.{Data, Items}
 use Rattle.serde_json.specs.Find.{get, as_str, as_array}
 
 -- the text of a property, if it is one
-abbrev pub text_at : List ℕ → Data → Option (List ℕ)
-text_at name d = option_and_then as_str (get name d)
+abbrev pub property_text : List ℕ → Data → Option (List ℕ)
+property_text name d = option_and_then as_str (get name d)
 
 -- the items of a property, if it is a list
 abbrev pub list_at : List ℕ → Data → Option Items

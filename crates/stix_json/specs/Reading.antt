@@ -9,7 +9,7 @@ use Rattle.stix_json.specs.declared.refusal.JsonRefusal.{JsonRefusal}
 use Rattle.stix_json.specs.declared.refusal.JsonRefusal.TheVariants.{NotJson, TooDeep, NotWhole, Null, OutOfRange, NotList, NoMemory}
 use Rattle.stix_json.specs.DataOf.{data_of}
 use Rattle.stix_json.specs.Ordered.{IsOrdered}
-use Rattle.stix_json.specs.Refusal.{refusal_of}
+use Rattle.stix_json.specs.Refusal.{data_refusal}
 
 -- the bytes are UTF-8, and a JSON text of this value
 pub record IsValueOf (bytes : List ℕ) (d : Data) : Type 0 where
@@ -23,16 +23,16 @@ HasNoValue bytes = (d : Data) → ¬ (IsValueOf bytes d)
 -- the Json is this value, it has no error, and its names are ascending
 pub record IsJsonAs (d : Data) (json : Json) : Type 0 where
   pub same : data_of json ≡ d
-  pub good : refusal_of d ≡ None
+  pub good : data_refusal d ≡ None
   pub ordered : IsOrdered d
 
 -- the refusal of the value: only for its depth or for a value in it
 abbrev pub IsRefusalOf : Data → JsonRefusal → Type 0
 IsRefusalOf d NotJson = ⊥
-IsRefusalOf d (TooDeep path) = refusal_of d ≡ Some (TooDeep path)
-IsRefusalOf d (NotWhole path) = refusal_of d ≡ Some (NotWhole path)
-IsRefusalOf d (Null path) = refusal_of d ≡ Some (Null path)
-IsRefusalOf d (OutOfRange path) = refusal_of d ≡ Some (OutOfRange path)
+IsRefusalOf d (TooDeep path) = data_refusal d ≡ Some (TooDeep path)
+IsRefusalOf d (NotWhole path) = data_refusal d ≡ Some (NotWhole path)
+IsRefusalOf d (Null path) = data_refusal d ≡ Some (Null path)
+IsRefusalOf d (OutOfRange path) = data_refusal d ≡ Some (OutOfRange path)
 IsRefusalOf d NotList = ⊥
 IsRefusalOf d NoMemory = ⊥
 
@@ -44,7 +44,7 @@ IsEntryFor d (Bad refusal) = IsRefusalOf d refusal
 -- the Json of some bytes
 pub record IsJsonOf (bytes : List ℕ) (json : Json) : Type 0 where
   pub value : IsValueOf bytes (data_of json)
-  pub good : refusal_of (data_of json) ≡ None
+  pub good : data_refusal (data_of json) ≡ None
   pub ordered : IsOrdered (data_of json)
 
 -- the refusal of some bytes; memory may run out at any time

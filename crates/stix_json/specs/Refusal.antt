@@ -14,7 +14,7 @@ abbrev pub first_reported : (Visit → Option JsonRefusal) → List Visit → Op
 first_reported tell [] = None
 first_reported tell (v ∷ vs) = option_or (tell v) (first_reported tell vs)
 
--- only lists and objects have a level
+-- only lists and objects have a nesting_level
 abbrev pub has_level : Data → Bool
 has_level null = false
 has_level (boolean b) = false
@@ -23,13 +23,13 @@ has_level (string s) = false
 has_level (array ds) = true
 has_level (object ms) = true
 
--- the level of a value in the whole one: each part of its path is a list or an object around it
-abbrev pub level : Visit → ℕ
-level v = length v.parts + 1
+-- the nesting_level of a value in the whole one: each part of its path is a list or an object around it
+abbrev pub nesting_level : Visit → ℕ
+nesting_level v = length v.parts + 1
 
--- a list or an object past the last level
+-- a list or an object past the last nesting_level
 abbrev pub depth_refusal : Visit → Option JsonRefusal
-depth_refusal v = if has_level v.value && nat_lt MAX_LEVELS (level v) then Some (TooDeep (path_text v.parts)) else None
+depth_refusal v = if has_level v.value && nat_lt MAX_LEVELS (nesting_level v) then Some (TooDeep (path_text v.parts)) else None
 
 -- a number at a path, with its integer if it has one
 abbrev pub number_refusal : List ℕ → Option ℤ → Option JsonRefusal
@@ -49,5 +49,5 @@ abbrev pub visit_refusal : Visit → Option JsonRefusal
 visit_refusal v = value_refusal (path_text v.parts) v.value
 
 -- the first value that nests too deep, else the first that Json can't represent
-abbrev pub refusal_of : Data → Option JsonRefusal
-refusal_of d = option_or (first_reported depth_refusal (walk [] d)) (first_reported visit_refusal (walk [] d))
+abbrev pub data_refusal : Data → Option JsonRefusal
+data_refusal d = option_or (first_reported depth_refusal (walk [] d)) (first_reported visit_refusal (walk [] d))

@@ -2,7 +2,7 @@ ghost use Rattle.std.specs.Prelude.{◌≡◌, [], ◌∷◌, ◌++◌, suc, ℕ
 ghost use Rattle.serde_json.specs.Data.{Data, array};
 ghost use Rattle.serde_json.specs.View.{items_of};
 ghost use Rattle.stix_json.specs.Walk.{index_part};
-ghost use Rattle.stix_json.specs.inner.FirstErrors.{first_error_under, first_of};
+ghost use Rattle.stix_json.specs.inner.FirstErrors.{first_error_under, deciding_error};
 
 use crate::Json;
 use crate::checked::Checked;
@@ -69,7 +69,7 @@ impl Elements {
     /// Records the error of the item at index `at`, if it overrides the first one so far.
     fn note(&mut self, alloc: Global, at: usize, first_error: FirstError) -> Result<(), NoMemory>
         ensures first_error { OnOk result (self.new.first_error
-            ≡ first_of self.old.first_error
+            ≡ deciding_error self.old.first_error
             (Some (first_error_under (index_part at) first_error))) }
         ensures len { self.new.len ≡ self.old.len }
     {

@@ -1,6 +1,7 @@
 ghost use Rattle.std.specs.Prelude.{◌≡◌, None, Some, IfOk, IfErr};
 ghost use Rattle.serde_json.specs.Data.{Members, Items as DataItems, object};
-ghost use Rattle.stix_json.specs.Entries.{AreEntriesFor, AreEntriesOf, HasNoEntriesAs, list_under};
+ghost use Rattle.stix_json.specs.Entries.{AreEntriesFor, AreListEntriesOf, HasNoEntriesAs};
+ghost use Rattle.stix_json.specs.Entries.{list_under};
 ghost use Rattle.stix_json.specs.declared.refusal.JsonRefusal.TheVariants.{NotList};
 ghost use Rattle.stix_json.specs.inner.PropertyValue.{HoldsProperties};
 
@@ -15,7 +16,7 @@ use std::alloc::Global;
 /// `NotJson` if the bytes aren't JSON. `NotList` if they aren't an object, or the property isn't a
 /// list.
 pub fn read_entries(alloc: Global, bytes: &[u8], name: &str) -> Result<Items<Entry>, JsonRefusal>
-    ensures ok { IfOk result (λ entries. AreEntriesOf bytes.now name.now entries) }
+    ensures ok { IfOk result (λ entries. AreListEntriesOf bytes.now name.now entries) }
     ensures err { IfErr result (λ refusal. HasNoEntriesAs bytes.now name.now refusal) }
 {
     let properties = read_properties(alloc, bytes)?;

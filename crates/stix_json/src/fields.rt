@@ -1,7 +1,7 @@
 ghost use Rattle.std.specs.Prelude.{◌≡◌, [], ◌∷◌, ◌++◌, suc, ℕ, List, None, Some, IfOk, OnOk};
 ghost use Rattle.serde_json.specs.Data.{Data, Members, object};
 ghost use Rattle.stix_json.specs.DataOf.{Member, members_of};
-ghost use Rattle.stix_json.specs.inner.FirstErrors.{first_error_under, first_of};
+ghost use Rattle.stix_json.specs.inner.FirstErrors.{first_error_under, deciding_error};
 ghost use Rattle.stix_json.specs.inner.Checking.{IsCheckedAs, AreRawMembers};
 
 use crate::checked::Checked;
@@ -51,7 +51,7 @@ impl Fields {
     /// Records the error of the value of this name, if it overrides the first one so far.
     fn note(&mut self, alloc: Global, name: &str, first_error: FirstError) -> Result<(), NoMemory>
         ensures { OnOk result (self.new.first_error
-            ≡ first_of self.old.first_error (Some (first_error_under name.now first_error))) }
+            ≡ deciding_error self.old.first_error (Some (first_error_under name.now first_error))) }
     {
         if first_error.overrides(&self.first_error) {
             self.first_error = Some(first_error.below(alloc, name)?);

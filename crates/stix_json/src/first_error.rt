@@ -4,7 +4,7 @@
 
 ghost use Rattle.std.specs.Prelude.{◌≡◌, ℕ, List, if◌then◌else◌, Some, IfOk, option_map};
 ghost use Rattle.stix_json.specs.Walk.{index_part};
-ghost use Rattle.stix_json.specs.inner.FirstErrors.{first_error_under, first_of};
+ghost use Rattle.stix_json.specs.inner.FirstErrors.{first_error_under, deciding_error};
 ghost use Rattle.stix_json.specs.inner.FirstErrors.{refusal_of_first_error};
 ghost use Rattle.stix_json.specs.declared.first_error.FirstError.TheVariants.{InvalidValue};
 ghost use Rattle.stix_json.specs.declared.location.Location.TheVariants.{Here as AtTop};
@@ -37,7 +37,7 @@ impl FirstError {
 
     /// Whether this error, which comes later in the value, takes precedence over `found`.
     pub fn overrides(&self, found: &Option<FirstError>) -> bool
-        ensures { (part : List ℕ) → first_of found.now (Some (first_error_under part self.now))
+        ensures { (part : List ℕ) → deciding_error found.now (Some (first_error_under part self.now))
             ≡ (if result then Some (first_error_under part self.now) else found.now) }
     {
         match (self, found) {

@@ -36,11 +36,11 @@ struct TextSlice {
 
 impl Model for JsonText {
     ghost use Rattle.std.specs.Prelude.{List, ℕ};
-    ghost use Rattle.stix_json.specs.inner.Texts.{text_of};
+    ghost use Rattle.stix_json.specs.inner.Texts.{text_of_string};
 
     ghost Value = { List ℕ };
 
-    ghost view = { λ text. text_of text.form };
+    ghost view = { λ text. text_of_string text.form };
 }
 
 impl JsonText {
@@ -85,11 +85,11 @@ impl JsonText {
 }
 
 impl TextSlice {
-    ghost use Rattle.stix_json.specs.inner.Texts.{part_text};
+    ghost use Rattle.stix_json.specs.inner.Texts.{slice_text};
 
     /// The slice of `whole` at byte `location` that equals `text`, if it does.
     fn at(whole: &Rc<Text>, location: usize, text: &str) -> Option<TextSlice>
-        ensures { IfSome result (λ part. part_text part ≡ text.now) }
+        ensures { IfSome result (λ part. slice_text part ≡ text.now) }
     {
         let end = location.checked_add(text.len())?;
         let lent = whole.as_str();
@@ -106,7 +106,7 @@ impl TextSlice {
     }
 
     fn as_str(&self) -> &str
-        ensures { result.now ≡ part_text self.now }
+        ensures { result.now ≡ slice_text self.now }
     {
         &self.whole.as_str()[self.start as usize..self.end as usize]
     }

@@ -1,5 +1,5 @@
 ghost use Rattle.std.specs.Prelude.{◌≡◌, IfOk};
-ghost use Rattle.stix_json.specs.inner.ValueErrors.{under, path_of};
+ghost use Rattle.stix_json.specs.inner.ValueErrors.{location_under, location_path};
 
 use flow_values::{NoMemory, Text};
 use std::alloc::Global;
@@ -19,7 +19,7 @@ impl Location {
     /// The location as seen from a value that has this one at `part`.
     #[inline(never)]
     pub fn below(self, alloc: Global, part: &str) -> Result<Location, NoMemory>
-        ensures { IfOk result (λ location. location ≡ under part.now self) }
+        ensures { IfOk result (λ location. location ≡ location_under part.now self) }
     {
         let mut path = Text::from_text(alloc, part)?;
         if let Location::Below(rest) = self {
@@ -31,7 +31,7 @@ impl Location {
 
     /// The path, which is empty for the value itself.
     pub fn into_path(self, alloc: Global) -> Text
-        ensures { result ≡ path_of self }
+        ensures { result ≡ location_path self }
     {
         match self {
             Location::Here => Text::new(alloc),

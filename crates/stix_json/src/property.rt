@@ -2,7 +2,7 @@ ghost use Rattle.std.specs.Prelude.{◌≡◌, map, option_map};
 ghost use Rattle.serde_json.specs.Find.{as_str, as_array};
 ghost use Rattle.serde_json.specs.View.{items_of};
 ghost use Rattle.stix_json.specs.DataOf.{data_of};
-ghost use Rattle.stix_json.specs.Properties.{text_at as text_under, list_at as list_under};
+ghost use Rattle.stix_json.specs.Properties.{property_text as text_under, list_at as list_under};
 
 use crate::{Json, get};
 

@@ -4,7 +4,7 @@
 ghost use Rattle.std.specs.Prelude.{◌≡◌, [], ◌∷◌, ◌++◌, IsTrue, IfOk, OnOk};
 ghost use Rattle.stix_json.specs.inner.Insertion.{insert_all, ends_with, NamesAscend};
 ghost use Rattle.stix_json.specs.inner.Insertion.{NamesAreSorted};
-ghost use Rattle.stix_json.specs.inner.Checking.{name_of};
+ghost use Rattle.stix_json.specs.inner.Checking.{member_name};
 
 use crate::checked::Checked;
 use flow_values::{Name, NoMemory};
@@ -45,7 +45,7 @@ pub(crate) fn order_members(
     alloc: Global,
     members: Vec<RawMember>,
 ) -> Result<Vec<RawMember>, NoMemory>
-    ensures { IfOk result (λ ordered. ordered.items ≡ insert_all name_of members.items []) }
+    ensures { IfOk result (λ ordered. ordered.items ≡ insert_all member_name members.items []) }
 {
     if names_ascend(&members) {
         return Ok(members);
@@ -60,9 +60,9 @@ pub(crate) fn order_members(
 
 /// Sorts members by name. The sort is stable.
 fn sort_by_name(members: &mut Vec<RawMember>) -> Result<(), NoMemory>
-    ensures ascends { OnOk result (NamesAreSorted name_of members.new.items) }
-    ensures same { insert_all name_of members.new.items []
-        ≡ insert_all name_of members.old.items [] }
+    ensures ascends { OnOk result (NamesAreSorted member_name members.new.items) }
+    ensures same { insert_all member_name members.new.items []
+        ≡ insert_all member_name members.old.items [] }
 {
     members.sort_by(|one, other| one.name.as_str().cmp(other.name.as_str()))?;
     Ok(())
@@ -70,15 +70,15 @@ fn sort_by_name(members: &mut Vec<RawMember>) -> Result<(), NoMemory>
 
 /// Whether the names are strictly ascending.
 fn names_ascend(members: &[RawMember]) -> bool
-    ensures { IsTrue result → NamesAscend name_of members.now }
+    ensures { IsTrue result → NamesAscend member_name members.now }
 {
     members.is_sorted_by(|one, next| one.name.as_str() < next.name.as_str())
 }
 
 /// Drops all but the last member of each name. The members are sorted by name.
 fn keep_last(alloc: Global, members: Vec<RawMember>) -> Result<Vec<RawMember>, NoMemory>
-    requires { NamesAreSorted name_of members.items }
-    ensures { IfOk result (λ kept. kept.items ≡ insert_all name_of members.items []) }
+    requires { NamesAreSorted member_name members.items }
+    ensures { IfOk result (λ kept. kept.items ≡ insert_all member_name members.items []) }
 {
     let mut kept = Vec::new(alloc);
     for member in members {
@@ -92,7 +92,7 @@ fn keep_last(alloc: Global, members: Vec<RawMember>) -> Result<Vec<RawMember>, N
 
 /// Whether the last of the members has the name of `next`.
 fn ends_with_name(members: &[RawMember], next: &RawMember) -> bool
-    ensures { result ≡ ends_with name_of next.now.name members.now }
+    ensures { result ≡ ends_with member_name next.now.name members.now }
 {
     match members.last() {
         Some(last) => last.name.as_str() == next.name.as_str(),

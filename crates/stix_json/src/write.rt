@@ -4,7 +4,7 @@ ghost use Rattle.serde_json.specs.Written.{outline, items_outline, members_outli
 ghost use Rattle.serde_json.specs.View.{items_of};
 ghost use Rattle.stix_json.specs.DataOf.{data_of, field_data, members_of};
 ghost use Rattle.stix_json.specs.Ordered.{IsOrdered};
-ghost use Rattle.stix_json.specs.Refusal.{refusal_of};
+ghost use Rattle.stix_json.specs.Refusal.{data_refusal};
 ghost use Rattle.stix_json.specs.Reading.{IsJsonOf};
 
 use crate::{Field, Json};
@@ -17,7 +17,7 @@ use std::alloc::{AllocError, Global};
 pub fn write_json(alloc: Global, value: &Json) -> Result<Text, NoMemory>
     requires { IsOrdered (data_of value.now) }
     ensures text { IfOk result (λ text. text ≡ compact_text (data_of value.now)) }
-    ensures reads_back { IfOk result (λ text. refusal_of (data_of value.now) ≡ None
+    ensures reads_back { IfOk result (λ text. data_refusal (data_of value.now) ≡ None
         → IsJsonOf text value.now) }
 {
     write_json_with_capacity(alloc, value, 0)
@@ -31,7 +31,7 @@ pub fn write_json_with_capacity(
 ) -> Result<Text, NoMemory>
     requires { IsOrdered (data_of value.now) }
     ensures text { IfOk result (λ text. text ≡ compact_text (data_of value.now)) }
-    ensures reads_back { IfOk result (λ text. refusal_of (data_of value.now) ≡ None
+    ensures reads_back { IfOk result (λ text. data_refusal (data_of value.now) ≡ None
         → IsJsonOf text value.now) }
 {
     let mut out = Writer::new(Vec::with_capacity(alloc, capacity)?);

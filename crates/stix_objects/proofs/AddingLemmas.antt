@@ -7,21 +7,21 @@ use Rattle.stix_objects.specs.declared.rule_break.Break.{Break}
 use Rattle.stix_objects.specs.BreakAt.{BreakAt, break_of}
 use Rattle.stix_objects.specs.Row.{Row, CommonRow, ObjectType}
 use Rattle.stix_objects.specs.CommonRows.{common_rows}
-use Rattle.stix_objects.specs.Types.{group_in, rows_in}
+use Rattle.stix_objects.specs.Types.{group_in, own_rows}
 use Rattle.stix_objects.specs.Breaks.{rows_for, ChecksRows, AreBreaksBy}
-use Rattle.stix_objects.specs.inner.Adding.{with_break, Adds, applicable_rows}
+use Rattle.stix_objects.specs.inner.Adding.{with_break, AddsBreaks, applicable_rows}
 
-adds_from : (rows : List Row) (d : Data) (before mid after : List Break) → mid ≡ before → Adds rows d mid after → Adds rows d before after
-adds_from rows d before mid after is adds = subst (λ (from : List Break). Adds rows d from after) is adds
+adds_from : (rows : List Row) (d : Data) (before mid after : List Break) → mid ≡ before → AddsBreaks rows d mid after → AddsBreaks rows d before after
+adds_from rows d before mid after is adds = subst (λ (from : List Break). AddsBreaks rows d from after) is adds
 
 -- first the row that may stand, then the others
-pub adds_applicable : (row : Option Row) (rows : List Row) (d : Data) (before mid after : List Break) → Adds (option_to_list row) d before mid → Adds rows d mid after
-    → Adds (cons_option row rows) d before after
+pub adds_applicable : (row : Option Row) (rows : List Row) (d : Data) (before mid after : List Break) → AddsBreaks (option_to_list row) d before mid → AddsBreaks rows d mid after
+    → AddsBreaks (cons_option row rows) d before after
 adds_applicable None rows d before mid after first rest = adds_from rows d before mid after first rest
 adds_applicable (Some row) rows d before mid after first rest =
     (first.0, first.1, adds_from rows d (with_break before first.0) mid after first.2 rest)
 
-adds_append : (first rest : List Row) (d : Data) (before mid after : List Break) → Adds first d before mid → Adds rest d mid after → Adds (first ++ rest) d before after
+adds_append : (first rest : List Row) (d : Data) (before mid after : List Break) → AddsBreaks first d before mid → AddsBreaks rest d mid after → AddsBreaks (first ++ rest) d before after
 adds_append [] rest d before mid after h k = adds_from rest d before mid after h k
 adds_append (row ∷ rows) rest d before mid after h k = (h.0, h.1, adds_append rows rest d (with_break before h.0) mid after h.2 k)
 
@@ -39,7 +39,7 @@ pub record Told (rows : List Row) (d : Data) (before after : List Break) : Type 
   pub checked : ChecksRows rows d outcomes
   pub told : after ≡ before ++ filter_map (option_map break_of) outcomes
 
-adds_told : (rows : List Row) (d : Data) (before after : List Break) → Adds rows d before after → Told rows d before after
+adds_told : (rows : List Row) (d : Data) (before after : List Break) → AddsBreaks rows d before after → Told rows d before after
 adds_told [] d before after adds = record { outcomes = []; checked = tt; told = adds ∙ sym (append_nil before) }
 adds_told (row ∷ rows) d before after adds =
     let outcome = adds.0 in
@@ -57,10 +57,10 @@ same_rows g h own other cs ds group rows commons = cc
 
 -- the common rows that stand, and then the own rows, are the rows of the type
 pub breaks_by : (group : Group) (own : List Row) (commons : List CommonRow) (type : Option ObjectType) (d : Data) (mid after : List Break)
-    → group ≡ group_in type → own ≡ rows_in type → commons ≡ common_rows
-    → Adds (applicable_rows group own commons) d [] mid → Adds own d mid after → AreBreaksBy (rows_for type) d after
+    → group ≡ group_in type → own ≡ own_rows type → commons ≡ common_rows
+    → AddsBreaks (applicable_rows group own commons) d [] mid → AddsBreaks own d mid after → AreBreaksBy (rows_for type) d after
 breaks_by group own commons type d mid after g o cs first rest =
-    let both : Adds (applicable_rows group own commons ++ own) d [] after = adds_append (applicable_rows group own commons) own d [] mid after first rest in
-    let all : Adds (rows_for type) d [] after = subst (λ (rows : List Row). Adds rows d [] after) (same_rows group (group_in type) own (rows_in type) commons common_rows g o cs) both in
+    let both : AddsBreaks (applicable_rows group own commons ++ own) d [] after = adds_append (applicable_rows group own commons) own d [] mid after first rest in
+    let all : AddsBreaks (rows_for type) d [] after = subst (λ (rows : List Row). AddsBreaks rows d [] after) (same_rows group (group_in type) own (own_rows type) commons common_rows g o cs) both in
     let told = adds_told (rows_for type) d [] after all in
     record { outcomes = told.outcomes; checked = told.checked; told = told.told }

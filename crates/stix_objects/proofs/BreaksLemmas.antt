@@ -8,14 +8,14 @@ use Rattle.stix_objects.specs.declared.rule.Rule.{Rule}
 use Rattle.stix_objects.specs.declared.form.Precision.{Precision}
 use Rattle.stix_objects.specs.declared.form.Precision.TheVariants.{Any, Millis}
 use Rattle.stix_objects.specs.declared.rule_break.Break.{Break}
-use Rattle.stix_objects.specs.BreakAt.{BreakAt, here, under, break_of}
+use Rattle.stix_objects.specs.BreakAt.{BreakAt, here, break_under, break_of}
 use Rattle.stix_objects.specs.Form.{Single, any_text, kind, version, one_of, timestamp, any_reference, reference, any_boolean, integer_in, texts_by_name, Part, must, may, some_of, Form, one, list, records}
 use Rattle.stix_objects.specs.Form as forms
 use Rattle.stix_objects.specs.Row.{Row, required, optional, required_where, own_id, order, strict_order, needs_one_of, excludes, statement, colour, colour_id}
-use Rattle.stix_objects.specs.Checking.{Asks, Forbids, InTurn, OfKind}
+use Rattle.stix_objects.specs.Checking.{Requires, Forbids, ChecksInTurn, OfKind}
 use Rattle.stix_objects.specs.Singles.{integer_of, ChecksTimestamp, ChecksSingle, ChecksOwnId}
 use Rattle.stix_objects.specs.Forms.{ChecksHere, ChecksUnder, ChecksItems, ChecksList, ChecksValue, ChecksPart, ChecksParts, OfList, ChecksForm}
-use Rattle.stix_json.specs.Properties.{text_at}
+use Rattle.stix_json.specs.Properties.{property_text}
 use Rattle.stix_objects.specs.Rows.{ChecksOwn, Checks}
 use Rattle.stix_objects.specs.Breaks.{ChecksRows, AreBreaksBy}
 
@@ -26,7 +26,7 @@ IsOne {A} Judges' = (a b : Option A) → Judges' a → Judges' b → a ≡ b
 met_one : {A : Type 0} (told : Option A) → IsOne (λ outcome. outcome ≡ told)
 met_one told a b first second = first ∙ sym second
 
-asks_one : {A : Type 0} (P : Type 0) (told : A) → IsOne (Asks P told)
+asks_one : {A : Type 0} (P : Type 0) (told : A) → IsOne (Requires P told)
 asks_one P told None None first second = refl
 asks_one P told None (Some b) first second = absurd (second.0 first)
 asks_one P told (Some a) None first second = absurd (first.0 second)
@@ -43,7 +43,7 @@ match_one : {A B : Type 0} (o : Option B) (P : Option A → Type 0) (Q : B → O
 match_one None P Q p q a b first second = p a b first second
 match_one (Some x) P Q p q a b first second = q x a b first second
 
-in_turn_one : {A : Type 0} (First Next : Option A → Type 0) → IsOne First → IsOne Next → IsOne (InTurn First Next)
+in_turn_one : {A : Type 0} (First Next : Option A → Type 0) → IsOne First → IsOne Next → IsOne (ChecksInTurn First Next)
 in_turn_one {A} First Next p q a b first second =
     match_one first.0 Next (λ found outcome. outcome ≡ Some found) q (λ found. met_one (Some found)) a b first.2
     (subst (λ (o : Option A). MatchOption o (Next b) (λ found. b ≡ Some found)) (p second.0 first.0 second.1 first.1) second.2)
@@ -76,7 +76,7 @@ here_one : (single : Single) (d : Data) → IsOne (ChecksHere single d)
 here_one single d = told_one (ChecksSingle single d) here (single_one single d)
 
 under_one : (part : List ℕ) (J : Option BreakAt → Type 0) → IsOne J → IsOne (ChecksUnder part J)
-under_one part J p = told_one J (under part) p
+under_one part J p = told_one J (break_under part) p
 
 items_one : (J : Data → Option BreakAt → Type 0) → ((d : Data) → IsOne (J d)) → (at : ℕ) (ds : Items) → IsOne (ChecksItems J at ds)
 items_one J p at no_items = met_one None
@@ -116,7 +116,7 @@ row_one (required name form) d = value_one _ name _ (form_one form) (get name d)
 row_one (optional name form) d = value_one _ name _ (form_one form) (get name d)
 row_one (required_where name form condition) d = value_one _ name _ (form_one form) (get name d)
 row_one own_id d =
-    let own = text_at (codes "type") d in
+    let own = property_text (codes "type") d in
     value_one (Unit {0}) (codes "id") (ChecksOwn own) (λ v. told_one (ChecksOwnId own v) here (own_one own v)) (get (codes "id") d)
 row_one (order precision first second) d = forbids_one _ _
 row_one (strict_order precision first second) d = forbids_one _ _

@@ -8,7 +8,7 @@ use Rattle.serde_json.specs.View.{items_of}
 use Rattle.stix_json.specs.declared.value.Json.{Json}
 use Rattle.stix_json.specs.DataOf.{data_of}
 use Rattle.stix_json.specs.Walk.{index_part}
-use Rattle.stix_objects.specs.BreakAt.{BreakAt, under}
+use Rattle.stix_objects.specs.BreakAt.{BreakAt, break_under}
 use Rattle.stix_objects.specs.Checking.{OfKind}
 use Rattle.stix_objects.specs.Forms.{ChecksUnder, ChecksValue, ChecksItems}
 use Rattle.stix_objects.proofs.ListLemmas.{close_item}
@@ -29,7 +29,7 @@ value_there Needed name Checks found d outcome is checked =
 
 -- the item at a place is the first that breaks something
 pub first_at : (Checks : Data → Option BreakAt → Type 0) (items : List Json) (i : ℕ) (item : Json) (inner told : BreakAt) → i < length items → item ≡ get_or items i item
-    → Checks (data_of item) (Some inner) → told ≡ under (index_part i) inner → ChecksItems Checks i (items_of (map data_of (drop i items))) (Some told)
+    → Checks (data_of item) (Some inner) → told ≡ break_under (index_part i) inner → ChecksItems Checks i (items_of (map data_of (drop i items))) (Some told)
 first_at Checks items i item inner told within is checked same =
     close_item (λ ts. ChecksItems Checks i (items_of (map data_of ts)) (Some told)) items i item within is
-    (Some (under (index_part i) inner), (Some inner, checked, refl), ap Some same)
+    (Some (break_under (index_part i) inner), (Some inner, checked, refl), ap Some same)

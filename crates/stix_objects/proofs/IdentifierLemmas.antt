@@ -5,15 +5,15 @@ use Rattle.flow_values.specs.Answers.{FindsExactly}
 use Rattle.serde_json.specs.Data.{Data}
 use Rattle.stix_ids.specs.declared.id.Id.{Id}
 use Rattle.stix_ids.specs.declared.parts.IdRef.{IdRef}
-use Rattle.stix_ids.specs.Identifier.{IsTextOf, IsIdText}
+use Rattle.stix_ids.specs.Identifier.{IsTextOfId, IsIdText}
 use Rattle.stix_ids.specs.PartsOf.{id_of}
 use Rattle.stix_objects.specs.Types.{is_among}
-use Rattle.stix_json.specs.Properties.{text_at}
+use Rattle.stix_json.specs.Properties.{property_text}
 use Rattle.stix_objects.specs.Properties.{HasId}
 use Rattle.stix_objects.specs.Singles.{Refers, NamesOwn}
 
 abbrev pub IsOnly : List ℕ → Option Id → Type 0
-IsOnly s found = (id : Id) → IsTextOf s id → found ≡ Some id
+IsOnly s found = (id : Id) → IsTextOfId s id → found ≡ Some id
 
 pub names_none : (s : List ℕ) → IsOnly s None → IsIdText s → ⊥
 names_none s only named = let same : None ≡ Some named.0 = only named.0 named.1 in cc
@@ -26,10 +26,10 @@ refers_not s id kinds only out named =
     let inside : is_among id.kind kinds ≡ true = ap (λ name. is_among name kinds) kind ∙ named.2 in
     cc
 
-pub own_by_kind : (s own : List ℕ) (id : Id) → IsTextOf s id → bytes_eq id.kind own ≡ true → NamesOwn (Some own) s
+pub own_by_kind : (s own : List ℕ) (id : Id) → IsTextOfId s id → bytes_eq id.kind own ≡ true → NamesOwn (Some own) s
 own_by_kind s own id named same =
     let kind : id.kind ≡ own = (bytes_eq-Decides id.kind own).0 same in
-    (id.number, subst (λ (k : List ℕ). IsTextOf s (record { kind = k; number = id.number })) kind named)
+    (id.number, subst (λ (k : List ℕ). IsTextOfId s (record { kind = k; number = id.number })) kind named)
 
 pub kind_of_own : (s own : List ℕ) (id : Id) → IsOnly s (Some id) → NamesOwn (Some own) s → bytes_eq id.kind own ≡ true
 kind_of_own s own id only named =
@@ -43,16 +43,16 @@ named_by_own None s named = named
 named_by_own (Some own) s named = (record { kind = own; number = named.0 }, named.1)
 
 -- an object has one identifier
-pub one_id : ((text : List ℕ) (first second : Id) → IsTextOf text first → IsTextOf text second → first ≡ second) → (d : Data) (first second : Id)
+pub one_id : ((text : List ℕ) (first second : Id) → IsTextOfId text first → IsTextOfId text second → first ≡ second) → (d : Data) (first second : Id)
     → HasId d first → HasId d second → first ≡ second
 one_id one d first second is also =
     let text : also.text ≡ is.text = ap (λ (o : Option (List ℕ)). unwrap_or o also.text) (sym also.there ∙ is.there) in
-    one is.text first second is.reads (subst (λ (t : List ℕ). IsTextOf t second) text also.reads)
+    one is.text first second is.reads (subst (λ (t : List ℕ). IsTextOfId t second) text also.reads)
 
 -- the identifier that is read of the text of `id`, if it is one
-pub identified : (d : Data) (s : List ℕ) → Some s ≡ text_at (codes "id") d → (found : Option IdRef) → IfSome found (λ parts. IsTextOf s (id_of parts))
+pub identified : (d : Data) (s : List ℕ) → Some s ≡ property_text (codes "id") d → (found : Option IdRef) → IfSome found (λ parts. IsTextOfId s (id_of parts))
     → IsOnly s (option_map id_of found) → FindsExactly (HasId d) (option_map id_of found)
 identified d s there None some only = λ id has.
     let text : has.text ≡ s = ap (λ (o : Option (List ℕ)). unwrap_or o s) (sym has.there ∙ sym there) in
-    names_none s only (id, subst (λ (t : List ℕ). IsTextOf t id) text has.reads)
+    names_none s only (id, subst (λ (t : List ℕ). IsTextOfId t id) text has.reads)
 identified d s there (Some parts) some only = record { text = s; there = sym there; reads = some }

@@ -9,14 +9,14 @@ use Rattle.stix_objects.specs.declared.rule.Rule.TheVariants.{NotObject}
 use Rattle.stix_objects.specs.declared.form.Precision.{Precision}
 use Rattle.stix_objects.specs.declared.form.Precision.TheVariants.{Any, Millis}
 use Rattle.stix_objects.specs.declared.rule_break.Break.{Break}
-use Rattle.stix_objects.specs.BreakAt.{BreakAt, here, under, break_of}
+use Rattle.stix_objects.specs.BreakAt.{BreakAt, here, break_under, break_of}
 use Rattle.stix_objects.specs.Form.{Single, any_text, kind, version, one_of, timestamp, any_reference, reference, any_boolean, integer_in, texts_by_name, Part, must, may, some_of, Form, one, list, records}
 use Rattle.stix_objects.specs.Form as forms
 use Rattle.stix_objects.specs.Row.{Row, required, optional, required_where, own_id, order, strict_order, needs_one_of, excludes, statement, colour, colour_id}
-use Rattle.stix_objects.specs.Checking.{Asks, Forbids, InTurn, OfKind}
+use Rattle.stix_objects.specs.Checking.{Requires, Forbids, ChecksInTurn, OfKind}
 use Rattle.stix_objects.specs.Singles.{integer_of, ChecksTimestamp, ChecksSingle, ChecksOwnId}
 use Rattle.stix_objects.specs.Forms.{ChecksHere, ChecksUnder, ChecksItems, ChecksList, ChecksValue, ChecksPart, ChecksParts, OfList, ChecksForm}
-use Rattle.stix_json.specs.Properties.{text_at}
+use Rattle.stix_json.specs.Properties.{property_text}
 use Rattle.stix_objects.specs.Rows.{ChecksOwn, Checks}
 use Rattle.stix_objects.specs.Breaks.{ChecksRows, AreBreaksBy, rows_for, type_of, AreBreaksOf}
 
@@ -27,7 +27,7 @@ HasOutcome {A} Judges' = ¬ ((outcome : Option A) → ¬ Judges' outcome)
 met_some : {A : Type 0} (told : Option A) → HasOutcome (λ outcome. outcome ≡ told)
 met_some told = λ none. none told refl
 
-asks_some : {A : Type 0} (P : Type 0) (told : A) → HasOutcome (Asks P told)
+asks_some : {A : Type 0} (P : Type 0) (told : A) → HasOutcome (Requires P told)
 asks_some P told = λ none. none (Some told) ((λ p. none None p), refl)
 
 forbids_some : {A : Type 0} (P : Type 0) (told : A) → HasOutcome (Forbids P told)
@@ -38,7 +38,7 @@ match_some : {A B : Type 0} (o : Option B) (P : Option A → Type 0) (Q : B → 
 match_some None P Q p q = p
 match_some (Some x) P Q p q = q x
 
-in_turn_some : {A : Type 0} (First Next : Option A → Type 0) → HasOutcome First → HasOutcome Next → HasOutcome (InTurn First Next)
+in_turn_some : {A : Type 0} (First Next : Option A → Type 0) → HasOutcome First → HasOutcome Next → HasOutcome (ChecksInTurn First Next)
 in_turn_some {A} First Next p q = λ none. p (λ first is.
     match_some first Next (λ found outcome. outcome ≡ Some found) q (λ found. met_some (Some found)) (λ outcome next. none outcome (first, is, next)))
 
@@ -70,7 +70,7 @@ here_some : (single : Single) (d : Data) → HasOutcome (ChecksHere single d)
 here_some single d = told_some (ChecksSingle single d) here (single_some single d)
 
 under_some : (part : List ℕ) (J : Option BreakAt → Type 0) → HasOutcome J → HasOutcome (ChecksUnder part J)
-under_some part J p = told_some J (under part) p
+under_some part J p = told_some J (break_under part) p
 
 items_some : (J : Data → Option BreakAt → Type 0) → ((d : Data) → HasOutcome (J d)) → (at : ℕ) (ds : Items) → HasOutcome (ChecksItems J at ds)
 items_some J p at no_items = met_some None
@@ -110,7 +110,7 @@ row_some (required name form) d = value_some _ name _ (form_some form) (get name
 row_some (optional name form) d = value_some _ name _ (form_some form) (get name d)
 row_some (required_where name form condition) d = value_some _ name _ (form_some form) (get name d)
 row_some own_id d =
-    let own = text_at (codes "type") d in
+    let own = property_text (codes "type") d in
     value_some (Unit {0}) (codes "id") (ChecksOwn own) (λ v. told_some (ChecksOwnId own v) here (own_some own v)) (get (codes "id") d)
 row_some (order precision first second) d = forbids_some _ _
 row_some (strict_order precision first second) d = forbids_some _ _

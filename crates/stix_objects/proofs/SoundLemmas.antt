@@ -10,17 +10,17 @@ use Rattle.stix_objects.specs.declared.groups.Group.TheVariants.{Domain, Marking
 use Rattle.stix_objects.specs.declared.rule.Rule.{Rule}
 use Rattle.stix_objects.specs.declared.rule.Rule.TheVariants.{BadWord, BadTime, BadId, NotObject}
 use Rattle.stix_objects.specs.declared.form.Precision.TheVariants.{Any}
-use Rattle.stix_objects.specs.BreakAt.{BreakAt, here, under, break_of}
+use Rattle.stix_objects.specs.BreakAt.{BreakAt, here, break_under, break_of}
 use Rattle.stix_objects.specs.Form.{kind, timestamp, one, time}
 use Rattle.stix_objects.specs.Row.{Row, required, own_id, order}
 use Rattle.stix_objects.specs.CommonRows.{common_rows}
 use Rattle.stix_objects.specs.DomainTypes.{observed_data}
-use Rattle.stix_objects.specs.Types.{type_named, group_in, rows_in}
-use Rattle.stix_objects.specs.Checking.{Asks, OfKind}
+use Rattle.stix_objects.specs.Types.{type_named, group_in, own_rows}
+use Rattle.stix_objects.specs.Checking.{Requires, OfKind}
 use Rattle.stix_objects.specs.Singles.{IsTimestamp, NamesOwn, ChecksSingle, ChecksOwnId}
 use Rattle.stix_objects.specs.Forms.{ChecksValue, ChecksForm}
 use Rattle.stix_objects.specs.Properties.{IsTimestampAt}
-use Rattle.stix_json.specs.Properties.{text_at}
+use Rattle.stix_json.specs.Properties.{property_text}
 use Rattle.stix_objects.specs.Rows.{Checks, ChecksOwn}
 use Rattle.stix_objects.specs.Breaks.{applicable, rows_for, type_of, ChecksRows, AreBreaksBy, AreBreaksOf}
 use Rattle.stix_objects.specs.Sound.{MeetsAll, IsNamed, IsTimed}
@@ -64,7 +64,7 @@ met_inside (Some a) tell is = absurd (cc)
 met_value : (name : List ℕ) (J : Data → Option BreakAt → Type 0) (o : Option Data) → ChecksValue (Unit {0}) name J o None → (v : Data) × (o ≡ Some v) × J v None
 met_value name J None checked = absurd (checked tt)
 met_value name J (Some v) checked =
-    (v, refl, subst (λ (o : Option BreakAt). J v o) (met_inside checked.0 (under name) checked.2) checked.1)
+    (v, refl, subst (λ (o : Option BreakAt). J v o) (met_inside checked.0 (break_under name) checked.2) checked.1)
 
 met_here : (J : Option Rule → Type 0) → ((rule : Option Rule) × J rule × (None ≡ option_map here rule)) → J None
 met_here J checked = subst (λ (o : Option Rule). J o) (met_inside checked.0 here checked.2) checked.1
@@ -73,23 +73,23 @@ met_kind : {A : Type 0} (of : Option A) (J : A → Option Rule → Type 0) → O
 met_kind None J checked = absurd (cc)
 met_kind (Some a) J checked = (a, refl, checked)
 
-text_there : (name : List ℕ) (d v : Data) (s : List ℕ) → get name d ≡ Some v → as_str v ≡ Some s → text_at name d ≡ Some s
+text_there : (name : List ℕ) (d v : Data) (s : List ℕ) → get name d ≡ Some v → as_str v ≡ Some s → property_text name d ≡ Some s
 text_there name d v s there is = ap (option_and_then as_str) there ∙ is
 
 met_time : (name : List ℕ) (d : Data) → Checks (required name time) d None → (i : ℤ) × IsTimestampAt Any name d i
 met_time name d checked =
     let v = met_value name (ChecksForm time) (get name d) checked in
-    let s = met_kind (as_str v.0) (λ s. Asks (IsTimestamp Any s) BadTime) (met_here (ChecksSingle (timestamp Any) v.0) v.2) in
+    let s = met_kind (as_str v.0) (λ s. Requires (IsTimestamp Any s) BadTime) (met_here (ChecksSingle (timestamp Any) v.0) v.2) in
     (s.2.0, record { text = s.0; there = text_there name d v.0 s.0 v.1 s.1; names = s.2.1 })
 
 named_met : (d : Data) → IsSome (as_object d) → Checks (required (codes "type") (one kind)) d None → Checks own_id d None → IsNamed d
 named_met d object typed owned =
     let t = met_value (codes "type") (ChecksForm (one kind)) (get (codes "type") d) typed in
-    let s = met_kind (as_str t.0) (λ s. Asks (IsKind s) BadWord) (met_here (ChecksSingle kind t.0) t.2) in
-    let type_is : text_at (codes "type") d ≡ Some s.0 = text_there (codes "type") d t.0 s.0 t.1 s.1 in
-    let own = text_at (codes "type") d in
+    let s = met_kind (as_str t.0) (λ s. Requires (IsKind s) BadWord) (met_here (ChecksSingle kind t.0) t.2) in
+    let type_is : property_text (codes "type") d ≡ Some s.0 = text_there (codes "type") d t.0 s.0 t.1 s.1 in
+    let own = property_text (codes "type") d in
     let i = met_value (codes "id") (ChecksOwn own) (get (codes "id") d) owned in
-    let n = met_kind (as_str i.0) (λ s. Asks (NamesOwn own s) BadId) (met_here (ChecksOwnId own i.0) i.2) in
+    let n = met_kind (as_str i.0) (λ s. Requires (NamesOwn own s) BadId) (met_here (ChecksOwnId own i.0) i.2) in
     let id = subst (λ (o : Option (List ℕ)). NamesOwn o n.0) type_is n.2 in
     record {
       object = object;
@@ -105,7 +105,7 @@ named_met d object typed owned =
 pub is_named : (d : Data) → IsMet d → IsNamed d
 is_named d met =
     let type = type_of d in
-    let common = common_met (group_in type) (rows_in type) d met.rows in
+    let common = common_met (group_in type) (own_rows type) d met.rows in
     named_met d met.object common.0 common.1
 
 timed : (first second : List ℕ) (d : Data) → Checks (required first time) d None → Checks (required second time) d None → Checks (order Any first second) d None → IsTimed first second d
@@ -122,12 +122,12 @@ timed first second d begins ends ordered =
     }
 
 -- an observed-data has its own rows
-observed_rows : (d : Data) → text_at (codes "type") d ≡ Some (codes "observed-data") → rows_in (type_of d) ≡ observed_data
-observed_rows d is = ap (λ name. rows_in (option_and_then type_named name)) is
+observed_rows : (d : Data) → property_text (codes "type") d ≡ Some (codes "observed-data") → own_rows (type_of d) ≡ observed_data
+observed_rows d is = ap (λ name. own_rows (option_and_then type_named name)) is
 
-pub is_timed : (d : Data) → IsMet d → text_at (codes "type") d ≡ Some (codes "observed-data") → IsTimed (codes "first_observed") (codes "last_observed") d
+pub is_timed : (d : Data) → IsMet d → property_text (codes "type") d ≡ Some (codes "observed-data") → IsTimed (codes "first_observed") (codes "last_observed") d
 is_timed d met is =
     let type = type_of d in
-    let own = own_met (filter_map (applicable (group_in type) (rows_in type)) common_rows) (rows_in type) d met.rows in
+    let own = own_met (filter_map (applicable (group_in type) (own_rows type)) common_rows) (own_rows type) d met.rows in
     let rows = subst (λ (rows : List Row). MeetsAll rows d) (observed_rows d is) own in
     timed (codes "first_observed") (codes "last_observed") d rows.0 rows.1.0 rows.1.1.0

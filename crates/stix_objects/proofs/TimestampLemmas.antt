@@ -11,14 +11,14 @@ use Rattle.serde_json.specs.Data.{Data}
 use Rattle.stix_objects.specs.declared.form.Precision.{Precision}
 use Rattle.stix_objects.specs.declared.form.Precision.TheVariants.{Any, Millis}
 use Rattle.stix_objects.specs.Singles.{IsTimestampOf}
-use Rattle.stix_json.specs.Properties.{text_at}
+use Rattle.stix_json.specs.Properties.{property_text}
 use Rattle.stix_objects.specs.Conditions.{SecondIsEarlier}
 use Rattle.stix_objects.specs.Properties.{IsTimestampAt}
-use Rattle.stix_times.specs.Reading.{HasMillis, IsTextOf, IsMillisTextOf, Reads, ReadsMillis, IsRefusedMillis}
+use Rattle.stix_times.specs.Reading.{HasMillis, IsTextOfInstant, IsMillisTextOf, ReadsTimestamp, ReadsMillis, IsRefusedMillis}
 
 -- a text that names an instant isn't refused
-pub not_refused : (s : List ℕ) (e : TimeRefusal) (answer : Result ℤ TimeRefusal) → ((other : Result ℤ TimeRefusal) → Reads s other → other ≡ answer)
-    → answer ≡ Err e → (i : ℤ) → IsTextOf s i → ⊥
+pub not_refused : (s : List ℕ) (e : TimeRefusal) (answer : Result ℤ TimeRefusal) → ((other : Result ℤ TimeRefusal) → ReadsTimestamp s other → other ≡ answer)
+    → answer ≡ Err e → (i : ℤ) → IsTextOfInstant s i → ⊥
 not_refused s e answer only is i h = let same : Ok i ≡ answer = only (Ok i) h in cc
 
 pub not_refused_millis : (s : List ℕ) (e : TimeRefusal) (answer : Result ℤ TimeRefusal) → ((other : Result ℤ TimeRefusal) → ReadsMillis s other → other ≡ answer)
@@ -29,10 +29,10 @@ not_refused_millis s e answer only is i h = let same : Ok i ≡ answer = only (O
 pub same_instant : (i j : ℤ) (answer : Result ℤ TimeRefusal) → Ok j ≡ answer → answer ≡ Ok i → Some i ≡ Some j
 same_instant i j answer named is = cc
 
-pub time_of_millis : (s : List ℕ) (i : ℤ) → IsMillisTextOf s i → IsTextOf s i
+pub time_of_millis : (s : List ℕ) (i : ℤ) → IsMillisTextOf s i → IsTextOfInstant s i
 time_of_millis s i h = (h.0, h.1, (h.2.0, h.2.2))
 
-pub time_of_fine : (s : List ℕ) → IsRefusedMillis s NotMillis → (i : ℤ) × IsTextOf s i
+pub time_of_fine : (s : List ℕ) → IsRefusedMillis s NotMillis → (i : ℤ) × IsTextOfInstant s i
 time_of_fine s h = (nanos_of h.0, (h.0, h.1, (h.2.0, refl)))
 
 millis_or_not : (t : Timestamp) → HasMillis t ⊎ (¬ HasMillis t)
@@ -44,7 +44,7 @@ millis_or_not t =
 
 -- a text that is refused for another cause than its digits names no instant
 pub names_none : (s : List ℕ) (e : TimeRefusal) (answer : Result ℤ TimeRefusal) → ((other : Result ℤ TimeRefusal) → ReadsMillis s other → other ≡ answer)
-    → answer ≡ Err e → ¬ (e ≡ NotMillis) → (i : ℤ) → IsTextOf s i → ⊥
+    → answer ≡ Err e → ¬ (e ≡ NotMillis) → (i : ℤ) → IsTextOfInstant s i → ⊥
 names_none s e answer only is other i h =
     elim (millis_or_not h.0) [
       | inl millis ↦ not_refused_millis s e answer only is i (h.0, h.1, (h.2.0, millis, h.2.1))
@@ -74,7 +74,7 @@ found_exactly Rule None there only = λ instant is. let none : None ≡ Some ins
 found_exactly Rule (Some instant) there only = there
 
 abbrev pub OneInstant : Type 0
-OneInstant = (text : List ℕ) (first second : ℤ) → IsTextOf text first → IsTextOf text second → first ≡ second
+OneInstant = (text : List ℕ) (first second : ℤ) → IsTextOfInstant text first → IsTextOfInstant text second → first ≡ second
 
 instant_once : OneInstant → (precision : Precision) (text : List ℕ) (first second : ℤ) → IsTimestampOf precision text first → IsTimestampOf precision text second → first ≡ second
 instant_once one Any text first second is also = one text first second is also
@@ -95,7 +95,7 @@ is_equal first second is = (bytes_eq-Decides first second).0 (told (bytes_eq fir
     told false is = absurd (cc)
 
 -- of two properties with one text the second isn't earlier than the first
-pub never_earlier : OneInstant → (precision : Precision) (first second : List ℕ) (d : Data) (from to : List ℕ) → Some from ≡ text_at first d → Some to ≡ text_at second d
+pub never_earlier : OneInstant → (precision : Precision) (first second : List ℕ) (d : Data) (from to : List ℕ) → Some from ≡ property_text first d → Some to ≡ property_text second d
     → not (bytes_eq from to) ≡ false → SecondIsEarlier precision first second d → ⊥
 never_earlier one precision first second d from to begins ends is earlier =
     let of_first : earlier.begins.text ≡ from = ap (λ (o : Option (List ℕ)). unwrap_or o from) (sym earlier.begins.there ∙ sym begins) in

@@ -14,8 +14,8 @@ abbrev pub here : Rule → BreakAt
 here rule = record { rule = rule; parts = [] }
 
 -- the violation as seen from one part higher
-abbrev pub under : List ℕ → BreakAt → BreakAt
-under part found = record { rule = found.rule; parts = part ∷ found.parts }
+abbrev pub break_under : List ℕ → BreakAt → BreakAt
+break_under part found = record { rule = found.rule; parts = part ∷ found.parts }
 
 -- the reported violation: its path is its parts, joined by dots
 abbrev pub break_of : BreakAt → Break

@@ -10,8 +10,8 @@ use Rattle.stix_objects.specs.declared.rule_break.Break.{Break}
 use Rattle.stix_objects.specs.BreakAt.{BreakAt, here, break_of}
 use Rattle.stix_objects.specs.Row.{Row, required, optional, required_where, CommonRow, for, unless_own, ObjectType}
 use Rattle.stix_objects.specs.CommonRows.{common_rows}
-use Rattle.stix_objects.specs.Types.{type_named, group_in, rows_in}
-use Rattle.stix_json.specs.Properties.{text_at}
+use Rattle.stix_objects.specs.Types.{type_named, group_in, own_rows}
+use Rattle.stix_json.specs.Properties.{property_text}
 use Rattle.stix_objects.specs.Rows.{Checks}
 
 -- whether two groups are equal
@@ -23,25 +23,25 @@ same_group Other Other = true
 same_group _ _ = false
 
 -- whether the row is about the property of this name
-abbrev pub is_row_of : List ℕ → Row → Bool
-is_row_of name (required own form) = bytes_eq own name
-is_row_of name (optional own form) = bytes_eq own name
-is_row_of name (required_where own form condition) = bytes_eq own name
-is_row_of name _ = false
+abbrev pub is_rule_row_of : List ℕ → Row → Bool
+is_rule_row_of name (required own form) = bytes_eq own name
+is_rule_row_of name (optional own form) = bytes_eq own name
+is_rule_row_of name (required_where own form condition) = bytes_eq own name
+is_rule_row_of name _ = false
 
 -- the common row, if it applies to a type with this group and these own rows
 abbrev pub applicable : Group → List Row → CommonRow → Option Row
 applicable group own (for groups row) = if list_any (same_group group) groups then Some row else None
 applicable group own (unless_own groups name row) =
-    if list_any (same_group group) groups && not (list_any (is_row_of name) own) then Some row else None
+    if list_any (same_group group) groups && not (list_any (is_rule_row_of name) own) then Some row else None
 
 -- the rows of a type: the common rows that apply to it, then its own
 abbrev pub rows_for : Option ObjectType → List Row
-rows_for type = filter_map (applicable (group_in type) (rows_in type)) common_rows ++ rows_in type
+rows_for type = filter_map (applicable (group_in type) (own_rows type)) common_rows ++ own_rows type
 
 -- the type of an object, if it has its own rows
 abbrev pub type_of : Data → Option ObjectType
-type_of d = option_and_then type_named (text_at (codes "type") d)
+type_of d = option_and_then type_named (property_text (codes "type") d)
 
 -- each row's outcome, in order
 abbrev pub ChecksRows : List Row → Data → List (Option BreakAt) → Type 0

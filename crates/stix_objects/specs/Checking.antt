@@ -4,9 +4,9 @@ use Rattle.stix_objects.specs.declared.rule.Rule.{Rule}
 use Rattle.stix_objects.specs.declared.rule.Rule.TheVariants.{WrongKind}
 
 -- the fact is required: if it fails, the outcome is this violation
-abbrev pub Asks : {A : Type 0} → Type 0 → A → Option A → Type 0
-Asks P told None = P
-Asks P told (Some found) = (¬ P) × (found ≡ told)
+abbrev pub Requires : {A : Type 0} → Type 0 → A → Option A → Type 0
+Requires P told None = P
+Requires P told (Some found) = (¬ P) × (found ≡ told)
 
 -- the fact is forbidden: if it holds, the outcome is this violation
 abbrev pub Forbids : {A : Type 0} → Type 0 → A → Option A → Type 0
@@ -14,8 +14,8 @@ Forbids P told None = ¬ P
 Forbids P told (Some found) = P × (found ≡ told)
 
 -- one check, and if it finds nothing, the next
-abbrev pub InTurn : {A : Type 0} → (Option A → Type 0) → (Option A → Type 0) → Option A → Type 0
-InTurn {A} First Next outcome = (first : Option A) × First first × MatchOption first (Next outcome) (λ found. outcome ≡ Some found)
+abbrev pub ChecksInTurn : {A : Type 0} → (Option A → Type 0) → (Option A → Type 0) → Option A → Type 0
+ChecksInTurn {A} First Next outcome = (first : Option A) × First first × MatchOption first (Next outcome) (λ found. outcome ≡ Some found)
 
 -- a value of one JSON type is checked as such, and any other is WrongKind
 abbrev pub OfKind : {A : Type 0} → Option A → (A → Option Rule → Type 0) → Option Rule → Type 0

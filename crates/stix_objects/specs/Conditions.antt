@@ -3,7 +3,7 @@ use Rattle.std.specs.Prelude.{◌≡◌, ⊤, ℕ, ℤ, ◌<ℤ◌, ◌≤ℤ◌
 use Rattle.serde_json.specs.Data.{Data, boolean}
 use Rattle.serde_json.specs.Find.{get, as_object}
 use Rattle.stix_ids.specs.declared.id.Id.{Id}
-use Rattle.stix_json.specs.Properties.{text_at}
+use Rattle.stix_json.specs.Properties.{property_text}
 use Rattle.stix_objects.specs.declared.form.Precision.{Precision}
 use Rattle.stix_objects.specs.Form.{Form}
 use Rattle.stix_objects.specs.Row.{Condition, is_true, is_false, meets, absent}
@@ -12,14 +12,14 @@ use Rattle.stix_objects.specs.Forms.{MeetsForm}
 use Rattle.stix_objects.specs.Properties.{IsTimestampAt, HasId}
 
 -- the property is present and has the form
-abbrev pub Meets : List ℕ → Form → Data → Type 0
-Meets name form d = MatchOption (get name d) ⊥ (MeetsForm form)
+abbrev pub MeetsPropertyForm : List ℕ → Form → Data → Type 0
+MeetsPropertyForm name form d = MatchOption (get name d) ⊥ (MeetsForm form)
 
 -- the meaning of a condition
 abbrev pub Holds : Condition → Data → Type 0
 Holds (is_true name) d = get name d ≡ Some (boolean true)
 Holds (is_false name) d = get name d ≡ Some (boolean false)
-Holds (meets name form) d = Meets name form d
+Holds (meets name form) d = MeetsPropertyForm name form d
 Holds (absent name) d = get name d ≡ None
 
 -- all the conditions hold
@@ -61,7 +61,7 @@ number_of_colour name = option_map (λ colour. colour.number) (find (λ colour. 
 
 -- a text of the definition
 abbrev pub defined_text : List ℕ → Data → Option (List ℕ)
-defined_text name d = option_and_then (text_at name) (get (codes "definition") d)
+defined_text name d = option_and_then (property_text name) (get (codes "definition") d)
 
 -- the UUID of the colour that is defined
 abbrev pub defined_colour : Data → Option ℕ
@@ -73,7 +73,7 @@ DefinesObjectOrNone d = MatchOption (get (codes "definition") d) ⊤ (λ v. IsSo
 
 -- the object is a marking of this type, and its definition, if any, is an object
 pub record IsMarking (type : List ℕ) (d : Data) : Type 0 where
-  pub type_is : text_at (codes "definition_type") d ≡ Some type
+  pub type_is : property_text (codes "definition_type") d ≡ Some type
   pub definition_is : DefinesObjectOrNone d
 
 -- the object has an identifier with this UUID
@@ -83,7 +83,7 @@ HasNumber d number = (id : Id) × HasId d id × (id.number ≡ number)
 -- the object's identifier, if any, is of the object's type
 abbrev pub HasOwnIdOrNone : Data → Type 0
 HasOwnIdOrNone d =
-    MatchOption (get (codes "id") d) ⊤ (λ v. ChecksOwnId (text_at (codes "type") d) v None)
+    MatchOption (get (codes "id") d) ⊤ (λ v. ChecksOwnId (property_text (codes "type") d) v None)
 
 -- the object defines a colour, and its identifier isn't the colour's
 pub record HasOtherColour (d : Data) : Type 0 where

@@ -10,7 +10,7 @@ use Rattle.stix_objects.specs.Checking.{Forbids}
 use Rattle.stix_objects.specs.Singles.{ChecksOwnId}
 use Rattle.stix_objects.specs.Forms.{ChecksValue, ChecksForm, LacksAll}
 use Rattle.stix_objects.specs.Conditions.{Holds, HoldAll, SecondIsEarlier, SecondIsNotLater, defined_text, defined_colour, IsMarking, HasOtherColour}
-use Rattle.stix_json.specs.Properties.{text_at}
+use Rattle.stix_json.specs.Properties.{property_text}
 
 -- a rule broken at a path
 abbrev pub at : List (List ℕ) → Rule → BreakAt
@@ -35,7 +35,7 @@ Checks (optional name form) d outcome = ChecksValue ⊥ name (ChecksForm form) (
 Checks (required_where name form condition) d outcome =
     ChecksValue (Holds condition d) name (ChecksForm form) (get name d) outcome
 Checks own_id d outcome =
-    ChecksValue ⊤ (codes "id") (ChecksOwn (text_at (codes "type") d)) (get (codes "id") d) outcome
+    ChecksValue ⊤ (codes "id") (ChecksOwn (property_text (codes "type") d)) (get (codes "id") d) outcome
 Checks (order precision first second) d outcome =
     Forbids (SecondIsEarlier precision first second d) (at (second ∷ []) BadOrder) outcome
 Checks (strict_order precision first second) d outcome =

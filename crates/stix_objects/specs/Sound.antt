@@ -3,11 +3,11 @@ use Rattle.std.specs.Prelude.{◌≡◌, ⊤, ℕ, ℤ, ◌≤ℤ◌, List, [], 
 use Rattle.serde_json.specs.Data.{Data}
 use Rattle.serde_json.specs.Find.{as_object}
 use Rattle.stix_ids.specs.Kind.{IsKind}
-use Rattle.stix_ids.specs.Identifier.{IsTextOf}
+use Rattle.stix_ids.specs.Identifier.{IsTextOfId}
 use Rattle.stix_objects.specs.declared.form.Precision.TheVariants.{Any}
 use Rattle.stix_objects.specs.Row.{Row}
 use Rattle.stix_objects.specs.Properties.{IsTimestampAt}
-use Rattle.stix_json.specs.Properties.{text_at}
+use Rattle.stix_json.specs.Properties.{property_text}
 use Rattle.stix_objects.specs.Rows.{Checks}
 
 -- the value meets each row
@@ -19,12 +19,12 @@ MeetsAll (row ∷ rows) d = Checks row d None × MeetsAll rows d
 pub record IsNamed (d : Data) : Type 0 where
   pub object : IsSome (as_object d)
   pub type : List ℕ
-  pub typed : text_at (codes "type") d ≡ Some type
+  pub typed : property_text (codes "type") d ≡ Some type
   pub kind : IsKind type
   pub text : List ℕ
-  pub named : text_at (codes "id") d ≡ Some text
+  pub named : property_text (codes "id") d ≡ Some text
   pub number : ℕ
-  pub id : IsTextOf text (record { kind = type; number = number })
+  pub id : IsTextOfId text (record { kind = type; number = number })
 
 -- the two properties are timestamps, and the second isn't earlier than the first
 pub record IsTimed (first second : List ℕ) (d : Data) : Type 0 where

@@ -77,8 +77,8 @@ abbrev pub group_in : Option ObjectType → Group
 group_in found = option_map_or (λ type. type.group) found Other
 
 -- the own rows of a type, and none without a type
-abbrev pub rows_in : Option ObjectType → List Row
-rows_in found = option_map_or (λ type. type.rows) found []
+abbrev pub own_rows : Option ObjectType → List Row
+own_rows found = option_map_or (λ type. type.rows) found []
 
 -- the group of a kind
 abbrev pub group_of : List ℕ → Group

@@ -2,7 +2,7 @@ ghost use Rattle.std.specs.Prelude.{◌≡◌, ◌↔◌, IsTrue, Some, true, fa
 ghost use Rattle.serde_json.specs.Data.{boolean};
 ghost use Rattle.serde_json.specs.Find.{get as member_of};
 ghost use Rattle.stix_json.specs.DataOf.{data_of};
-ghost use Rattle.stix_objects.specs.Conditions.{Meets, Holds, HoldAll};
+ghost use Rattle.stix_objects.specs.Conditions.{MeetsPropertyForm, Holds, HoldAll};
 ghost use Rattle.stix_objects.specs.inner.Views.{form_view, condition_view};
 
 use crate::form::Form;
@@ -47,7 +47,7 @@ fn is_boolean(object: &Object<'_>, name: &str, wanted: bool) -> bool
 
 /// Whether the property is present and has this form.
 fn meets(object: &Object<'_>, name: &str, form: &Form) -> bool
-    ensures { IsTrue result ↔ Meets name.now (form_view form.now) (data_of object.now) }
+    ensures { IsTrue result ↔ MeetsPropertyForm name.now (form_view form.now) (data_of object.now) }
 {
     match object.get(name) {
         Some(value) => check_form(form, value).is_none(),

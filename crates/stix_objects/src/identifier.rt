@@ -1,6 +1,6 @@
 ghost use Rattle.std.specs.Prelude.{◌≡◌, ◌↔◌, Some, IsTrue, IfSome, option_map, map};
 ghost use Rattle.stix_ids.specs.declared.id.Id.{Id};
-ghost use Rattle.stix_ids.specs.Identifier.{IsTextOf};
+ghost use Rattle.stix_ids.specs.Identifier.{IsTextOfId};
 ghost use Rattle.stix_ids.specs.PartsOf.{id_of};
 ghost use Rattle.flow_values.specs.Answers.{FindsExactly};
 ghost use Rattle.stix_json.specs.DataOf.{data_of};
@@ -17,8 +17,8 @@ use stix_json::{Json, text_at, text_of};
 
 /// Reads an identifier.
 fn identifier_of(text: &str) -> Option<IdRef<'_>>
-    ensures some { IfSome result (λ parts. IsTextOf text.now (id_of parts)) }
-    ensures only { (id : Id) → IsTextOf text.now id → option_map id_of result ≡ Some id }
+    ensures some { IfSome result (λ parts. IsTextOfId text.now (id_of parts)) }
+    ensures only { (id : Id) → IsTextOfId text.now id → option_map id_of result ≡ Some id }
 {
     IdRef::read(text).ok()
 }

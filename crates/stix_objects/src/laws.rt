@@ -7,7 +7,7 @@ ghost use Rattle.stix_ids.specs.declared.id.Id.{Id};
 ghost use Rattle.stix_objects.specs.declared.form.Precision.{Precision};
 ghost use Rattle.stix_objects.specs.declared.rule_break.Break.{Break};
 ghost use Rattle.stix_objects.specs.Breaks.{AreBreaksOf, rows_for, type_of};
-ghost use Rattle.stix_json.specs.Properties.{text_at};
+ghost use Rattle.stix_json.specs.Properties.{property_text};
 ghost use Rattle.stix_objects.specs.Properties.{IsTimestampAt, HasId};
 ghost use Rattle.stix_objects.specs.Sound.{MeetsAll, IsNamed, IsTimed};
 
@@ -49,6 +49,6 @@ pub fn no_breaks()
         → MeetsAll (rows_for (type_of value)) value }
     ensures named { (value : Data) → AreBreaksOf value [] → IsNamed value }
     ensures observed { (value : Data) → AreBreaksOf value []
-        → text_at (codes "type") value ≡ Some (codes "observed-data")
+        → property_text (codes "type") value ≡ Some (codes "observed-data")
         → IsTimed (codes "first_observed") (codes "last_observed") value }
 {}

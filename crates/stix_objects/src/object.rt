@@ -1,7 +1,7 @@
 ghost use Rattle.std.specs.Prelude.{◌≡◌, ◌<◌, IsTrue, None, map, option_map};
 ghost use Rattle.serde_json.specs.Find.{get as member_of};
 ghost use Rattle.stix_json.specs.DataOf.{data_of, field_data, members_of};
-ghost use Rattle.stix_json.specs.Properties.{text_at as text_under};
+ghost use Rattle.stix_json.specs.Properties.{property_text as text_under};
 ghost use Rattle.stix_objects.specs.inner.Names.{slot, Covers, AreCovered};
 
 use std::marker::Model;

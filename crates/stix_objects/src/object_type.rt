@@ -1,7 +1,7 @@
 ghost use Rattle.std.specs.Prelude.{◌≡◌, bytes_eq, map, option_map};
 ghost use Rattle.std.specs.List.{flat_map};
 ghost use Rattle.stix_objects.specs.Types.{type_named as named_type, first_named as first_type};
-ghost use Rattle.stix_objects.specs.Types.{group_in as group_of_type, rows_in as rows_of_type};
+ghost use Rattle.stix_objects.specs.Types.{group_in as group_of_type, own_rows as rows_of_type};
 ghost use Rattle.stix_objects.specs.inner.Views.{row_view, type_view};
 
 use crate::Group;

@@ -5,9 +5,9 @@ ghost use Rattle.stix_objects.specs.declared.rule.Rule.TheVariants.{NotObject};
 ghost use Rattle.stix_objects.specs.BreakAt.{here, break_of};
 ghost use Rattle.stix_objects.specs.Breaks.{type_of, AreBreaksBy, AreBreaksOf, rows_for};
 ghost use Rattle.stix_objects.specs.Breaks.{applicable};
-ghost use Rattle.stix_objects.specs.Types.{group_in as group_of_type, rows_in as rows_of_type};
+ghost use Rattle.stix_objects.specs.Types.{group_in as group_of_type, own_rows as rows_of_type};
 ghost use Rattle.stix_objects.specs.CommonRows.{common_rows as shared_rows};
-ghost use Rattle.stix_objects.specs.inner.Adding.{Adds, AddsOne, applicable_rows};
+ghost use Rattle.stix_objects.specs.inner.Adding.{AddsBreaks, AddsOne, applicable_rows};
 ghost use Rattle.stix_objects.specs.inner.Views.{row_view, common_view, type_view, row_break_view};
 
 use crate::check::{check, is_trivially_met};
@@ -83,7 +83,7 @@ fn add_common(
     object: &Object<'_>,
     found: &mut Items<Break>,
 ) -> Result<(), NoMemory>
-    ensures { OnOk result (Adds
+    ensures { OnOk result (AddsBreaks
         (applicable_rows group (map row_view own.now) (map common_view commons.now))
         (data_of object.now) found.old found.new) }
 {
@@ -102,7 +102,7 @@ fn add_applicable(
     object: &Object<'_>,
     found: &mut Items<Break>,
 ) -> Result<(), NoMemory>
-    ensures { OnOk result (Adds
+    ensures { OnOk result (AddsBreaks
         (option_to_list (applicable group (map row_view own.now) (common_view common.now)))
         (data_of object.now) found.old found.new) }
 {
@@ -119,7 +119,7 @@ fn add_own(
     object: &Object<'_>,
     found: &mut Items<Break>,
 ) -> Result<(), NoMemory>
-    ensures { OnOk result (Adds (map row_view rows.now) (data_of object.now) found.old found.new) }
+    ensures { OnOk result (AddsBreaks (map row_view rows.now) (data_of object.now) found.old found.new) }
 {
     for row in rows {
         add_break(alloc, row, object, found)?;

@@ -1,6 +1,6 @@
 ghost use Rattle.std.specs.Prelude.{◌≡◌, option_map, map};
 ghost use Rattle.std.specs.List.{list_any};
-ghost use Rattle.stix_objects.specs.Breaks.{is_row_of, applicable as applicable_row};
+ghost use Rattle.stix_objects.specs.Breaks.{is_rule_row_of, applicable as applicable_row};
 ghost use Rattle.stix_objects.specs.inner.Views.{form_view, row_view, common_view};
 
 use crate::Group;
@@ -54,7 +54,7 @@ pub(crate) enum CommonRow {
 impl Row {
     /// Whether the row is about the property of this name.
     fn is_of(&self, name: &str) -> bool
-        ensures { result ≡ is_row_of name.now (row_view self.now) }
+        ensures { result ≡ is_rule_row_of name.now (row_view self.now) }
     {
         match self {
             Row::Required(own, _) | Row::Optional(own, _) | Row::RequiredWhere(own, _, _) => {
@@ -102,7 +102,7 @@ impl CommonRow {
 
 /// Whether one of the rows is about the property of this name.
 fn name_property(rows: &[Row], name: &str) -> bool
-    ensures { result ≡ list_any (λ row. is_row_of name.now (row_view row)) rows.now }
+    ensures { result ≡ list_any (λ row. is_rule_row_of name.now (row_view row)) rows.now }
 {
     rows.iter().any(|row| row.is_of(name))
 }

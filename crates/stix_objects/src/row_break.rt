@@ -1,6 +1,6 @@
 ghost use Rattle.std.specs.Prelude.{◌≡◌, IfOk};
 ghost use Rattle.stix_json.specs.Walk.{path_text, index_part};
-ghost use Rattle.stix_objects.specs.BreakAt.{here, under, break_of};
+ghost use Rattle.stix_objects.specs.BreakAt.{here, break_under, break_of};
 ghost use Rattle.stix_objects.specs.inner.Views.{item_break_view, value_break_view};
 ghost use Rattle.stix_objects.specs.inner.Views.{object_location_parts, row_break_view};
 
@@ -18,7 +18,7 @@ pub(crate) struct ItemBreak {
 impl ItemBreak {
     /// The violation as seen from the list.
     pub(crate) fn in_item(self, at: usize) -> ValueBreak
-        ensures { value_break_view result ≡ under (index_part at) (item_break_view self) }
+        ensures { value_break_view result ≡ break_under (index_part at) (item_break_view self) }
     {
         let location = match self.part {
             Some(name) => ValueLocation::ItemPart(at, name),
@@ -62,7 +62,7 @@ impl ValueBreak {
 
     /// The violation as seen from the object.
     pub(crate) fn in_property(self, name: &'static str) -> RowBreak
-        ensures { row_break_view result ≡ under name.now (value_break_view self) }
+        ensures { row_break_view result ≡ break_under name.now (value_break_view self) }
     {
         RowBreak {
             rule: self.rule,
@@ -112,7 +112,7 @@ pub(crate) struct RowBreak {
 impl RowBreak {
     /// The property breaks the rule.
     pub(crate) fn at(name: &'static str, rule: Rule) -> RowBreak
-        ensures { row_break_view result ≡ under name.now (here rule) }
+        ensures { row_break_view result ≡ break_under name.now (here rule) }
     {
         ValueBreak::here(rule).in_property(name)
     }

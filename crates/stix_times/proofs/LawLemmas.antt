@@ -11,14 +11,14 @@ use Rattle.jiff_core.specs.declared.civil.date.Date.{Date}
 use Rattle.jiff_core.proofs.SignedLemmas.{signed_arith}
 use Rattle.jiff_core.proofs.DateLemmas.{epoch_day_injective}
 use Rattle.stix_times.specs.Timestamp.{Timestamp, IsShaped, HasDay, nanos_of, nanos_of_day, fraction_nanos, day_number, text_of}
-use Rattle.stix_times.specs.Reading.{IsExact, IsTextOf}
+use Rattle.stix_times.specs.Reading.{IsExact, IsTextOfInstant}
 use Rattle.stix_times.specs.Writing.{IsCanonicalTextOf, IsTextOfDigits}
 use Rattle.stix_times.specs.Digits.{EndsInZero}
 use Rattle.stix_times.proofs.ShapeLemmas.{one_timestamp, same_parts}
 use Rattle.stix_times.proofs.FractionLemmas.{digit_value-digit, scaled_bound}
 
 -- a text names one instant
-pub one_instant : (s : List ℕ) (z w : ℤ) → IsTextOf s z → IsTextOf s w → z ≡ w
+pub one_instant : (s : List ℕ) (z w : ℤ) → IsTextOfInstant s z → IsTextOfInstant s w → z ≡ w
 one_instant s z w p q = sym p.2.1 ∙ ap nanos_of (one_timestamp s p.0 q.0 p.1 q.1) ∙ q.2.1
 
 -- the date of a shaped timestamp whose day exists

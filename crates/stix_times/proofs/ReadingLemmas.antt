@@ -3,8 +3,8 @@ use Rattle.std.proofs.Common.{◌≡◌, ℕ, List, length, Result, Ok, Err, IfO
 use Rattle.stix_times.specs.declared.refusal.TimeRefusal.{TimeRefusal}
 use Rattle.stix_times.specs.declared.refusal.TimeRefusal.TheVariants.{Shape, NoSuchDay, TooFine, NotMillis}
 use Rattle.stix_times.specs.Timestamp.{Timestamp, Spells, HasDay, nanos_of}
-use Rattle.stix_times.specs.Reading.{IsExact, HasMillis, IsLongestShapePrefix, IsRefused, IsRefusedMillis, Reads, ReadsMillis}
-use Rattle.stix_times.specs.Parts.{Names, IsTimestampRefusal}
+use Rattle.stix_times.specs.Reading.{IsExact, HasMillis, IsLongestShapePrefix, IsRefusedTimestamp, IsRefusedMillis, ReadsTimestamp, ReadsMillis}
+use Rattle.stix_times.specs.Parts.{NamesInstant, IsTimestampRefusal}
 use Rattle.stix_times.proofs.ShapeLemmas.{one_timestamp}
 
 same_offset : (s : List ℕ) (n m : ℕ) → IsLongestShapePrefix s n → IsLongestShapePrefix s m → n ≡ m
@@ -22,14 +22,14 @@ module _ (s : List ℕ) (t u : Timestamp) (p : Spells t s) (q : Spells u s) wher
   same_digits = ap (λ v. length v.fraction) (one_timestamp s t u p q)
 
 -- a text that names an instant is not refused
-not_refused : (s : List ℕ) (t : Timestamp) → Spells t s → IsExact t → (e : TimeRefusal) → IsRefused s e → ⊥
+not_refused : (s : List ℕ) (t : Timestamp) → Spells t s → IsExact t → (e : TimeRefusal) → IsRefusedTimestamp s e → ⊥
 not_refused s t p x (Shape at) q = q.0 (t, p)
 not_refused s t p x NoSuchDay q = q.2 (same_day s t q.0 p q.1 x.day)
 not_refused s t p x TooFine q = let fine = x.fine in omega (arith, same_digits s t q.0 p q.1, q.2.1)
 not_refused s t p x NotMillis q = q
 
 -- and a refused text has one refusal
-one_refusal : (s : List ℕ) (a b : TimeRefusal) → IsRefused s a → IsRefused s b → a ≡ b
+one_refusal : (s : List ℕ) (a b : TimeRefusal) → IsRefusedTimestamp s a → IsRefusedTimestamp s b → a ≡ b
 one_refusal s (Shape n) (Shape m) p q = ap Shape (same_offset s n m p.1 q.1)
 one_refusal s (Shape n) NoSuchDay p q = absurd (p.0 (q.0, q.1))
 one_refusal s (Shape n) TooFine p q = absurd (p.0 (q.0, q.1))
@@ -44,7 +44,7 @@ one_refusal s (Shape n) NotMillis p q = absurd q
 one_refusal s NoSuchDay NotMillis p q = absurd q
 one_refusal s TooFine NotMillis p q = absurd q
 
-pub only_reading : (s : List ℕ) (a b : Result ℤ TimeRefusal) → Reads s a → Reads s b → a ≡ b
+pub only_reading : (s : List ℕ) (a b : Result ℤ TimeRefusal) → ReadsTimestamp s a → ReadsTimestamp s b → a ≡ b
 only_reading s (Ok z) (Ok w) p q = ap Ok (same_nanos s p.0 q.0 p.1 q.1 z w p.2.1 q.2.1)
 only_reading s (Ok z) (Err e) p q = absurd (not_refused s p.0 p.1 p.2.0 e q)
 only_reading s (Err e) (Ok w) p q = absurd (not_refused s q.0 q.1 q.2.0 e p)
@@ -84,20 +84,20 @@ only_millis s (Err e) (Ok w) p q = absurd (not_refused_millis s q.0 q.1 q.2.0 q.
 only_millis s (Err e) (Err f) p q = ap Err (one_refusal_millis s e f p q)
 
 -- what the parts refuse, their text is refused for
-pub refused : (s : List ℕ) (t : Timestamp) → Spells t s → (e : TimeRefusal) → IsTimestampRefusal t e → IsRefused s e
+pub refused : (s : List ℕ) (t : Timestamp) → Spells t s → (e : TimeRefusal) → IsTimestampRefusal t e → IsRefusedTimestamp s e
 refused s t p (Shape at) h = absurd h
 refused s t p NoSuchDay h = (t, p, h)
 refused s t p TooFine h = (t, p, h)
 refused s t p NotMillis h = absurd h
 
 -- a refusal of reading is one where three to six digits are asked for
-pub refused_millis : (s : List ℕ) (e : TimeRefusal) → IsRefused s e → IsRefusedMillis s e
+pub refused_millis : (s : List ℕ) (e : TimeRefusal) → IsRefusedTimestamp s e → IsRefusedMillis s e
 refused_millis s (Shape at) h = h
 refused_millis s NoSuchDay h = h
 refused_millis s TooFine h = h
 refused_millis s NotMillis h = absurd h
 
 -- what the parts answer, reading answers
-pub reads_from_parts : (s : List ℕ) (t : Timestamp) → Spells t s → (r : Result ℤ TimeRefusal) → IfOk r (Names t) → IfErr r (IsTimestampRefusal t) → Reads s r
+pub reads_from_parts : (s : List ℕ) (t : Timestamp) → Spells t s → (r : Result ℤ TimeRefusal) → IfOk r (NamesInstant t) → IfErr r (IsTimestampRefusal t) → ReadsTimestamp s r
 reads_from_parts s t p (Ok z) ok err = (t, p, (ok.exact, ok.nanos))
 reads_from_parts s t p (Err e) ok err = refused s t p e err

@@ -19,7 +19,7 @@ timestamp_of p = record {
 }
 
 -- the timestamp names the instant
-pub record Names (t : Timestamp) (instant : ℤ) : Type 0 where
+pub record NamesInstant (t : Timestamp) (instant : ℤ) : Type 0 where
   pub exact : IsExact t
   pub nanos : nanos_of t ≡ instant
 

@@ -18,8 +18,8 @@ abbrev pub HasMillis : Timestamp → Type 0
 HasMillis t = (3 ≤ length t.fraction) × (length t.fraction ≤ 6)
 
 -- the text names the instant
-abbrev pub IsTextOf : List ℕ → ℤ → Type 0
-IsTextOf text instant = HasShapeWhere (λ t. IsExact t × (nanos_of t ≡ instant)) text
+abbrev pub IsTextOfInstant : List ℕ → ℤ → Type 0
+IsTextOfInstant text instant = HasShapeWhere (λ t. IsExact t × (nanos_of t ≡ instant)) text
 
 -- the text names the instant, with a fraction of three to six digits
 abbrev pub IsMillisTextOf : List ℕ → ℤ → Type 0
@@ -32,23 +32,23 @@ pub record IsLongestShapePrefix (text : List ℕ) (at : ℕ) : Type 0 where
   pub longest : (n : ℕ) → n ≤ length text → BeginsShape (take n text) → n ≤ at
 
 -- why the text names no instant
-abbrev pub IsRefused : List ℕ → TimeRefusal → Type 0
-IsRefused text (Shape at) = (¬ HasShape text) × IsLongestShapePrefix text at
-IsRefused text NoSuchDay = HasShapeWhere (λ t. ¬ HasDay t) text
-IsRefused text TooFine = HasShapeWhere (λ t. HasDay t × (9 < length t.fraction)) text
-IsRefused text NotMillis = ⊥
+abbrev pub IsRefusedTimestamp : List ℕ → TimeRefusal → Type 0
+IsRefusedTimestamp text (Shape at) = (¬ HasShape text) × IsLongestShapePrefix text at
+IsRefusedTimestamp text NoSuchDay = HasShapeWhere (λ t. ¬ HasDay t) text
+IsRefusedTimestamp text TooFine = HasShapeWhere (λ t. HasDay t × (9 < length t.fraction)) text
+IsRefusedTimestamp text NotMillis = ⊥
 
 -- why the text names no instant with a fraction of three to six digits
 abbrev pub IsRefusedMillis : List ℕ → TimeRefusal → Type 0
-IsRefusedMillis text (Shape at) = IsRefused text (Shape at)
-IsRefusedMillis text NoSuchDay = IsRefused text NoSuchDay
-IsRefusedMillis text TooFine = IsRefused text TooFine
+IsRefusedMillis text (Shape at) = IsRefusedTimestamp text (Shape at)
+IsRefusedMillis text NoSuchDay = IsRefusedTimestamp text NoSuchDay
+IsRefusedMillis text TooFine = IsRefusedTimestamp text TooFine
 IsRefusedMillis text NotMillis = HasShapeWhere (λ t. IsExact t × (¬ HasMillis t)) text
 
 -- the result of reading the text
-abbrev pub Reads : List ℕ → Result ℤ TimeRefusal → Type 0
-Reads text (Ok instant) = IsTextOf text instant
-Reads text (Err refusal) = IsRefused text refusal
+abbrev pub ReadsTimestamp : List ℕ → Result ℤ TimeRefusal → Type 0
+ReadsTimestamp text (Ok instant) = IsTextOfInstant text instant
+ReadsTimestamp text (Err refusal) = IsRefusedTimestamp text refusal
 
 -- the result of reading the text with three to six fraction digits required
 abbrev pub ReadsMillis : List ℕ → Result ℤ TimeRefusal → Type 0

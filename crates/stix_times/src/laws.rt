@@ -2,14 +2,14 @@
 //! nothing.
 
 ghost use Rattle.std.specs.Prelude.{◌≡◌, ◌↔◌, ℕ, ℤ, List, IsTrue, ◌<ℤ◌, ◌≤◌};
-ghost use Rattle.stix_times.specs.Reading.{IsTextOf, IsMillisTextOf};
+ghost use Rattle.stix_times.specs.Reading.{IsTextOfInstant, IsMillisTextOf};
 ghost use Rattle.stix_times.specs.Writing.{IsCanonicalTextOf, IsTextOfDigits, IsWhole};
 
 use crate::Instant;
 
 /// A text names at most one instant.
 pub fn one_instant()
-    ensures { (text : List ℕ) (first second : ℤ) → IsTextOf text first → IsTextOf text second
+    ensures { (text : List ℕ) (first second : ℤ) → IsTextOfInstant text first → IsTextOfInstant text second
         → first ≡ second }
 {}
 
@@ -30,9 +30,9 @@ pub fn one_text_of_digits()
 /// `read_millis`.
 pub fn written_reads_back()
     ensures shortest { (instant : ℤ) (text : List ℕ) → IsCanonicalTextOf text instant
-        → IsTextOf text instant }
+        → IsTextOfInstant text instant }
     ensures digits { (digits : ℕ) (instant : ℤ) (text : List ℕ) → IsTextOfDigits digits text instant
-        → IsTextOf text instant }
+        → IsTextOfInstant text instant }
     ensures millis { (digits : ℕ) (instant : ℤ) (text : List ℕ) → 3 ≤ digits → digits ≤ 6
         → IsTextOfDigits digits text instant → IsMillisTextOf text instant }
 {}

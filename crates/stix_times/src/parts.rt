@@ -4,8 +4,8 @@ ghost use Rattle.std.specs.Char.{IsAsciiDigit};
 ghost use Rattle.jiff_core.specs.Calendar.{IsBetween};
 ghost use Rattle.stix_times.specs.Offsets.{pair_at, parts_at, AreDigits};
 ghost use Rattle.stix_times.specs.Timestamp.{IsShaped, Spells, HasDay, day_number, nanos_of_day};
-ghost use Rattle.stix_times.specs.Reading.{IsRefused, HasMillis};
-ghost use Rattle.stix_times.specs.Parts.{timestamp_of, IsTimestampRefusal, Names};
+ghost use Rattle.stix_times.specs.Reading.{IsRefusedTimestamp, HasMillis};
+ghost use Rattle.stix_times.specs.Parts.{timestamp_of, IsTimestampRefusal, NamesInstant};
 
 use crate::fraction::nanos_of_fraction;
 use crate::instant::NANOS_PER_SECOND;
@@ -31,7 +31,7 @@ impl<'a> Parts<'a> {
     /// Splits a text in the form of a timestamp. `Shape` with the offset of the first bad byte.
     pub(crate) fn read(text: &'a [u8]) -> Result<Parts<'a>, TimeRefusal>
         ensures ok { IfOk result (λ p. Spells (timestamp_of p) text.now) }
-        ensures err { IfErr result (IsRefused text.now) }
+        ensures err { IfErr result (IsRefusedTimestamp text.now) }
     {
         let at = longest_prefix_length(text);
         if at < text.len() || text.len() < 20 || text[text.len() - 1] != b'Z' {
@@ -44,7 +44,7 @@ impl<'a> Parts<'a> {
     #[tactic(auto, unfolding(crate::specs::Parts::timestamp_of))]
     pub(crate) fn instant(&self) -> Result<Instant, TimeRefusal>
         requires { IsShaped (timestamp_of self.now) }
-        ensures ok { IfOk result (Names (timestamp_of self.now)) }
+        ensures ok { IfOk result (NamesInstant (timestamp_of self.now)) }
         ensures err { IfErr result (IsTimestampRefusal (timestamp_of self.now)) }
     {
         let Some(day) = self.day_number() else {

@@ -1,6 +1,7 @@
 ghost use Rattle.std.specs.Prelude.{◌≡◌, ℤ, Result, IfOk, IfErr};
 ghost use Rattle.stix_times.specs.declared.refusal.TimeRefusal.{TimeRefusal};
-ghost use Rattle.stix_times.specs.Reading.{IsTextOf, IsRefused, Reads, IsMillisTextOf};
+ghost use Rattle.stix_times.specs.Reading.{IsTextOfInstant, IsRefusedTimestamp, ReadsTimestamp};
+ghost use Rattle.stix_times.specs.Reading.{IsMillisTextOf};
 ghost use Rattle.stix_times.specs.Reading.{IsRefusedMillis, ReadsMillis};
 
 use crate::parts::Parts;
@@ -8,9 +9,9 @@ use crate::{Instant, TimeRefusal};
 
 /// The instant of a timestamp with at most nine fraction digits.
 pub fn read(text: &str) -> Result<Instant, TimeRefusal>
-    ensures ok { IfOk result (IsTextOf text.now) }
-    ensures err { IfErr result (IsRefused text.now) }
-    ensures only { (other : Result ℤ TimeRefusal) → Reads text.now other → other ≡ result }
+    ensures ok { IfOk result (IsTextOfInstant text.now) }
+    ensures err { IfErr result (IsRefusedTimestamp text.now) }
+    ensures only { (other : Result ℤ TimeRefusal) → ReadsTimestamp text.now other → other ≡ result }
 {
     let parts = Parts::read(text.as_bytes())?;
     parts.instant()

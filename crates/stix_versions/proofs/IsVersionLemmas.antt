@@ -5,7 +5,7 @@ use Rattle.stix_ids.specs.declared.id.Id.{Id}
 use Rattle.stix_objects.specs.declared.form.Precision.{Precision}
 use Rattle.stix_objects.specs.declared.form.Precision.TheVariants.{Millis}
 use Rattle.stix_objects.specs.Properties.{IsTimestampAt, HasId}
-use Rattle.stix_bundles.specs.Lookup.{IsLatest, Means}
+use Rattle.stix_bundles.specs.Lookup.{IsLatest, ResolvesTo}
 use Rattle.stix_versions.specs.Versions.{IsVersion}
 use Rattle.stix_versions.proofs.VersionLemmas.{one_some}
 
@@ -16,7 +16,7 @@ abbrev pub OneTimestamp : Type 0
 OneTimestamp = (precision : Precision) (name : List ℕ) (d : Data) (first second : ℤ) → IsTimestampAt precision name d first → IsTimestampAt precision name d second → first ≡ second
 
 abbrev pub OneMeaning : Type 0
-OneMeaning = (objects : List Data) (text : List ℕ) (first second : Option ℕ) → Means objects text first → Means objects text second → first ≡ second
+OneMeaning = (objects : List Data) (text : List ℕ) (first second : Option ℕ) → ResolvesTo objects text first → ResolvesTo objects text second → first ≡ second
 
 -- these laws
 pub record Laws : Type 0 where

@@ -11,10 +11,10 @@ use Rattle.stix_json.specs.declared.value.Json.{Json, the_lemmas}
 use Rattle.stix_json.specs.declared.value.Json.TheVariants as json
 use Rattle.stix_json.specs.DataOf.{data_of}
 use Rattle.stix_json.specs.Ordered.{IsOrdered, ItemsAreOrdered}
-use Rattle.stix_bundles.specs.Bundle.{listed}
+use Rattle.stix_bundles.specs.Bundle.{items_in_order}
 use Rattle.stix_bundles.specs.Objects.{data_in}
 
-pub listed_items : (ds : List Data) → listed (items_of ds) ≡ ds
+pub listed_items : (ds : List Data) → items_in_order (items_of ds) ≡ ds
 listed_items [] = refl
 listed_items (d ∷ ds) = ap (λ (rest : List Data). d ∷ rest) (listed_items ds)
 

@@ -2,7 +2,7 @@
 use Rattle.std.proofs.Common.{◌≡◌, inl, inr, ℕ, ◌+◌, List, [], ◌∷◌, ◌++◌, map, Option, Some, None, MatchOption, option_to_list, codes, refl, sym, ap, subst, ◌∙◌}
 use Rattle.serde_json.specs.Data.{Data, Items}
 use Rattle.serde_json.specs.Find.{get, as_array}
-use Rattle.stix_bundles.specs.Bundle.{listed}
+use Rattle.stix_bundles.specs.Bundle.{items_in_order}
 use Rattle.stix_versions.specs.declared.version_break.VersionRule.{VersionRule}
 use Rattle.stix_versions.specs.declared.version_break.VersionBreak.{VersionBreak}
 use Rattle.stix_versions.specs.declared.marking_break.MarkingRule.{MarkingRule}
@@ -57,11 +57,11 @@ own_once place d at (m ∷ ms) a b x y =
     let rest = own_once place d (at + 1) ms x.1 y.1 x.3 y.3 in
     x.4 ∙ ap (λ (o : Option MarkingRule). map (markings.break_of_marking place at) (option_to_list o) ++ x.1) found ∙ ap (λ (l : List MarkingBreak). map (markings.break_of_marking place at) (option_to_list y.0) ++ l) rest ∙ sym y.4
 
-listed_once : (items : Option Items) (a b : List Data) → MatchOption items (a ≡ []) (λ x. a ≡ listed x) → MatchOption items (b ≡ []) (λ x. b ≡ listed x) → a ≡ b
+listed_once : (items : Option Items) (a b : List Data) → MatchOption items (a ≡ []) (λ x. a ≡ items_in_order x) → MatchOption items (b ≡ []) (λ x. b ≡ items_in_order x) → a ≡ b
 listed_once None a b x y = x ∙ sym y
 listed_once (Some items) a b x y = x ∙ sym y
 
-found_once : (value : Option Data) (a b : List Data) → MatchOption value (a ≡ []) (λ v. MatchOption (as_array v) (a ≡ []) (λ x. a ≡ listed x)) → MatchOption value (b ≡ []) (λ v. MatchOption (as_array v) (b ≡ []) (λ x. b ≡ listed x)) → a ≡ b
+found_once : (value : Option Data) (a b : List Data) → MatchOption value (a ≡ []) (λ v. MatchOption (as_array v) (a ≡ []) (λ x. a ≡ items_in_order x)) → MatchOption value (b ≡ []) (λ v. MatchOption (as_array v) (b ≡ []) (λ x. b ≡ items_in_order x)) → a ≡ b
 found_once None a b x y = x ∙ sym y
 found_once (Some v) a b x y = listed_once (as_array v) a b x y
 

@@ -7,8 +7,8 @@ use Rattle.std.specs.Char.{IsAsciiDigit}
 use Rattle.std.proofs.lemmas.Bool.{cases_lt}
 use denote.Ref.{Bor}
 use Rattle.stix_json.specs.Walk.{path_text}
-use Rattle.stix_versions.specs.Selector.{Part, named, indexed, IsNameCharacter, IsPart, part_text}
-use Rattle.stix_versions.specs.inner.Paths.{IsPath, IsPartOf}
+use Rattle.stix_versions.specs.Selector.{SelectorPart, named, indexed, IsNameCharacter, IsPart, selector_part_text}
+use Rattle.stix_versions.specs.inner.Paths.{IsSelectorPath, IsSelectorPartText}
 use Rattle.stix_versions.proofs.DigitsLemmas.{digits_are}
 
 -- no byte of the text is a dot
@@ -33,11 +33,11 @@ no_dot_before_bracket digits is i inside dot =
           absurd (bracket_no_dot (sym (get_or-append_seam digits 93 [] 0) ∙ ap (λ n. get_or (digits ++ 93 ∷ []) n 0) last ∙ dot))
     ]
 
-no_dot_in_place : (digits : List ℕ) → IsPart (indexed digits) → HasNoDot (part_text (indexed digits))
+no_dot_in_place : (digits : List ℕ) → IsPart (indexed digits) → HasNoDot (selector_part_text (indexed digits))
 no_dot_in_place digits is zero inside dot = omega arith
 no_dot_in_place digits is (suc i) inside dot = no_dot_before_bracket digits is i (omega arith) dot
 
-no_dot_in_part : (part : Part) → IsPart part → HasNoDot (part_text part)
+no_dot_in_part : (part : SelectorPart) → IsPart part → HasNoDot (selector_part_text part)
 no_dot_in_part (named name) is = no_dot_in_name name is
 no_dot_in_part (indexed digits) is = no_dot_in_place digits is
 
@@ -48,51 +48,51 @@ dot_is_there text before after is none =
     none (length before) (omega arith) (ap (λ (xs : List ℕ). get_or xs (length before) 0) is ∙ get_or-append_seam before 46 after 0)
 
 -- what a path is at a text that is cut at its first dot, if it has one
-abbrev pub Cuts : List ℕ → Option (Bor (List ℕ) × Bor (List ℕ)) → List Part → Type 0
+abbrev pub Cuts : List ℕ → Option (Bor (List ℕ) × Bor (List ℕ)) → List SelectorPart → Type 0
 Cuts text cut [] = ⊥
-Cuts text cut (part ∷ parts) = MatchOption cut (IsPartOf text part × (parts ≡ [])) (λ c. IsPartOf c.0.now part × IsPath c.1.now parts)
+Cuts text cut (part ∷ parts) = MatchOption cut (IsSelectorPartText text part × (parts ≡ [])) (λ c. IsSelectorPartText c.0.now part × IsSelectorPath c.1.now parts)
 
-pub path_cut : (text : List ℕ) (cut : Option (Bor (List ℕ) × Bor (List ℕ))) → IsSplitOnceResult 46 text cut → (parts : List Part) → IsPath text parts → Cuts text cut parts
+pub path_cut : (text : List ℕ) (cut : Option (Bor (List ℕ) × Bor (List ℕ))) → IsSplitOnceResult 46 text cut → (parts : List SelectorPart) → IsSelectorPath text parts → Cuts text cut parts
 path_cut text cut is [] path = absurd (path.some refl)
 path_cut text None is (part ∷ []) path = (record { is_part = path.are_parts.0; spelled = path.spelled }, refl)
 path_cut text None is (part ∷ next ∷ parts) path =
-    absurd (dot_is_there text (part_text part) (path_text (map part_text (next ∷ parts))) path.spelled (split_parts 46 text None is (omega arith)))
+    absurd (dot_is_there text (selector_part_text part) (path_text (map selector_part_text (next ∷ parts))) path.spelled (split_parts 46 text None is (omega arith)))
 path_cut text (Some c) is (part ∷ []) path =
     absurd (dot_is_there text c.0.now c.1.now (split_parts 46 text (Some c) is (omega arith)).0
     (subst HasNoDot (sym path.spelled) (no_dot_in_part part path.are_parts.0)))
 path_cut text (Some c) is (part ∷ next ∷ parts) path =
-    let parted = split_after 46 text (part_text part) (path_text (map part_text (next ∷ parts))) (Some c) is (omega arith) path.spelled (no_dot_in_part part path.are_parts.0) in (
+    let parted = split_after 46 text (selector_part_text part) (path_text (map selector_part_text (next ∷ parts))) (Some c) is (omega arith) path.spelled (no_dot_in_part part path.are_parts.0) in (
       record { is_part = path.are_parts.0; spelled = parted.0 },
       record { are_parts = path.are_parts.1; some = λ none. absurd cc; spelled = parted.1 },
     )
 
-pub path_of_one : (text : List ℕ) (part : Part) → IsPartOf text part → IsPath text (part ∷ [])
+pub path_of_one : (text : List ℕ) (part : SelectorPart) → IsSelectorPartText text part → IsSelectorPath text (part ∷ [])
 path_of_one text part is = record { are_parts = (is.is_part, tt); some = λ none. absurd cc; spelled = is.spelled }
 
-pub path_of_more : (text first after : List ℕ) → text ≡ first ++ 46 ∷ after → (part : Part) → IsPartOf first part → (parts : List Part) → IsPath after parts → IsPath text (part ∷ parts)
+pub path_of_more : (text first after : List ℕ) → text ≡ first ++ 46 ∷ after → (part : SelectorPart) → IsSelectorPartText first part → (parts : List SelectorPart) → IsSelectorPath after parts → IsSelectorPath text (part ∷ parts)
 path_of_more text first after is part one [] path = absurd (path.some refl)
 path_of_more text first after is part one (next ∷ parts) path = record {
   are_parts = (one.is_part, path.are_parts);
   some = λ none. absurd cc;
-  spelled = is ∙ ap (λ (xs : List ℕ). xs ++ 46 ∷ after) one.spelled ∙ ap (λ (ys : List ℕ). part_text part ++ 46 ∷ ys) path.spelled;
+  spelled = is ∙ ap (λ (xs : List ℕ). xs ++ 46 ∷ after) one.spelled ∙ ap (λ (ys : List ℕ). selector_part_text part ++ 46 ∷ ys) path.spelled;
 }
 
 -- the text is a path, and the text is a part
 abbrev pub HasPath : List ℕ → Type 0
-HasPath text = (parts : List Part) × IsPath text parts
+HasPath text = (parts : List SelectorPart) × IsSelectorPath text parts
 
 abbrev pub HasPart : List ℕ → Type 0
-HasPart text = (part : Part) × IsPartOf text part
+HasPart text = (part : SelectorPart) × IsSelectorPartText text part
 
-first_of_cut : (text : List ℕ) (c : Bor (List ℕ) × Bor (List ℕ)) (parts : List Part) → Cuts text (Some c) parts → HasPart c.0.now
+first_of_cut : (text : List ℕ) (c : Bor (List ℕ) × Bor (List ℕ)) (parts : List SelectorPart) → Cuts text (Some c) parts → HasPart c.0.now
 first_of_cut text c [] cuts = absurd cuts
 first_of_cut text c (part ∷ parts) cuts = (part, cuts.0)
 
-rest_of_cut : (text : List ℕ) (c : Bor (List ℕ) × Bor (List ℕ)) (parts : List Part) → Cuts text (Some c) parts → HasPath c.1.now
+rest_of_cut : (text : List ℕ) (c : Bor (List ℕ) × Bor (List ℕ)) (parts : List SelectorPart) → Cuts text (Some c) parts → HasPath c.1.now
 rest_of_cut text c [] cuts = absurd cuts
 rest_of_cut text c (part ∷ parts) cuts = (parts, cuts.1)
 
-whole_of_cut : (text : List ℕ) (parts : List Part) → Cuts text None parts → HasPart text
+whole_of_cut : (text : List ℕ) (parts : List SelectorPart) → Cuts text None parts → HasPart text
 whole_of_cut text [] cuts = absurd cuts
 whole_of_cut text (part ∷ parts) cuts = (part, cuts.0)
 

@@ -7,7 +7,7 @@ use Rattle.serde_json.specs.Find.{get, as_array, as_str}
 use Rattle.serde_json.specs.View.{items_of}
 use Rattle.stix_json.specs.declared.value.Json.{Json}
 use Rattle.stix_json.specs.DataOf.{data_of}
-use Rattle.stix_bundles.specs.Bundle.{listed}
+use Rattle.stix_bundles.specs.Bundle.{items_in_order}
 use Rattle.stix_bundles.specs.Objects.{data_in}
 use Rattle.stix_versions.specs.Markings.{ListsSelectors, AreSelectors, MissesOne}
 use Rattle.stix_versions.specs.inner.Selectors.{IsSelectorText, Misses, IsListAt}
@@ -24,7 +24,7 @@ list_value (Some value) items is = (value, refl, is)
 pub texts_are : (marking : Data) (ds : List Data) → IsListAt (codes "selectors") marking ds → (texts : List (List ℕ)) → ListsSelectors marking texts → ds ≡ map string texts
 texts_are marking ds is texts lists =
     let there : Some (items_of ds) ≡ Some lists.items = sym is ∙ ap (option_and_then as_array) lists.there ∙ lists.list in
-    sym (listed_items ds) ∙ ap listed (same_Some (items_of ds) lists.items there) ∙ lists.texts_are
+    sym (listed_items ds) ∙ ap items_in_order (same_Some (items_of ds) lists.items there) ∙ lists.texts_are
 
 pub lists_them : (marking : Data) (ds : List Data) → IsListAt (codes "selectors") marking ds → (texts : List (List ℕ)) → ds ≡ map string texts → texts ≢ [] → ListsSelectors marking texts
 lists_them marking ds is texts same some =

@@ -9,7 +9,7 @@ use Rattle.stix_versions.specs.declared.version_break.VersionRule.TheVariants.{C
 use Rattle.stix_versions.specs.declared.version_break.VersionBreak.{VersionBreak}
 use Rattle.stix_versions.specs.Versions.{BreaksVersionRule, AreBroken, rules_reported, break_of_version, AreVersionBreaksFrom}
 use Rattle.stix_versions.specs.inner.Version.{IsNoVersion}
-use Rattle.stix_versions.specs.inner.History.{only_if}
+use Rattle.stix_versions.specs.inner.History.{violation_if}
 
 -- one object more
 pub breaks_more : (objects : List Data) (at : ℕ) (xs : List Data) (x : Data) (breaks : List VersionBreak) (own : List VersionRule)
@@ -86,7 +86,7 @@ broken_where IsBroken changed after twice first second third =
     (one_more IsBroken AfterRevoked (SameVersionTwice ∷ []) (so twice SameVersionTwice ++ []) after second
     (one_more IsBroken SameVersionTwice [] [] twice third refl))
 
-mapped : (at : ℕ) (changed after twice : Bool) → only_if changed (break_of_version at CreatedChanged) ++ (only_if after (break_of_version at AfterRevoked) ++ only_if twice (break_of_version at SameVersionTwice))
+mapped : (at : ℕ) (changed after twice : Bool) → violation_if changed (break_of_version at CreatedChanged) ++ (violation_if after (break_of_version at AfterRevoked) ++ violation_if twice (break_of_version at SameVersionTwice))
     ≡ map (break_of_version at) (so changed CreatedChanged ++ (so after AfterRevoked ++ (so twice SameVersionTwice ++ [])))
 mapped at true true true = refl
 mapped at true true false = refl
@@ -97,12 +97,12 @@ mapped at false true false = refl
 mapped at false false true = refl
 mapped at false false false = refl
 
-pub told_where : (at : ℕ) (found one two three : List VersionBreak) (changed after twice : Bool) → one ≡ found ++ only_if changed (break_of_version at CreatedChanged)
-    → two ≡ one ++ only_if after (break_of_version at AfterRevoked) → three ≡ two ++ only_if twice (break_of_version at SameVersionTwice)
+pub told_where : (at : ℕ) (found one two three : List VersionBreak) (changed after twice : Bool) → one ≡ found ++ violation_if changed (break_of_version at CreatedChanged)
+    → two ≡ one ++ violation_if after (break_of_version at AfterRevoked) → three ≡ two ++ violation_if twice (break_of_version at SameVersionTwice)
     → three ≡ found ++ map (break_of_version at) (so changed CreatedChanged ++ (so after AfterRevoked ++ (so twice SameVersionTwice ++ [])))
 told_where at found one two three changed after twice first second third =
-    let a = only_if changed (break_of_version at CreatedChanged) in
-    let b = only_if after (break_of_version at AfterRevoked) in
-    let c = only_if twice (break_of_version at SameVersionTwice) in
+    let a = violation_if changed (break_of_version at CreatedChanged) in
+    let b = violation_if after (break_of_version at AfterRevoked) in
+    let c = violation_if twice (break_of_version at SameVersionTwice) in
     third ∙ ap (λ bs. bs ++ c) (second ∙ ap (λ bs. bs ++ b) first) ∙ append_assoc (found ++ a) b c ∙ append_assoc found a (b ++ c)
     ∙ ap (λ bs. found ++ bs) (mapped at changed after twice)

@@ -2,14 +2,14 @@
 use Rattle.std.proofs.Common.{◌≡◌, ◌<◌, ℕ, ℤ, List, length, Option, Some, None, IfNone, unwrap_or, slice_get, slice_index_or, codes, sym, ap, subst, ◌∙◌}
 use Rattle.serde_json.specs.Data.{Data}
 use Rattle.stix_ids.specs.declared.id.Id.{Id}
-use Rattle.stix_ids.specs.Identifier.{IsTextOf}
+use Rattle.stix_ids.specs.Identifier.{IsTextOfId}
 use Rattle.stix_json.specs.declared.value.Json.{Json}
 use Rattle.stix_json.specs.DataOf.{data_of}
-use Rattle.stix_json.specs.Properties.{text_at}
+use Rattle.stix_json.specs.Properties.{property_text}
 use Rattle.stix_objects.specs.declared.form.Precision.TheVariants.{Millis}
 use Rattle.stix_objects.specs.Properties.{IsTimestampAt}
 use Rattle.stix_bundles.specs.Objects.{data_in}
-use Rattle.stix_bundles.specs.Lookup.{IsOf, Means}
+use Rattle.stix_bundles.specs.Lookup.{IsOf, ResolvesTo}
 use Rattle.stix_versions.specs.declared.version.Version.{Version}
 use Rattle.stix_versions.specs.Versions.{IsObservable, IsVersion}
 use Rattle.stix_versions.specs.inner.Version.{IsVersionAs, IsNoVersion}
@@ -41,17 +41,17 @@ unmodified_is_none objects at d there none = λ id created modified other is.
     none modified was
 
 abbrev pub OwnMeans : Type 0
-OwnMeans = (objects : List Data) (id : Id) (at : ℕ) (text : List ℕ) → IsOf objects id at → IsTextOf text id → ¬ Means objects text None
+OwnMeans = (objects : List Data) (id : Id) (at : ℕ) (text : List ℕ) → IsOf objects id at → IsTextOfId text id → ¬ ResolvesTo objects text None
 
-pub unmeant_is_none : OwnMeans → (objects : List Data) (at : ℕ) (d : Data) → slice_get objects at ≡ Some d → (text : List ℕ) → Some text ≡ text_at (codes "id") d
-    → Means objects text None → IsNoVersion objects at
+pub unmeant_is_none : OwnMeans → (objects : List Data) (at : ℕ) (d : Data) → slice_get objects at ≡ Some d → (text : List ℕ) → Some text ≡ property_text (codes "id") d
+    → ResolvesTo objects text None → IsNoVersion objects at
 unmeant_is_none own objects at d there text named none = λ id created modified other is.
     let has = (version_of objects at d there id created modified other is).has in
-    let reads = subst (λ (t : List ℕ). IsTextOf t id) (one_some has.text text (sym has.there ∙ sym named)) has.reads in
+    let reads = subst (λ (t : List ℕ). IsTextOfId t id) (one_some has.text text (sym has.there ∙ sym named)) has.reads in
     own objects id at text (record { object = d; there = there; has = has }) reads none
 
 pub seen_as : (objects : List Data) (at : ℕ) (d : Data) → slice_get objects at ≡ Some d → (seen : Version) → ¬ IsObservable d → (text : List ℕ)
-    → Some text ≡ text_at (codes "id") d → Means objects text (Some seen.group) → IsTimestampAt Millis (codes "created") d seen.created
+    → Some text ≡ property_text (codes "id") d → ResolvesTo objects text (Some seen.group) → IsTimestampAt Millis (codes "created") d seen.created
     → IsTimestampAt Millis (codes "modified") d seen.modified → IsVersionAs objects at seen
 seen_as objects at d there seen versioned text named means created modified = record {
   id = means.0;

@@ -4,30 +4,30 @@ use Rattle.std.specs.Prelude.{◌≡◌, ◌≢◌, ◌⊎◌, ℕ, ◌+◌, Lis
 use Rattle.serde_json.specs.Data.{Data, Items, string}
 use Rattle.serde_json.specs.Find.{get, as_array}
 use Rattle.stix_ids.specs.declared.id.Id.{Id}
-use Rattle.stix_ids.specs.Identifier.{IsTextOf}
-use Rattle.stix_json.specs.Properties.{text_at}
-use Rattle.stix_bundles.specs.Bundle.{listed}
+use Rattle.stix_ids.specs.Identifier.{IsTextOfId}
+use Rattle.stix_json.specs.Properties.{property_text}
+use Rattle.stix_bundles.specs.Bundle.{items_in_order}
 use Rattle.stix_versions.specs.declared.marking_break.MarkingRule.{MarkingRule}
 use Rattle.stix_versions.specs.declared.marking_break.MarkingRule.TheVariants.{MarkingOrLang, BadMarkingRef, BadSelector, SelectorMissing}
 use Rattle.stix_versions.specs.declared.marking_break.MarkingBreak.{MarkingBreak}
-use Rattle.stix_versions.specs.Selector.{Part, IsSelector, value_at}
+use Rattle.stix_versions.specs.Selector.{SelectorPart, IsSelector, value_at}
 
 -- the property is present
-abbrev pub Has : List ℕ → Data → Type 0
-Has name d = IsSome (get name d)
+abbrev pub HasProperty : List ℕ → Data → Type 0
+HasProperty name d = IsSome (get name d)
 
 -- exactly one of `marking_ref` and `lang` is present
 abbrev pub HasOne : Data → Type 0
-HasOne marking = (Has (codes "marking_ref") marking × (¬ Has (codes "lang") marking)) ⊎ ((¬ Has (codes "marking_ref") marking) × Has (codes "lang") marking)
+HasOne marking = (HasProperty (codes "marking_ref") marking × (¬ HasProperty (codes "lang") marking)) ⊎ ((¬ HasProperty (codes "marking_ref") marking) × HasProperty (codes "lang") marking)
 
 -- `marking_ref` is the text of a marking-definition's identifier
 abbrev pub RefersToMarking : Data → Type 0
-RefersToMarking marking = (text : List ℕ) × (id : Id) × (text_at (codes "marking_ref") marking ≡ Some text) × IsTextOf text id × (id.kind ≡ codes "marking-definition")
+RefersToMarking marking = (text : List ℕ) × (id : Id) × (property_text (codes "marking_ref") marking ≡ Some text) × IsTextOfId text id × (id.kind ≡ codes "marking-definition")
 
 -- the texts are selectors
 abbrev pub AreSelectors : List (List ℕ) → Type 0
 AreSelectors [] = Unit {0}
-AreSelectors (text ∷ texts) = ((parts : List Part) × IsSelector text parts) × AreSelectors texts
+AreSelectors (text ∷ texts) = ((parts : List SelectorPart) × IsSelector text parts) × AreSelectors texts
 
 -- `selectors` is a list of these texts, one or more
 pub record ListsSelectors (marking : Data) (texts : List (List ℕ)) : Type 0 where
@@ -35,7 +35,7 @@ pub record ListsSelectors (marking : Data) (texts : List (List ℕ)) : Type 0 wh
   pub items : Items
   pub there : get (codes "selectors") marking ≡ Some value
   pub list : as_array value ≡ Some items
-  pub texts_are : listed items ≡ map string texts
+  pub texts_are : items_in_order items ≡ map string texts
   pub some : texts ≢ []
 
 -- `selectors` is a list of one or more selectors
@@ -48,16 +48,16 @@ pub record MissesOne (object marking : Data) : Type 0 where
   pub lists : ListsSelectors marking texts
   pub text : List ℕ
   pub one : Contains texts text
-  pub parts : List Part
+  pub parts : List SelectorPart
   pub selector : IsSelector text parts
   pub missing : value_at parts object ≡ None
 
 -- the rule applies to a marking of the object, and none before it does
 abbrev pub BreaksMarkingRule : Data → Data → MarkingRule → Type 0
 BreaksMarkingRule d marking MarkingOrLang = ¬ HasOne marking
-BreaksMarkingRule d marking BadMarkingRef = HasOne marking × Has (codes "marking_ref") marking × (¬ RefersToMarking marking)
-BreaksMarkingRule d marking BadSelector = HasOne marking × (Has (codes "marking_ref") marking → RefersToMarking marking) × (¬ HasSelectors marking)
-BreaksMarkingRule d marking SelectorMissing = HasOne marking × (Has (codes "marking_ref") marking → RefersToMarking marking) × HasSelectors marking × MissesOne d marking
+BreaksMarkingRule d marking BadMarkingRef = HasOne marking × HasProperty (codes "marking_ref") marking × (¬ RefersToMarking marking)
+BreaksMarkingRule d marking BadSelector = HasOne marking × (HasProperty (codes "marking_ref") marking → RefersToMarking marking) × (¬ HasSelectors marking)
+BreaksMarkingRule d marking SelectorMissing = HasOne marking × (HasProperty (codes "marking_ref") marking → RefersToMarking marking) × HasSelectors marking × MissesOne d marking
 
 -- the rule that a marking breaks, or none
 abbrev pub IsBreakOf : Data → Data → Option MarkingRule → Type 0
@@ -76,7 +76,7 @@ AreBreaksOfMarkings place d at (marking ∷ markings) breaks = (found : Option M
 
 -- the granular markings of an object: none if the property is absent or isn't a list
 abbrev pub AreMarkings : Data → List Data → Type 0
-AreMarkings d markings = MatchOption (get (codes "granular_markings") d) (markings ≡ []) (λ value. MatchOption (as_array value) (markings ≡ []) (λ items. markings ≡ listed items))
+AreMarkings d markings = MatchOption (get (codes "granular_markings") d) (markings ≡ []) (λ value. MatchOption (as_array value) (markings ≡ []) (λ items. markings ≡ items_in_order items))
 
 -- the violations of the objects from a position on, object by object
 abbrev pub AreMarkingBreaksFrom : ℕ → List Data → List MarkingBreak → Type 0

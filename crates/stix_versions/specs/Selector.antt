@@ -20,11 +20,11 @@ abbrev pub IsIndex : List ℕ → Type 0
 IsIndex digits = IsNumeral 10 digits × ((digits ≡ codes "0") ⊎ (slice_index digits 0 ≢ 48))
 
 -- one part: a property's name, or the digits of a list index, counted from 0
-pub data Part : Type 0 where
-  named : List ℕ → Part
-  indexed : List ℕ → Part
+pub data SelectorPart : Type 0 where
+  named : List ℕ → SelectorPart
+  indexed : List ℕ → SelectorPart
 
-abbrev pub IsPart : Part → Type 0
+abbrev pub IsPart : SelectorPart → Type 0
 IsPart (named name) = IsName name
 IsPart (indexed digits) = IsIndex digits
 
@@ -33,32 +33,32 @@ abbrev pub in_brackets : List ℕ → List ℕ
 in_brackets digits = 91 ∷ (digits ++ 93 ∷ [])
 
 -- the text of a part: the name, or the digits in brackets
-abbrev pub part_text : Part → List ℕ
-part_text (named name) = name
-part_text (indexed digits) = in_brackets digits
+abbrev pub selector_part_text : SelectorPart → List ℕ
+selector_part_text (named name) = name
+selector_part_text (indexed digits) = in_brackets digits
 
-abbrev pub AreParts : List Part → Type 0
-AreParts [] = Unit {0}
-AreParts (part ∷ parts) = IsPart part × AreParts parts
+abbrev pub AreSelectorParts : List SelectorPart → Type 0
+AreSelectorParts [] = Unit {0}
+AreSelectorParts (part ∷ parts) = IsPart part × AreSelectorParts parts
 
 -- it begins with a property's name
-abbrev pub BeginsNamed : List Part → Type 0
+abbrev pub BeginsNamed : List SelectorPart → Type 0
 BeginsNamed [] = ⊥
 BeginsNamed (named name ∷ parts) = Unit {0}
 BeginsNamed (indexed digits ∷ parts) = ⊥
 
 -- the text is a selector of these parts
-pub record IsSelector (text : List ℕ) (parts : List Part) : Type 0 where
-  pub are_parts : AreParts parts
+pub record IsSelector (text : List ℕ) (parts : List SelectorPart) : Type 0 where
+  pub are_parts : AreSelectorParts parts
   pub begins : BeginsNamed parts
-  pub spelled : text ≡ path_text (map part_text parts)
+  pub spelled : text ≡ path_text (map selector_part_text parts)
 
 -- the value that a part selects in a value
-abbrev pub chosen : Part → Data → Option Data
-chosen (named name) d = get name d
-chosen (indexed digits) d = item_at (digits_value 10 digits) d
+abbrev pub selected_value : SelectorPart → Data → Option Data
+selected_value (named name) d = get name d
+selected_value (indexed digits) d = item_at (digits_value 10 digits) d
 
 -- the value that parts select in a value, one after another
-abbrev pub value_at : List Part → Data → Option Data
+abbrev pub value_at : List SelectorPart → Data → Option Data
 value_at [] d = Some d
-value_at (part ∷ parts) d = option_and_then (value_at parts) (chosen part d)
+value_at (part ∷ parts) d = option_and_then (value_at parts) (selected_value part d)

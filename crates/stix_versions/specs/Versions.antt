@@ -6,7 +6,7 @@ use Rattle.serde_json.specs.Data.{Data, boolean}
 use Rattle.serde_json.specs.Find.{get}
 use Rattle.stix_ids.specs.declared.id.Id.{Id}
 use Rattle.stix_objects.specs.declared.groups.Group.TheVariants.{Observable}
-use Rattle.stix_json.specs.Properties.{text_at}
+use Rattle.stix_json.specs.Properties.{property_text}
 use Rattle.stix_objects.specs.Types.{group_of}
 use Rattle.stix_objects.specs.declared.form.Precision.TheVariants.{Millis}
 use Rattle.stix_objects.specs.Properties.{IsTimestampAt, HasId}
@@ -16,7 +16,7 @@ use Rattle.stix_versions.specs.declared.version_break.VersionBreak.{VersionBreak
 
 -- its type is that of a cyber-observable, which has no versions (section 6)
 abbrev pub IsObservable : Data → Type 0
-IsObservable d = (kind : List ℕ) × (text_at (codes "type") d ≡ Some kind) × (group_of kind ≡ Observable)
+IsObservable d = (kind : List ℕ) × (property_text (codes "type") d ≡ Some kind) × (group_of kind ≡ Observable)
 
 -- the object at the position is a version of the identifier, with these `created` and `modified`
 -- times, to the millisecond at least (sections 3.2 and 2.16)

@@ -2,7 +2,7 @@ ghost use Rattle.std.specs.Prelude.{◌≡◌, ◌↔◌, IsTrue, Any, All, code
 ghost use Rattle.stix_json.specs.DataOf.{data_of};
 ghost use Rattle.stix_json.specs.Ordered.{IsOrdered};
 ghost use Rattle.stix_bundles.specs.Objects.{data_in};
-ghost use Rattle.stix_versions.specs.Markings.{Has, HasOne, RefersToMarking, IsBreakOf};
+ghost use Rattle.stix_versions.specs.Markings.{HasProperty, HasOne, RefersToMarking, IsBreakOf};
 ghost use Rattle.stix_versions.specs.inner.Selectors.{IsSelectorText, Misses, IsWellNamed};
 ghost use Rattle.stix_versions.specs.inner.Selectors.{IsListAt};
 
@@ -34,7 +34,7 @@ fn has_one(marking: &Json) -> bool
 
 /// Whether the property is present.
 fn has(object: &Json, name: &str) -> bool
-    ensures { IsTrue result ↔ Has name.now (data_of object.now) }
+    ensures { IsTrue result ↔ HasProperty name.now (data_of object.now) }
 {
     get(object, name).is_some()
 }

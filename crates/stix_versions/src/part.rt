@@ -5,16 +5,17 @@ ghost use Rattle.std.specs.Str.Parse.{IsNumeral, digits_value};
 ghost use Rattle.serde_json.specs.Find.{at as at_place};
 ghost use Rattle.stix_json.specs.DataOf.{data_of};
 ghost use Rattle.stix_json.specs.Ordered.{IsOrdered};
-ghost use Rattle.stix_versions.specs.Selector.{Part, IsNameCharacter, IsName, IsIndex, in_brackets};
-ghost use Rattle.stix_versions.specs.Selector.{chosen as chosen_by};
-ghost use Rattle.stix_versions.specs.inner.Paths.{IsPartOf};
+ghost use Rattle.stix_versions.specs.Selector.{SelectorPart, IsNameCharacter, IsName, IsIndex};
+ghost use Rattle.stix_versions.specs.Selector.{in_brackets};
+ghost use Rattle.stix_versions.specs.Selector.{selected_value as chosen_by};
+ghost use Rattle.stix_versions.specs.inner.Paths.{IsSelectorPartText};
 
 use stix_json::laws::ordered_parts;
 use stix_json::{Json, get_ordered};
 
 /// Whether the text is one part of a selector.
 pub(crate) fn is_part(text: &str) -> bool
-    ensures { IsTrue result ↔ ((part : Part) × IsPartOf text.now part) }
+    ensures { IsTrue result ↔ ((part : SelectorPart) × IsSelectorPartText text.now part) }
 {
     match bracketed(text) {
         Some(digits) => is_index(digits),
@@ -25,7 +26,7 @@ pub(crate) fn is_part(text: &str) -> bool
 /// The value that a part selects in a value.
 pub(crate) fn chosen<'a>(text: &str, value: &'a Json) -> Option<&'a Json>
     requires { IsOrdered (data_of value.now) }
-    ensures value { (part : Part) → IsPartOf text.now part
+    ensures value { (part : SelectorPart) → IsSelectorPartText text.now part
         → option_map (λ inner. data_of inner.now) result ≡ chosen_by part (data_of value.now) }
     ensures ordered { IfSome result (λ inner. IsOrdered (data_of inner.now)) }
 {

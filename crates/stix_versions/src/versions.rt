@@ -7,7 +7,7 @@ ghost use Rattle.stix_versions.specs.Versions.{break_of_version, AreVersionBreak
 ghost use Rattle.stix_versions.specs.Versions.{AreVersionBreaks};
 ghost use Rattle.stix_versions.specs.inner.FirstVersions.{AreCreatedBefore, AreRevokedBefore};
 ghost use Rattle.stix_versions.specs.inner.Duplicates.{AreDuplicatesBefore};
-ghost use Rattle.stix_versions.specs.inner.History.{AreVersionsBefore, only_if};
+ghost use Rattle.stix_versions.specs.inner.History.{AreVersionsBefore, violation_if};
 
 use crate::created::Created;
 use crate::duplicates::Duplicates;
@@ -81,7 +81,7 @@ fn add(
     rule: VersionRule,
     found: &mut Items<VersionBreak>,
 ) -> Result<(), NoMemory>
-    ensures { OnOk result (found.new ≡ found.old ++ only_if broken (break_of_version object rule)) }
+    ensures { OnOk result (found.new ≡ found.old ++ violation_if broken (break_of_version object rule)) }
 {
     if broken {
         found.push(VersionBreak { object, rule })?;

@@ -8,7 +8,7 @@ use Rattle.std.proofs.lemmas.List.Elements.{All-cons, All-nil}
 use Rattle.std.proofs.lemmas.Nat.{from_be_bytes-to_be_bytes_8}
 use Rattle.hex.specs.Hex.{lower_digits, encode_with, encode_lower}
 use Rattle.hex.proofs.HexLemmas.{length-encode_with}
-use Rattle.taxii_routes.specs.Value.{IsHexDigit, IsNext}
+use Rattle.taxii_routes.specs.Value.{IsHexDigit, IsNextCursor}
 use Rattle.taxii_bodies.specs.Envelope.{next_text}
 use Rattle.taxii_bodies.proofs.EnvelopeJsonLemmas.{AreBytes, are_bytes}
 
@@ -75,7 +75,7 @@ next_number : (date : ℕ) → date < 2 ^ 64 → date ≡ digits_value 16 (next_
 next_number date small =
     sym (hex_value 0 (to_be_bytes w64 date) (are_bytes 8 date) ∙ eight _ _ _ _ _ _ _ _ ∙ from_be_bytes-to_be_bytes_8 date small)
 
-pub next_reads : (date : ℕ) → date < 2 ^ 64 → IsNext (next_text date) date
+pub next_reads : (date : ℕ) → date < 2 ^ 64 → IsNextCursor (next_text date) date
 next_reads date small = record {
   digits = hex_digits (to_be_bytes w64 date) (are_bytes 8 date);
   long = length-encode_with lower_digits (to_be_bytes w64 date);

@@ -16,9 +16,9 @@ use Rattle.taxii_bodies.specs.declared.details.Detail.{Detail}
 use Rattle.taxii_bodies.specs.Times.{IsDateText, IsStatedText, IsVersionText}
 
 -- a name, and the path of what it is stated of, where that is not the whole
-abbrev pub at_path : List ℕ → List ℕ → List ℕ
-at_path name [] = name
-at_path name (byte ∷ path) = name ++ (codes " at " ++ byte ∷ path)
+abbrev pub detail_at_path : List ℕ → List ℕ → List ℕ
+detail_at_path name [] = name
+detail_at_path name (byte ∷ path) = name ++ (codes " at " ++ byte ∷ path)
 
 -- why an entry is no JSON value: the name of the rule alone, since there is no object with a path
 abbrev pub refusal_message : JsonRefusal → List ℕ
@@ -58,11 +58,11 @@ pub record IsSuccessOf (row : StoredRow) (detail : Detail) : Type 0 where
 -- the detail of an object that breaks a rule, in a request of that moment
 pub record IsFailureOf (object : Data) (found : Break) (moment : ℕ) (detail : Detail) : Type 0 where
   pub id : IsIdOrUnknown object detail.id
-  pub message : detail.message ≡ Some (at_path (rule_name found.rule) found.path)
+  pub message : detail.message ≡ Some (detail_at_path (rule_name found.rule) found.path)
   pub version : IsVersionOrMoment object moment detail.version
 
 -- the detail of an entry that is no JSON value, in a request of that moment
-pub record IsRefusalOf (refusal : JsonRefusal) (moment : ℕ) (detail : Detail) : Type 0 where
+pub record IsRefusalDetail (refusal : JsonRefusal) (moment : ℕ) (detail : Detail) : Type 0 where
   pub id : detail.id ≡ unknown_id
   pub message : detail.message ≡ Some (refusal_message refusal)
   pub version : IsMomentText moment detail.version

@@ -6,9 +6,10 @@ ghost use Rattle.stix_ids.specs.PartsOf.{id_of};
 ghost use Rattle.stix_json.specs.DataOf.{data_of};
 ghost use Rattle.stix_times.specs.Writing.{IsWhole};
 ghost use Rattle.taxii_rows.specs.Version.{IsVersionTime};
-ghost use Rattle.taxii_bodies.specs.Details.{at_path, refusal_message, IsMomentText, IsIdOrUnknown};
+ghost use Rattle.taxii_bodies.specs.Details.{detail_at_path, refusal_message, IsMomentText};
+ghost use Rattle.taxii_bodies.specs.Details.{IsIdOrUnknown};
 ghost use Rattle.taxii_bodies.specs.Details.{IsVersionOrMoment, IsSuccessOf, IsFailureOf};
-ghost use Rattle.taxii_bodies.specs.Details.{IsRefusalOf};
+ghost use Rattle.taxii_bodies.specs.Details.{IsRefusalDetail};
 ghost use Rattle.taxii_bodies.specs.Times.{IsWritable};
 
 use crate::times::{date_text, stated_text, version_text};
@@ -70,7 +71,7 @@ pub fn failure_detail(
 /// The detail of an entry that is no JSON value, in a request at `moment` (microseconds since
 /// 1970).
 pub fn refused_detail(alloc: Global, refusal: &JsonRefusal, moment: u64) -> Result<Detail, NoMemory>
-    ensures { IfOk result (IsRefusalOf refusal.now moment) }
+    ensures { IfOk result (IsRefusalDetail refusal.now moment) }
 {
     let id = Text::from_text(alloc, UNKNOWN_ID)?;
     let message = refusal_text(alloc, refusal)?;
@@ -134,7 +135,7 @@ fn version_time(object: &Json) -> Option<Instant>
 
 /// The name of a rule, and the path of the value that violates it.
 fn message_at(alloc: Global, name: &str, path: &str) -> Result<Text, NoMemory>
-    ensures { IfOk result (λ text. text ≡ at_path name.now path.now) }
+    ensures { IfOk result (λ text. text ≡ detail_at_path name.now path.now) }
 {
     let mut text = Text::from_text(alloc, name)?;
     if !path.is_empty() {

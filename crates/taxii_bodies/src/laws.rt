@@ -4,7 +4,7 @@ ghost use Rattle.std.specs.Prelude.{◌≡◌, ◌^◌, ◌<◌, ◌≤◌, ℕ,
 ghost use Rattle.std.specs.List.{AllZip};
 ghost use Rattle.serde_json.specs.Data.{Data};
 ghost use Rattle.serde_json.specs.Written.{compact_text};
-ghost use Rattle.taxii_routes.specs.Value.{IsNext};
+ghost use Rattle.taxii_routes.specs.Value.{IsNextCursor};
 ghost use Rattle.taxii_rows.specs.declared.stored_row.StoredRow.{StoredRow};
 ghost use Rattle.taxii_rows.specs.SoundRow.{IsRowOf, IsSoundRow, IsSoundState};
 ghost use Rattle.taxii_rows.specs.StoreState.{StoreState};
@@ -28,5 +28,5 @@ pub fn envelopes_are_json()
 
 /// A cursor is parsed from a query as the date it was written for.
 pub fn nexts_read_back()
-    ensures { (date : ℕ) → date < 2 ^ 64 → IsNext (next_text date) date }
+    ensures { (date : ℕ) → date < 2 ^ 64 → IsNextCursor (next_text date) date }
 {}

@@ -1,8 +1,8 @@
 ghost use Rattle.std.specs.Prelude.{◌≡◌, ◌++◌, IfOk};
 ghost use Rattle.serde_json.specs.Written.{compact_text};
-ghost use Rattle.taxii_routes.specs.Param.{name_of};
+ghost use Rattle.taxii_routes.specs.Param.{param_name};
 ghost use Rattle.taxii_bodies.specs.Title.{title_data};
-ghost use Rattle.taxii_bodies.specs.Problem.{title_of};
+ghost use Rattle.taxii_bodies.specs.Problem.{problem_title};
 
 use crate::title_body;
 use flow_values::{NoMemory, Text};
@@ -37,7 +37,7 @@ pub enum Problem {
 impl Problem {
     /// The title of the error message.
     pub fn title(self, alloc: Global) -> Result<Text, NoMemory>
-        ensures { IfOk result (λ title. title ≡ title_of self) }
+        ensures { IfOk result (λ title. title ≡ problem_title self) }
     {
         match self {
             Problem::BadValue(param) => title_with(alloc, "bad value of ", param),
@@ -56,7 +56,7 @@ impl Problem {
 
 /// A title that ends with the parameter's name.
 fn title_with(alloc: Global, prefix: &str, param: Param) -> Result<Text, NoMemory>
-    ensures { IfOk result (λ title. title ≡ prefix.now ++ name_of param) }
+    ensures { IfOk result (λ title. title ≡ prefix.now ++ param_name param) }
 {
     let mut title = Text::from_text(alloc, prefix)?;
     title.push(param.name())?;
@@ -65,7 +65,7 @@ fn title_with(alloc: Global, prefix: &str, param: Param) -> Result<Text, NoMemor
 
 /// The error message of a problem.
 pub fn problem_body(alloc: Global, problem: Problem) -> Result<Text, NoMemory>
-    ensures { IfOk result (λ text. text ≡ compact_text (title_data (title_of problem))) }
+    ensures { IfOk result (λ text. text ≡ compact_text (title_data (problem_title problem))) }
 {
     let title = problem.title(alloc)?;
     title_body(alloc, title.as_str())

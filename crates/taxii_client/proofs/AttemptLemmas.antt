@@ -6,14 +6,14 @@ use Rattle.std.proofs.lemmas.List.Elements.{All-cons, All-nil, All-head, All-tai
 use Rattle.std.proofs.lemmas.List.Sums.{sum_by-cons}
 use Rattle.stix_json.specs.declared.envelope.Envelope.{Envelope}
 use Rattle.flow_edges.specs.Faults.{HasIncreased}
-use Rattle.taxii_client.specs.Environment.{LinkView}
+use Rattle.taxii_client.specs.Environment.{ClientLinkView}
 use Rattle.taxii_client.specs.Fetches.{Fetched}
-use Rattle.taxii_client.specs.Pulls.{Lent, Page, InTurn as PagesInTurn}
+use Rattle.taxii_client.specs.Pulls.{Lent, Page, ArePagesInTurn as PagesInTurn}
 use Rattle.taxii_client.specs.declared.fetch_end.FetchEnd.{FetchEnd}
 use Rattle.taxii_client.specs.declared.fetch_end.FetchEnd.TheVariants as Fetch
 use Rattle.taxii_client.specs.declared.target.Target.{Target}
 use Rattle.taxii_client.specs.declared.cursor.Cursor.{Cursor}
-use Rattle.taxii_client.specs.Attempts.{Attempt, IsAttemptAt, InTurn, cursor_after_attempt, is_loss, is_lost, losses, undialled, links_of, lost_links, page_over, pages_of, entries_of, Continues, LinkFailed, CountsDials}
+use Rattle.taxii_client.specs.Attempts.{Attempt, IsAttemptAt, AreAttemptsInTurn, cursor_after_attempt, is_loss, is_lost, losses, undialled, links_of, lost_links, page_over, pages_of, entries_of, AllowsNextAttempt, LinkFailed, CountsDials}
 
 -- ---- counts and lists, one more
 
@@ -72,19 +72,19 @@ module _ {L : Type 0} where
 
   -- ---- turns
 
-  module _ (view : L → LinkView) (target : Target) where
+  module _ (view : L → ClientLinkView) (target : Target) where
     pub turns_more : (start cursor : Cursor) (attempts : List (Attempt L)) (attempt : Attempt L)
-        → InTurn view target start attempts cursor → IsAttemptAt view target cursor attempt → InTurn view target start (attempts ++ attempt ∷ []) (cursor_after_attempt cursor attempt.answer)
+        → AreAttemptsInTurn view target start attempts cursor → IsAttemptAt view target cursor attempt → AreAttemptsInTurn view target start (attempts ++ attempt ∷ []) (cursor_after_attempt cursor attempt.answer)
     turns_more start cursor [] attempt same is = (subst (λ (t : Cursor). IsAttemptAt view target t attempt) same is, ap (λ (t : Cursor). cursor_after_attempt t attempt.answer) same)
     turns_more start cursor (first ∷ attempts) attempt turns is =
         (turns.0, turns_more (cursor_after_attempt start first.answer) cursor attempts attempt turns.1 is)
 
     -- the pages that came among attempts that go on are in turn
-    pub pages_turn : (start cursor : Cursor) (attempts : List (Attempt L)) → InTurn view target start attempts cursor → All Continues attempts
+    pub pages_turn : (start cursor : Cursor) (attempts : List (Attempt L)) → AreAttemptsInTurn view target start attempts cursor → All AllowsNextAttempt attempts
         → PagesInTurn view target start (pages_of attempts) cursor
     pages_turn start cursor [] turns proceed = turns
     pages_turn start cursor (attempt ∷ attempts) turns proceed =
-        go attempt.link attempt.answer turns.0.fetched (pages_turn (cursor_after_attempt start attempt.answer) cursor attempts turns.1 (All-tail Continues attempt attempts proceed))
+        go attempt.link attempt.answer turns.0.fetched (pages_turn (cursor_after_attempt start attempt.answer) cursor attempts turns.1 (All-tail AllowsNextAttempt attempt attempts proceed))
       where
         go : (link : Option (Lent L)) (answer : Result Envelope FetchEnd)
             → MatchOption link (answer ≡ Err Fetch.Fault) (λ one. Fetched target turns.0.next (view one.given) (view one.finished) answer)
@@ -110,7 +110,7 @@ module _ {L : Type 0} where
     failed_one cursor link (Err (Fetch.Refused refusal)) next fetched lost = absurd (cc lost)
     failed_one cursor link (Err Fetch.NoMemory) next fetched lost = absurd (cc lost)
 
-    pub all_failed : (start cursor : Cursor) (attempts : List (Attempt L)) → InTurn view target start attempts cursor → All (LinkFailed view) (lost_links attempts)
+    pub all_failed : (start cursor : Cursor) (attempts : List (Attempt L)) → AreAttemptsInTurn view target start attempts cursor → All (LinkFailed view) (lost_links attempts)
     all_failed start cursor [] turns = All-nil (LinkFailed view)
     all_failed start cursor (attempt ∷ attempts) turns =
         go (is_lost attempt) refl (all_failed (cursor_after_attempt start attempt.answer) cursor attempts turns.1)
@@ -145,12 +145,12 @@ module _ {L : Type 0} where
       go (Some link) true none count more rest = omega (arith, count, more, rest)
       go (Some link) false none count more rest = omega (arith, count, more, rest)
 
-  without_is_lost : (link : Option (Lent L)) (answer : Result Envelope FetchEnd) → link ≡ None → (view : L → LinkView) (target : Target) (next : Option (List ℕ))
+  without_is_lost : (link : Option (Lent L)) (answer : Result Envelope FetchEnd) → link ≡ None → (view : L → ClientLinkView) (target : Target) (next : Option (List ℕ))
       → MatchOption link (answer ≡ Err Fetch.Fault) (λ one. Fetched target next (view one.given) (view one.finished) answer) → is_loss answer ≡ true
   without_is_lost None answer none view target next fault = ap is_loss fault
   without_is_lost (Some link) answer none view target next fetched = absurd (cc none)
 
-  pub undialled_lost : (view : L → LinkView) (target : Target) (start cursor : Cursor) (attempts : List (Attempt L)) → InTurn view target start attempts cursor
+  pub undialled_lost : (view : L → ClientLinkView) (target : Target) (start cursor : Cursor) (attempts : List (Attempt L)) → AreAttemptsInTurn view target start attempts cursor
       → All (λ attempt. attempt.link ≡ None → is_lost attempt ≡ true) attempts
   undialled_lost view target start cursor [] turns = All-nil (λ attempt. attempt.link ≡ None → is_lost attempt ≡ true)
   undialled_lost view target start cursor (attempt ∷ attempts) turns =

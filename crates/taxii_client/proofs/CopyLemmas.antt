@@ -11,13 +11,13 @@ use Rattle.stix_json.specs.declared.entry.Entry.TheVariants.{Good, Bad}
 use Rattle.stix_json.specs.Entries.{AreEntriesFor}
 use Rattle.stix_json.specs.Ordered.{IsOrdered}
 use Rattle.stix_json.specs.Reading.{IsEntryFor}
-use Rattle.stix_json.specs.Refusal.{refusal_of}
+use Rattle.stix_json.specs.Refusal.{data_refusal}
 use Rattle.stix_json.specs.declared.envelope.Envelope.{Envelope}
 use Rattle.taxii_rows.specs.Keeper.{Kept}
 use Rattle.taxii_rows.specs.StoreState.{StoreState}
 use Rattle.taxii_store.specs.Agreement.{Agrees}
-use Rattle.taxii_client.specs.Environment.{LinkView, DialView}
-use Rattle.taxii_client.specs.Pulls.{PullState, Lent, Page, PassThrough, Asks, cursor_after, AsksFor, GivesPage, Dials, Answers}
+use Rattle.taxii_client.specs.Environment.{ClientLinkView, DialView}
+use Rattle.taxii_client.specs.Pulls.{PullState, Lent, Page, PassThroughDial, RequestsNext, cursor_after, AsksFor, GivesPage, Dials, Answers}
 use Rattle.taxii_client.specs.declared.fetch_end.FetchEnd.{FetchEnd}
 use Rattle.taxii_client.specs.declared.fetch_end.FetchEnd.TheVariants as Fetch
 use Rattle.taxii_client.specs.declared.page_end.PageEnd.{PageEnd}
@@ -34,8 +34,8 @@ use Rattle.taxii_client.specs.declared.stop.FetchStop.{FetchStop}
 use Rattle.taxii_client.specs.declared.stop.FetchStop.TheVariants as Stop
 use Rattle.taxii_client.specs.declared.totals.Totals.{Totals}
 use Rattle.taxii_client.specs.Copying.{Copying}
-use Rattle.taxii_client.specs.Attempts.{Attempt, IsAttemptAt, InTurn, cursor_after_attempt, is_lost, losses, undialled, links_of, pages_of, entries_of, Continues, CountsDials}
-use Rattle.taxii_client.specs.Filling.{Environment, GivesMoments, Fills}
+use Rattle.taxii_client.specs.Attempts.{Attempt, IsAttemptAt, AreAttemptsInTurn, cursor_after_attempt, is_lost, losses, undialled, links_of, pages_of, entries_of, AllowsNextAttempt, CountsDials}
+use Rattle.taxii_client.specs.Filling.{CopyEnvironment, GivesEachMoment, Fills}
 use Rattle.taxii_client.specs.Totals.{totals_of, with_tally}
 use Rattle.taxii_client.specs.Endings.{Stops, StopsBehind, StopsLost, StopsAt, StopsShort, ExplainsStop, EndsFetching}
 use Rattle.taxii_client.specs.inner.Opening.{stop_of, Opens}
@@ -43,8 +43,8 @@ use Rattle.taxii_client.proofs.AttemptLemmas.{over, without, links_more, links_s
 
 -- ---- moments
 
-pub moments_more : (before now after : ℕ → Option ℕ) (moments : List ℕ) (moment : ℕ) → GivesMoments before moments now → IsNext now moment → ClockContinues now after
-    → GivesMoments before (moments ++ moment ∷ []) after
+pub moments_more : (before now after : ℕ → Option ℕ) (moments : List ℕ) (moment : ℕ) → GivesEachMoment before moments now → IsNext now moment → ClockContinues now after
+    → GivesEachMoment before (moments ++ moment ∷ []) after
 moments_more before now after [] moment same next goes = (
   after,
   subst (λ (o : Option ℕ). IfSome o (λ observable. moment ≡ observable)) (same 0) next,
@@ -56,7 +56,7 @@ moments_more before now after (first ∷ moments) moment (middle, is, goes, rest
 -- ---- the copy so far
 
 -- attempts were made that another may follow, the pages that came were absorbed, and the walk and the mirror stand after them
-pub record CopiesSoFar {L : Type 0} (view : L → LinkView) (asked : Copying) (before now : Environment L) (pull : PullState) (mirror : MirrorState) (lost : ℕ) (totals : Totals) : Type 0 where
+pub record CopiesSoFar {L : Type 0} (view : L → ClientLinkView) (asked : Copying) (before now : CopyEnvironment L) (pull : PullState) (mirror : MirrorState) (lost : ℕ) (totals : Totals) : Type 0 where
   pub stops : Stops view asked before now [] []
   pub target_is : pull.target ≡ asked.target
   pub cursor_is : pull.cursor ≡ stops.cursor
@@ -69,14 +69,14 @@ pub record CopiesSoFar {L : Type 0} (view : L → LinkView) (asked : Copying) (b
   pub totals_is : totals ≡ totals_of stops.absorbed
 
 -- an attempt as it was made: its link, what the dial told, and what came
-pub record Made {L : Type 0} (view : L → LinkView) (target : Target) (cursor : Cursor) (dial now : DialView L) (end : Result Envelope FetchEnd) : Type 0 where
+pub record Made {L : Type 0} (view : L → ClientLinkView) (target : Target) (cursor : Cursor) (dial now : DialView L) (end : Result Envelope FetchEnd) : Type 0 where
   pub attempt : Attempt L
   pub answer_is : attempt.answer ≡ end
   pub at : IsAttemptAt view target cursor attempt
-  pub link_or_none : ((link : Lent L) × (attempt ≡ over link end) × PassThrough target (link ∷ []) dial.observable now.observable × (now.faults ≡ dial.faults))
+  pub link_or_none : ((link : Lent L) × (attempt ≡ over link end) × PassThroughDial target (link ∷ []) dial.observable now.observable × (now.faults ≡ dial.faults))
       ⊎ ((attempt ≡ without) × (now.observable ≡ dial.observable) × HasIncreased dial.faults now.faults)
 
-pub made_by : {L : Type 0} (view : L → LinkView) (pull : PullState) (dial now : DialView L) (answer : Result Envelope FetchEnd)
+pub made_by : {L : Type 0} (view : L → ClientLinkView) (pull : PullState) (dial now : DialView L) (answer : Result Envelope FetchEnd)
     → AsksFor view pull dial now answer → Made view pull.target pull.cursor dial now answer
 made_by view pull dial now answer asks = go asks.dials
   where
@@ -94,19 +94,19 @@ made_by view pull dial now answer asks = go asks.dials
       link_or_none = inr (refl, fails.same, fails.rose);
     }
 
-module _ {L : Type 0} (view : L → LinkView) (asked : Copying)
+module _ {L : Type 0} (view : L → ClientLinkView) (asked : Copying)
     (joins : (t : Target) (links more : List (Lent L)) (first middle last : Option (DialState L))
-    → PassThrough t links first middle → PassThrough t more middle last → PassThrough t (links ++ more) first last) where
+    → PassThroughDial t links first middle → PassThroughDial t more middle last → PassThroughDial t (links ++ more) first last) where
   -- the links after one more attempt
   through_more : (attempts : List (Attempt L)) (cursor : Cursor) (first : Option (DialState L)) (dial now : DialView L) (end : Result Envelope FetchEnd) (made : Made view asked.target cursor dial now end)
-      → PassThrough asked.target (links_of attempts) first dial.observable → PassThrough asked.target (links_of (attempts ++ made.attempt ∷ [])) first now.observable
+      → PassThroughDial asked.target (links_of attempts) first dial.observable → PassThroughDial asked.target (links_of (attempts ++ made.attempt ∷ [])) first now.observable
   through_more attempts cursor first dial now end made through = elim made.link_or_none [
-    | inl its ↦ subst (λ (a : Attempt L). PassThrough asked.target (links_of (attempts ++ a ∷ [])) first now.observable) (sym its.1)
-        (subst (λ (links : List (Lent L)). PassThrough asked.target links first now.observable) (sym (links_more attempts its.0 end))
+    | inl its ↦ subst (λ (a : Attempt L). PassThroughDial asked.target (links_of (attempts ++ a ∷ [])) first now.observable) (sym its.1)
+        (subst (λ (links : List (Lent L)). PassThroughDial asked.target links first now.observable) (sym (links_more attempts its.0 end))
         (joins asked.target (links_of attempts) (its.0 ∷ []) first dial.observable now.observable through its.2))
-    | inr none ↦ subst (λ (a : Attempt L). PassThrough asked.target (links_of (attempts ++ a ∷ [])) first now.observable) (sym none.0)
-        (subst (λ (links : List (Lent L)). PassThrough asked.target links first now.observable) (sym (links_same attempts))
-        (subst (λ (d : Option (DialState L)). PassThrough asked.target (links_of attempts) first d) (sym none.1) through))
+    | inr none ↦ subst (λ (a : Attempt L). PassThroughDial asked.target (links_of (attempts ++ a ∷ [])) first now.observable) (sym none.0)
+        (subst (λ (links : List (Lent L)). PassThroughDial asked.target links first now.observable) (sym (links_same attempts))
+        (subst (λ (d : Option (DialState L)). PassThroughDial asked.target (links_of attempts) first d) (sym none.1) through))
   ]
 
   counts_more : (attempts : List (Attempt L)) (cursor : Cursor) (first : ℕ) (dial now : DialView L) (end : Result Envelope FetchEnd) (made : Made view asked.target cursor dial now end)
@@ -118,10 +118,10 @@ module _ {L : Type 0} (view : L → LinkView) (asked : Copying)
         (counts_without attempts first dial.faults now.faults counts none.2)
   ]
 
-  abbrev with_dial : DialView L → Environment L → Environment L
+  abbrev with_dial : DialView L → CopyEnvironment L → CopyEnvironment L
   with_dial dial now = record { dial = dial; kept = now.kept; moments = now.moments }
 
-  module _ (before now : Environment L) (pull : PullState) (mirror : MirrorState) (lost : ℕ) (totals : Totals)
+  module _ (before now : CopyEnvironment L) (pull : PullState) (mirror : MirrorState) (lost : ℕ) (totals : Totals)
       (so : CopiesSoFar view asked before now pull mirror lost totals) where
     -- the same pages, where a dial went on
     fills_still : (dial : DialView L) (attempts : List (Attempt L)) → pages_of attempts ≡ pages_of so.stops.attempts
@@ -141,14 +141,14 @@ module _ {L : Type 0} (view : L → LinkView) (asked : Copying)
           moments = fills.moments;
         }
 
-    through_was : PassThrough asked.target (links_of so.stops.attempts) before.dial.observable now.dial.observable
-    through_was = subst (λ (those : List (Attempt L)). PassThrough asked.target (links_of those) before.dial.observable now.dial.observable) (append-nil so.stops.attempts) so.stops.through
+    through_was : PassThroughDial asked.target (links_of so.stops.attempts) before.dial.observable now.dial.observable
+    through_was = subst (λ (those : List (Attempt L)). PassThroughDial asked.target (links_of those) before.dial.observable now.dial.observable) (append-nil so.stops.attempts) so.stops.through
 
     counts_was : CountsDials (undialled so.stops.attempts) before.dial.faults now.dial.faults
     counts_was = subst (λ (those : List (Attempt L)). CountsDials (undialled those) before.dial.faults now.dial.faults) (append-nil so.stops.attempts) so.stops.counts
 
-    turns_was : InTurn view asked.target First so.stops.attempts so.stops.cursor
-    turns_was = subst (λ (those : List (Attempt L)). InTurn view asked.target First those so.stops.cursor) (append-nil so.stops.attempts) so.stops.in_turn
+    turns_was : AreAttemptsInTurn view asked.target First so.stops.attempts so.stops.cursor
+    turns_was = subst (λ (those : List (Attempt L)). AreAttemptsInTurn view asked.target First those so.stops.cursor) (append-nil so.stops.attempts) so.stops.in_turn
 
     made_here : (dial : DialView L) (answer : Result Envelope FetchEnd) → AsksFor view pull now.dial dial answer → Made view asked.target so.stops.cursor now.dial dial answer
     made_here dial answer asks =
@@ -161,12 +161,12 @@ module _ {L : Type 0} (view : L → LinkView) (asked : Copying)
     stops_lost dial end made lost_it =
         let attempts = so.stops.attempts ++ made.attempt ∷ [] in record {
           attempts = attempts;
-          proceed = All-push Continues so.stops.attempts made.attempt so.stops.proceed (inr lost_it);
+          proceed = All-push AllowsNextAttempt so.stops.attempts made.attempt so.stops.proceed (inr lost_it);
           cursor = so.stops.cursor;
-          in_turn = subst (λ (those : List (Attempt L)). InTurn view asked.target First those so.stops.cursor) (sym (append-nil attempts))
-              (subst (λ (a : Result Envelope FetchEnd). InTurn view asked.target First attempts (cursor_after_attempt so.stops.cursor a)) made.answer_is
+          in_turn = subst (λ (those : List (Attempt L)). AreAttemptsInTurn view asked.target First those so.stops.cursor) (sym (append-nil attempts))
+              (subst (λ (a : Result Envelope FetchEnd). AreAttemptsInTurn view asked.target First attempts (cursor_after_attempt so.stops.cursor a)) made.answer_is
               (turns_more view asked.target First so.stops.cursor so.stops.attempts made.attempt turns_was made.at));
-          through = subst (λ (those : List (Attempt L)). PassThrough asked.target (links_of those) before.dial.observable dial.observable) (sym (append-nil attempts))
+          through = subst (λ (those : List (Attempt L)). PassThroughDial asked.target (links_of those) before.dial.observable dial.observable) (sym (append-nil attempts))
               (through_more so.stops.attempts so.stops.cursor before.dial.observable now.dial dial (Err end) made through_was);
           counts = subst (λ (those : List (Attempt L)). CountsDials (undialled those) before.dial.faults dial.faults) (sym (append-nil attempts))
               (counts_more so.stops.attempts so.stops.cursor before.dial.faults now.dial dial (Err end) made counts_was);
@@ -181,7 +181,7 @@ module _ {L : Type 0} (view : L → LinkView) (asked : Copying)
       attempts = so.stops.attempts;
       proceed = so.stops.proceed;
       cursor = so.stops.cursor;
-      in_turn = subst (λ (a : Result Envelope FetchEnd). InTurn view asked.target First (so.stops.attempts ++ made.attempt ∷ []) (cursor_after_attempt so.stops.cursor a)) made.answer_is
+      in_turn = subst (λ (a : Result Envelope FetchEnd). AreAttemptsInTurn view asked.target First (so.stops.attempts ++ made.attempt ∷ []) (cursor_after_attempt so.stops.cursor a)) made.answer_is
           (turns_more view asked.target First so.stops.cursor so.stops.attempts made.attempt turns_was made.at);
       through = through_more so.stops.attempts so.stops.cursor before.dial.observable now.dial dial (Err end) made through_was;
       counts = counts_more so.stops.attempts so.stops.cursor before.dial.faults now.dial dial (Err end) made counts_was;
@@ -196,7 +196,7 @@ module _ {L : Type 0} (view : L → LinkView) (asked : Copying)
       proceed = so.stops.proceed;
       cursor = so.stops.cursor;
       in_turn = so.stops.in_turn;
-      through = subst (λ (d : DialView L). PassThrough asked.target (links_of (so.stops.attempts ++ [])) before.dial.observable d.observable) (sym same) so.stops.through;
+      through = subst (λ (d : DialView L). PassThroughDial asked.target (links_of (so.stops.attempts ++ [])) before.dial.observable d.observable) (sym same) so.stops.through;
       counts = subst (λ (d : DialView L). CountsDials (undialled (so.stops.attempts ++ [])) before.dial.faults d.faults) (sym same) so.stops.counts;
       absorbed = so.stops.absorbed;
       fills = fills_still dial so.stops.attempts refl;
@@ -231,7 +231,7 @@ module _ {L : Type 0} (view : L → LinkView) (asked : Copying)
           λ is_over. asked_over pull.cursor asks.next asks.asks (so.cursor_is ∙ is_over),
         )
       where
-        asked_over : (cursor : Cursor) (next : Option (List ℕ)) → Asks cursor next → cursor ≡ Over → ⊥
+        asked_over : (cursor : Cursor) (next : Option (List ℕ)) → RequestsNext cursor next → cursor ≡ Over → ⊥
         asked_over First next asks is = cc is
         asked_over (Resume text) next asks is = cc is
         asked_over Over next asks is = asks
@@ -311,7 +311,7 @@ module _ {L : Type 0} (view : L → LinkView) (asked : Copying)
       pub link : Lent L
       pub envelope : Envelope
       pub at : IsAttemptAt view asked.target so.stops.cursor (over link (Ok envelope))
-      pub through : PassThrough asked.target (link ∷ []) now.dial.observable dial.observable
+      pub through : PassThroughDial asked.target (link ∷ []) now.dial.observable dial.observable
       pub quiet : dial.faults ≡ now.dial.faults
       pub entries_are : entries ≡ envelope.entries
       pub after_is : after ≡ record { target = pull.target; cursor = cursor_after envelope; pages = pull.pages + 1 }
@@ -333,7 +333,7 @@ module _ {L : Type 0} (view : L → LinkView) (asked : Copying)
           | inr none ↦ absurd (let is : made.attempt ≡ without = none.0 in let no = ap (λ (a : Attempt L). a.answer) is in let yes = made.answer_is in cc (no, yes))
         ]
 
-    abbrev then : DialView L → Kept → (ℕ → Option ℕ) → Environment L
+    abbrev then : DialView L → Kept → (ℕ → Option ℕ) → CopyEnvironment L
     then dial kept moments = record { dial = dial; kept = kept; moments = moments }
 
     -- the attempts with one at which a page came, where the store is filled so
@@ -344,12 +344,12 @@ module _ {L : Type 0} (view : L → LinkView) (asked : Copying)
     stops_came after dial entries came kept moments left absorbed fills =
         let attempts = so.stops.attempts ++ over came.link (Ok came.envelope) ∷ [] in record {
           attempts = attempts;
-          proceed = All-push Continues so.stops.attempts (over came.link (Ok came.envelope)) so.stops.proceed (inl (came.envelope, refl));
+          proceed = All-push AllowsNextAttempt so.stops.attempts (over came.link (Ok came.envelope)) so.stops.proceed (inl (came.envelope, refl));
           cursor = cursor_after came.envelope;
-          in_turn = subst (λ (those : List (Attempt L)). InTurn view asked.target First those (cursor_after came.envelope)) (sym (append-nil attempts))
+          in_turn = subst (λ (those : List (Attempt L)). AreAttemptsInTurn view asked.target First those (cursor_after came.envelope)) (sym (append-nil attempts))
               (turns_more view asked.target First so.stops.cursor so.stops.attempts (over came.link (Ok came.envelope)) turns_was came.at);
-          through = subst (λ (those : List (Attempt L)). PassThrough asked.target (links_of those) before.dial.observable dial.observable) (sym (append-nil attempts))
-              (subst (λ (links : List (Lent L)). PassThrough asked.target links before.dial.observable dial.observable) (sym (links_more so.stops.attempts came.link (Ok came.envelope)))
+          through = subst (λ (those : List (Attempt L)). PassThroughDial asked.target (links_of those) before.dial.observable dial.observable) (sym (append-nil attempts))
+              (subst (λ (links : List (Lent L)). PassThroughDial asked.target links before.dial.observable dial.observable) (sym (links_more so.stops.attempts came.link (Ok came.envelope)))
               (joins asked.target (links_of so.stops.attempts) (came.link ∷ []) before.dial.observable now.dial.observable dial.observable through_was came.through));
           counts = subst (λ (those : List (Attempt L)). CountsDials (undialled those) before.dial.faults dial.faults) (sym (append-nil attempts))
               (counts_over so.stops.attempts came.link (Ok came.envelope) before.dial.faults now.dial.faults dial.faults counts_was came.quiet);
@@ -368,9 +368,9 @@ module _ {L : Type 0} (view : L → LinkView) (asked : Copying)
     no_late [] none = refl
     no_late (one ∷ late) none = absurd (omega (arith, none))
 
-    moments_was : GivesMoments before.moments (map (λ (p : Absorbed). p.moment) so.stops.absorbed) now.moments
+    moments_was : GivesEachMoment before.moments (map (λ (p : Absorbed). p.moment) so.stops.absorbed) now.moments
     moments_was =
-        subst (λ (ms : List ℕ). GivesMoments before.moments ms now.moments)
+        subst (λ (ms : List ℕ). GivesEachMoment before.moments ms now.moments)
         (ap (λ (late : List ℕ). map (λ (p : Absorbed). p.moment) so.stops.absorbed ++ late) (no_late so.stops.fills.late so.stops.fills.late_are) ∙ append-nil (map (λ (p : Absorbed). p.moment) so.stops.absorbed))
         so.stops.fills.moments
 
@@ -440,7 +440,7 @@ module _ {L : Type 0} (view : L → LinkView) (asked : Copying)
             pages_are = pages_now after dial entries came ∙ sym (map-append (λ (p : Absorbed). p.entries) so.stops.absorbed (page ∷ [])) ∙ sym (append-nil (map (λ (p : Absorbed). p.entries) absorbed));
             late = [];
             late_are = refl;
-            moments = subst (λ (ms : List ℕ). GivesMoments before.moments ms moments)
+            moments = subst (λ (ms : List ℕ). GivesEachMoment before.moments ms moments)
                 (sym (map-append (λ (p : Absorbed). p.moment) so.stops.absorbed (page ∷ [])) ∙ sym (append-nil (map (λ (p : Absorbed). p.moment) absorbed)))
                 (moments_more before.moments now.moments moments (map (λ (p : Absorbed). p.moment) so.stops.absorbed) moment moments_was next goes);
           });
@@ -458,7 +458,7 @@ module _ {L : Type 0} (view : L → LinkView) (asked : Copying)
 -- ---- the entries of a page
 
 readable_one : (d : Data) (entry : Entry) → IsEntryFor d entry → IsReadable entry
-readable_one d (Good value) is = (subst (λ (v : Data). refusal_of v ≡ None) (sym is.same) is.good, subst IsOrdered (sym is.same) is.ordered)
+readable_one d (Good value) is = (subst (λ (v : Data). data_refusal v ≡ None) (sym is.same) is.good, subst IsOrdered (sym is.same) is.ordered)
 readable_one d (Bad refusal) is = tt
 
 readable_all : (ds : Items) (entries : List Entry) → AreEntriesFor ds entries → All IsReadable entries
@@ -468,7 +468,7 @@ readable_all (item d ds) [] are = absurd are
 readable_all (item d ds) (entry ∷ entries) are = All-cons IsReadable entry entries (readable_one d entry are.0) (readable_all ds entries are.1)
 
 -- JSON's limits take the entries of a page that came
-pub page_readable : {L : Type 0} (view : L → LinkView) (before after : PullState) (dial now : DialView L) (entries : List Entry)
+pub page_readable : {L : Type 0} (view : L → ClientLinkView) (before after : PullState) (dial now : DialView L) (entries : List Entry)
     → GivesPage view before after dial now entries → All IsReadable entries
 page_readable view before after dial now entries gives =
     subst (All IsReadable) (sym gives.entries_are) (go gives.asks.dials)
@@ -480,18 +480,18 @@ page_readable view before after dial now entries gives =
 
 -- ---- the start
 
-pub copy_start : {L : Type 0} (view : L → LinkView) (asked : Copying) (before now : Environment L) (mirror : MirrorState) (totals : Totals)
-    → PassThrough asked.target [] before.dial.observable before.dial.observable → now.dial ≡ before.dial → now.moments ≡ before.moments
+pub copy_start : {L : Type 0} (view : L → ClientLinkView) (asked : Copying) (before now : CopyEnvironment L) (mirror : MirrorState) (totals : Totals)
+    → PassThroughDial asked.target [] before.dial.observable before.dial.observable → now.dial ≡ before.dial → now.moments ≡ before.moments
     → Opens asked.file before.kept now.kept mirror → mirror.collection ≡ asked.target.collection → 1 ≤ asked.tries
     → totals ≡ record { pages = 0; added = 0; present = 0; skipped = 0 }
     → CopiesSoFar view asked before now (record { target = asked.target; cursor = First; pages = 0 }) mirror 0 totals
 copy_start {L} view asked before now mirror totals none dial moments opens collection some zero = record {
   stops = record {
     attempts = [];
-    proceed = All-nil Continues;
+    proceed = All-nil AllowsNextAttempt;
     cursor = First;
     in_turn = refl;
-    through = subst (λ (d : DialView L). PassThrough asked.target [] before.dial.observable d.observable) (sym dial) none;
+    through = subst (λ (d : DialView L). PassThroughDial asked.target [] before.dial.observable d.observable) (sym dial) none;
     counts = subst (λ (d : DialView L). CountsDials 0 before.dial.faults d.faults) (sym dial) (counts_none before.dial.faults);
     absorbed = [];
     fills = record {

@@ -5,13 +5,13 @@ use Rattle.std.proofs.Math.Seq.{take-length}
 use Rattle.flow_edges.specs.Flow.{written_with, WritesPrefix, SinkSide, SourceSide}
 use Rattle.stix_json.specs.declared.envelope.Envelope.{Envelope}
 use Rattle.stix_json.specs.Envelopes.{IsEnvelopeOf}
-use Rattle.http_messages.specs.Replies.{IsReply, IsNeeded, Takes, ReadsReply}
+use Rattle.http_messages.specs.Replies.{IsReply, IsNeeded, TakesFromLink, ReadsReply}
 use Rattle.taxii_client.specs.declared.reply_refusal.ReplyRefusal.TheVariants.{NotEnvelope}
 use Rattle.taxii_client.specs.declared.target.Target.{Target}
 use Rattle.taxii_client.specs.declared.fetch_end.FetchEnd.{FetchEnd}
 use Rattle.taxii_client.specs.declared.fetch_end.FetchEnd.TheVariants.{Refused, NoMemory}
 use Rattle.taxii_client.specs.Requests.{request_of}
-use Rattle.taxii_client.specs.Environment.{LinkView, CountsLink}
+use Rattle.taxii_client.specs.Environment.{ClientLinkView, CountsLink}
 use Rattle.taxii_client.specs.Fetches.{IsNoEnvelope, Fetched}
 
 pub passed_on : {T E : Type 0} (P : Result T E → Type 0) (answer : Result T E) (its : E) → IsErrAnd answer (λ e. e ≡ its) → P (Err its) → P answer
@@ -38,7 +38,7 @@ source_side {bytes = bytes} {bytes_now = bytes_now} {began = began} {began_now =
 
 -- ---- nothing was done
 
-takes_none : (left : Option (List ℕ)) → Takes [] left left
+takes_none : (left : Option (List ℕ)) → TakesFromLink [] left left
 takes_none None = refl
 takes_none (Some bytes) = refl
 
@@ -49,7 +49,7 @@ writes_none : (text : List ℕ) (written : Option (List ℕ)) → WritesPrefix t
 writes_none text None = (0, omega arith, refl)
 writes_none text (Some bytes) = (0, omega arith, ap Some (sym (append-nil bytes)))
 
-pub nothing_done : (target : Target) (next : Option (List ℕ)) (view : LinkView) → Fetched target next view view (Err NoMemory)
+pub nothing_done : (target : Target) (next : Option (List ℕ)) (view : ClientLinkView) → Fetched target next view view (Err NoMemory)
 nothing_done target next view = record {
   writes = writes_none (request_of target next) view.written;
   reads = record { taken = []; takes = takes_none view.left; answers = needed_none };
@@ -65,11 +65,11 @@ nothing_done target next view = record {
 -- ---- the request was written and the reply read
 
 -- the two counts stay
-pub record IsQuiet (before now : LinkView) : Type 0 where
+pub record IsQuiet (before now : ClientLinkView) : Type 0 where
   pub reads : now.read_faults ≡ before.read_faults
   pub writes : now.write_faults ≡ before.write_faults
 
-counts_quiet : {Failed : Type 0} (before now : LinkView) → IsQuiet before now → (Failed → ⊥) → CountsLink Failed before now
+counts_quiet : {Failed : Type 0} (before now : ClientLinkView) → IsQuiet before now → (Failed → ⊥) → CountsLink Failed before now
 counts_quiet before now quiet fine = record {
   reads_later = omega (arith, quiet.reads);
   writes_later = omega (arith, quiet.writes);
@@ -81,7 +81,7 @@ counts_quiet before now quiet fine = record {
 abbrev AllAreNeeded : Type 0
 AllAreNeeded = (reply body : List ℕ) → IsReply reply body → IsNeeded reply
 
-pub reply_judged : AllAreNeeded → (target : Target) (next : Option (List ℕ)) (before now : LinkView) (body : List ℕ) (middle : Option (List ℕ)) (answer : Result Envelope FetchEnd)
+pub reply_judged : AllAreNeeded → (target : Target) (next : Option (List ℕ)) (before now : ClientLinkView) (body : List ℕ) (middle : Option (List ℕ)) (answer : Result Envelope FetchEnd)
     → middle ≡ before.left → now.written ≡ written_with (request_of target next) before.written → ReadsReply middle now.left (Ok body) → IsQuiet before now
     → IfOk answer (λ envelope. IsEnvelopeOf body envelope) → IfErr answer (λ end. (end ≡ NoMemory) ⊎ ((end ≡ Refused NotEnvelope) × IsNoEnvelope body))
     → Fetched target next before now answer

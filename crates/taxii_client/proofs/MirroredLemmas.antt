@@ -19,7 +19,7 @@ use Rattle.taxii_rows.specs.StoreState.{StoreState}
 use Rattle.taxii_rows.specs.Version.{HasVersion}
 use Rattle.taxii_index.proofs.ListLemmas.{nothing, first, later, cons_cases}
 use Rattle.taxii_store.specs.Addition.{watermark_after}
-use Rattle.taxii_client.specs.Absorbing.{Absorbed, Absorbs, IsKept, IsSkipped, Splits}
+use Rattle.taxii_client.specs.Absorbing.{Absorbed, Absorbs, IsKeptEntry, IsSkippedEntry, SplitsPageEntries}
 use Rattle.taxii_client.specs.Mirrored.{Mirrored}
 use Rattle.taxii_client.specs.Standing.{IsStored, AreStoredOnce, GrowsOnce}
 use Rattle.taxii_client.proofs.StandingLemmas.{stands_behind, added_stand, none_new, added_once, once_behind}
@@ -61,38 +61,38 @@ same_described : (a b : Described) → a.id ≡ b.id → a.version ≡ b.version
 same_described a b id version body =
     let one : record { id = a.id; version = a.version; body = a.body } ≡ record { id = b.id; version = b.version; body = b.body } = cc (id, version, body) in one
 
-one_kept : Laws → (entry : Entry) (one other : Described) → IsKept entry one → IsKept entry other → one ≡ other
+one_kept : Laws → (entry : Entry) (one other : Described) → IsKeptEntry entry one → IsKeptEntry entry other → one ≡ other
 one_kept laws (Good json) one other its also = same_described one other
     (laws.id (data_of json) one.id other.id its.1.id also.1.id) (one_found (data_of json) laws one.version other.version its.1.version also.1.version)
     (its.1.body ∙ sym also.1.body)
 one_kept laws (Bad refusal) one other its also = absurd its
 
-kept_or_skipped : (entry : Entry) (object : Described) → IsKept entry object → IsSkipped entry → ⊥
+kept_or_skipped : (entry : Entry) (object : Described) → IsKeptEntry entry object → IsSkippedEntry entry → ⊥
 kept_or_skipped (Good json) object its skipped = skipped its.0
 kept_or_skipped (Bad refusal) object its skipped = its
 
 -- what is kept of an entry is among the objects of its page
 kept_among : Laws → (entries : List Entry) (objects : List Described) (skipped : List Entry) (entry : Entry) (object : Described)
-    → Splits entries objects skipped → Contains entries entry → IsKept entry object → Contains objects object
+    → SplitsPageEntries entries objects skipped → Contains entries entry → IsKeptEntry entry object → Contains objects object
 kept_among laws [] objects skipped entry object splits here kept = absurd (nothing entry here)
 kept_among laws (one ∷ entries) objects skipped entry object (inl (its, others, is, kept_one, rest)) here kept = elim (cons_cases one entry entries here) [
   | inl same ↦
-      let both : object ≡ its = one_kept laws one object its (subst (λ (e : Entry). IsKept e object) (sym same) kept) kept_one in
+      let both : object ≡ its = one_kept laws one object its (subst (λ (e : Entry). IsKeptEntry e object) (sym same) kept) kept_one in
       subst (λ (os : List Described). Contains os object) (sym is) (subst (λ (o : Described). Contains (o ∷ others) object) both (first object others))
   | inr behind ↦ subst (λ (os : List Described). Contains os object) (sym is) (later its object others (kept_among laws entries others skipped entry object rest behind kept))
 ]
 kept_among laws (one ∷ entries) objects skipped entry object (inr (others, is, fails, rest)) here kept = elim (cons_cases one entry entries here) [
-  | inl same ↦ absurd (kept_or_skipped one object (subst (λ (e : Entry). IsKept e object) (sym same) kept) fails)
+  | inl same ↦ absurd (kept_or_skipped one object (subst (λ (e : Entry). IsKeptEntry e object) (sym same) kept) fails)
   | inr behind ↦ kept_among laws entries objects others entry object rest behind kept
 ]
 
 -- each object of a page is what is kept of an entry
 entry_of : (entries : List Entry) (objects : List Described) (skipped : List Entry) (object : Described)
-    → Splits entries objects skipped → Contains objects object → (entry : Entry) × Contains entries entry × IsKept entry object
+    → SplitsPageEntries entries objects skipped → Contains objects object → (entry : Entry) × Contains entries entry × IsKeptEntry entry object
 entry_of [] objects skipped object (none, nobody) here = absurd (nothing object (subst (λ (os : List Described). Contains os object) none here))
 entry_of (one ∷ entries) objects skipped object (inl (its, others, is, kept, rest)) here =
     elim (cons_cases its object others (subst (λ (os : List Described). Contains os object) is here)) [
-      | inl same ↦ (one, first one entries, subst (IsKept one) same kept)
+      | inl same ↦ (one, first one entries, subst (IsKeptEntry one) same kept)
       | inr behind ↦ let found = entry_of entries others skipped object rest behind in (found.0, later one found.0 entries found.1, found.2)
     ]
 entry_of (one ∷ entries) objects skipped object (inr (others, is, fails, rest)) here =
@@ -104,7 +104,7 @@ rows_after : (collection : ℕ) (page : Absorbed) (before after : StoreState) (a
 rows_after collection page before after absorbs = ap (λ (s : StoreState). s.rows) absorbs.after_is
 
 page_stands : Laws → (collection : ℕ) (page : Absorbed) (before after : StoreState) (entry : Entry) (object : Described)
-    → Absorbs collection page before after → Contains page.entries entry → IsKept entry object → IsStored collection object after.rows
+    → Absorbs collection page before after → Contains page.entries entry → IsKeptEntry entry object → IsStored collection object after.rows
 page_stands laws collection page before after entry object absorbs here kept =
     subst (IsStored collection object) (sym (rows_after collection page before after absorbs))
     (All-contains (λ one. IsStored collection one (before.rows ++ absorbs.new)) absorbs.objects object
@@ -119,7 +119,7 @@ still_stands collection state last (page ∷ pages) object (next, absorbs, rest)
     (subst (IsStored collection object) (sym (rows_after collection page state next absorbs)) (stands_behind collection object state.rows absorbs.new stands))
 
 pub all_present : Laws → (collection : ℕ) (state last : StoreState) (pages : List Absorbed) (page : Absorbed) (entry : Entry) (object : Described)
-    → Mirrored collection state pages last → Contains pages page → Contains page.entries entry → IsKept entry object → IsStored collection object last.rows
+    → Mirrored collection state pages last → Contains pages page → Contains page.entries entry → IsKeptEntry entry object → IsStored collection object last.rows
 all_present laws collection state last [] page entry object mirrored among here kept = absurd (nothing page among)
 all_present laws collection state last (one ∷ pages) page entry object (next, absorbs, rest) among here kept = elim (cons_cases one page pages among) [
   | inl same ↦ still_stands collection next last pages object rest

@@ -8,7 +8,7 @@ use Rattle.http_messages.specs.Replies.{Outcome as ReplyOutcome, IsOutcome as Is
 use Rattle.http_messages.specs.Replies.Outcome.{Whole, Fails as Refuses, Ends as Cuts}
 use Rattle.taxii_client.specs.declared.reply_refusal.ReplyRefusal.{ReplyRefusal}
 use Rattle.taxii_client.specs.ReplyRefusals.{for_head}
-use Rattle.taxii_client.specs.Fetches.{IsPage, IsRefusedAs, Outcome, IsOutcome}
+use Rattle.taxii_client.specs.Fetches.{IsPageReply, IsRefusedPage, FetchOutcome, IsFetchOutcome}
 use Rattle.taxii_client.specs.Fetches.Outcome.{Comes, Fails, Ends}
 
 -- a body isn't a page and none
@@ -40,7 +40,7 @@ no_page body envelope Json.NoMemory is other none = other refl
 abbrev OneReply : Type 0
 OneReply = (bytes : List ℕ) (first second : ReplyOutcome) → IsReplyOutcome bytes first → IsReplyOutcome bytes second → first ≡ second
 
-one_refusal : OneReply → (bytes a r b s : List ℕ) (p q : ReplyRefusal) → bytes ≡ a ++ r → bytes ≡ b ++ s → IsRefusedAs a p → IsRefusedAs b q → p ≡ q
+one_refusal : OneReply → (bytes a r b s : List ℕ) (p q : ReplyRefusal) → bytes ≡ a ++ r → bytes ≡ b ++ s → IsRefusedPage a p → IsRefusedPage b q → p ≡ q
 one_refusal one bytes a r b s p q is other (inl head) (inl again) =
     let same = one bytes (Refuses head.0) (Refuses again.0) (a, r, is, head.2) (b, s, other, again.2) in
     let heads : head.0 ≡ again.0 = cc same in
@@ -53,7 +53,7 @@ one_refusal one bytes a r b s p q is other (inr body) (inl head) =
     absurd (cc same)
 one_refusal one bytes a r b s p q is other (inr body) (inr again) = body.0 ∙ sym again.0
 
-not_page_refused : OneReply → (bytes a r b s : List ℕ) (envelope : Envelope) (q : ReplyRefusal) → bytes ≡ a ++ r → bytes ≡ b ++ s → IsPage a envelope → IsRefusedAs b q → ⊥
+not_page_refused : OneReply → (bytes a r b s : List ℕ) (envelope : Envelope) (q : ReplyRefusal) → bytes ≡ a ++ r → bytes ≡ b ++ s → IsPageReply a envelope → IsRefusedPage b q → ⊥
 not_page_refused one bytes a r b s envelope q is other page (inl head) =
     let same = one bytes (Whole page.body) (Refuses head.0) (a, r, is, page.is_reply) (b, s, other, head.2) in
     cc same
@@ -62,14 +62,14 @@ not_page_refused one bytes a r b s envelope q is other page (inr body) =
     let bodies : page.body ≡ body.1 = cc same in
     no_page body.1 envelope body.3.0 (subst (λ (b : List ℕ). IsEnvelopeOf b envelope) bodies page.is_envelope) body.3.1 body.3.2
 
-not_refused_cut : OneReply → (bytes a r : List ℕ) (p : ReplyRefusal) → bytes ≡ a ++ r → IsRefusedAs a p → IsReplyOutcome bytes Cuts → ⊥
+not_refused_cut : OneReply → (bytes a r : List ℕ) (p : ReplyRefusal) → bytes ≡ a ++ r → IsRefusedPage a p → IsReplyOutcome bytes Cuts → ⊥
 not_refused_cut one bytes a r p is (inl head) cut = let same = one bytes (Refuses head.0) Cuts (a, r, is, head.2) cut in cc same
 not_refused_cut one bytes a r p is (inr body) cut = let same = one bytes (Whole body.1) Cuts (a, r, is, body.2) cut in cc same
 
-not_page_cut : OneReply → (bytes a r : List ℕ) (envelope : Envelope) → bytes ≡ a ++ r → IsPage a envelope → IsReplyOutcome bytes Cuts → ⊥
+not_page_cut : OneReply → (bytes a r : List ℕ) (envelope : Envelope) → bytes ≡ a ++ r → IsPageReply a envelope → IsReplyOutcome bytes Cuts → ⊥
 not_page_cut one bytes a r envelope is page cut = let same = one bytes (Whole page.body) Cuts (a, r, is, page.is_reply) cut in cc same
 
-pub one_outcome : OneReply → (bytes : List ℕ) (first second : Outcome) → IsOutcome bytes first → IsOutcome bytes second → first ≡ second
+pub one_outcome : OneReply → (bytes : List ℕ) (first second : FetchOutcome) → IsFetchOutcome bytes first → IsFetchOutcome bytes second → first ≡ second
 one_outcome one bytes Comes Comes a b = refl
 one_outcome one bytes Comes (Fails q) a b = absurd (not_page_refused one bytes a.0 a.1 b.0 b.1 a.2 q a.3 b.2 a.4 b.3)
 one_outcome one bytes Comes Ends a b = absurd (not_page_cut one bytes a.0 a.1 a.2 a.3 a.4 b)

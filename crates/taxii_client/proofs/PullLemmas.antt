@@ -1,7 +1,7 @@
 -- Pages in turn, and the links that they came over.
 use Rattle.std.proofs.Common.{◌≡◌, inl, ℕ, zero, suc, ◌+◌, ◌<◌, Bool, true, false, List, [], ◌∷◌, ◌++◌, Option, Some, None, Result, Ok, Err, IsErrAnd, refl, sym, ap, subst, ◌∙◌, arith}
 use Rattle.std.specs.Prelude.{All}
-use Rattle.flow_links.specs.Dials.{DialState, Connects, Finishes}
+use Rattle.flow_links.specs.Dials.{DialState, Connects, FinishesDialedLink}
 use Rattle.stix_json.specs.declared.envelope.Envelope.{Envelope}
 use Rattle.taxii_client.specs.declared.target.Target.{Target}
 use Rattle.taxii_client.specs.declared.cursor.Cursor.{Cursor}
@@ -9,29 +9,29 @@ use Rattle.taxii_client.specs.declared.fetch_end.FetchEnd.{FetchEnd}
 use Rattle.taxii_client.specs.declared.fetch_end.FetchEnd.TheVariants as Fetch
 use Rattle.taxii_client.specs.ReplyRefusals.{for_fetch}
 use Rattle.taxii_client.specs.Fetches.{Fetched}
-use Rattle.taxii_client.specs.Environment.{LinkView, DialView}
-use Rattle.taxii_client.specs.Pulls.{Asks, cursor_of, cursor_after, Lent, PassThrough, Page, IsPageAt, InTurn, IsPull, PullState, Dials, AsksFor, GivesPage, Answers}
+use Rattle.taxii_client.specs.Environment.{ClientLinkView, DialView}
+use Rattle.taxii_client.specs.Pulls.{RequestsNext, cursor_of, cursor_after, Lent, PassThroughDial, Page, IsPageAt, ArePagesInTurn, IsPull, PullState, Dials, AsksFor, GivesPage, Answers}
 use Rattle.taxii_client.specs.declared.page_end.PageEnd.{PageEnd}
 use Rattle.taxii_client.specs.declared.pull.TheConstants.{MAX_PAGES}
 use Rattle.stix_json.specs.declared.entry.Entry.{Entry}
 use Rattle.taxii_client.proofs.FetchLemmas.{passed_on}
 
-one_more_page : {L : Type 0} (view : L → LinkView) (target : Target) (start cursor : Cursor) (pages : List (Page L)) (page : Page L)
-    → InTurn view target start pages cursor → IsPageAt view target cursor page → InTurn view target start (pages ++ page ∷ []) (cursor_after page.envelope)
+one_more_page : {L : Type 0} (view : L → ClientLinkView) (target : Target) (start cursor : Cursor) (pages : List (Page L)) (page : Page L)
+    → ArePagesInTurn view target start pages cursor → IsPageAt view target cursor page → ArePagesInTurn view target start (pages ++ page ∷ []) (cursor_after page.envelope)
 one_more_page view target start cursor [] page same is = (subst (λ (t : Cursor). IsPageAt view target t page) same is, refl)
 one_more_page view target start cursor (first ∷ pages) page turns is = (turns.0, one_more_page view target (cursor_after first.envelope) cursor pages page turns.1 is)
 
-pub pull_continues : {L : Type 0} (view : L → LinkView) (target : Target) (pages : List (Page L)) (cursor : Cursor) (page : Page L)
+pub pull_continues : {L : Type 0} (view : L → ClientLinkView) (target : Target) (pages : List (Page L)) (cursor : Cursor) (page : Page L)
     → IsPull view target pages cursor → IsPageAt view target cursor page → IsPull view target (pages ++ page ∷ []) (cursor_after page.envelope)
 pull_continues view target pages cursor page = one_more_page view target _ cursor pages page
 
 -- where something is asked for after a page, it said that there is more
-has_more : (more : Bool) (next asked : Option (List ℕ)) → Asks (cursor_of more next) asked → more ≡ true
+has_more : (more : Bool) (next asked : Option (List ℕ)) → RequestsNext (cursor_of more next) asked → more ≡ true
 has_more true next asked asks = refl
 has_more false next asked asks = absurd asks
 
-more_before : {L : Type 0} (view : L → LinkView) (target : Target) (start cursor : Cursor) (pages : List (Page L)) (last : Page L)
-    → InTurn view target start (pages ++ last ∷ []) cursor → All (λ page. page.envelope.more ≡ true) pages
+more_before : {L : Type 0} (view : L → ClientLinkView) (target : Target) (start cursor : Cursor) (pages : List (Page L)) (last : Page L)
+    → ArePagesInTurn view target start (pages ++ last ∷ []) cursor → All (λ page. page.envelope.more ≡ true) pages
 more_before view target start cursor [] last turns k d below = absurd (omega (arith, below))
 more_before view target start cursor (page ∷ []) last turns zero d below = has_more page.envelope.more page.envelope.next turns.1.0.next turns.1.0.asks
 more_before view target start cursor (page ∷ []) last turns (suc k) d below = absurd (omega (arith, below))
@@ -39,7 +39,7 @@ more_before view target start cursor (page ∷ second ∷ pages) last turns zero
 more_before view target start cursor (page ∷ second ∷ pages) last turns (suc k) d below =
     more_before view target (cursor_after page.envelope) cursor (second ∷ pages) last turns.1 k d (omega (arith, below))
 
-pub all_have_more : {L : Type 0} (view : L → LinkView) (target : Target) (pages : List (Page L)) (last : Page L) (cursor : Cursor)
+pub all_have_more : {L : Type 0} (view : L → ClientLinkView) (target : Target) (pages : List (Page L)) (last : Page L) (cursor : Cursor)
     → IsPull view target (pages ++ last ∷ []) cursor → All (λ page. page.envelope.more ≡ true) pages
 all_have_more view target pages last cursor = more_before view target _ cursor pages last
 
@@ -50,7 +50,7 @@ none_some a b is = cc
 
 -- a link that was dialled for and handed back
 told_one : {L : Type 0} (target : Target) (link : Lent L) (state given now : DialState L)
-    → Connects link.given target.host target.port (Some state) (Some given) → Finishes link.finished (Some given) (Some now) → PassThrough target (link ∷ []) (Some state) (Some now)
+    → Connects link.given target.host target.port (Some state) (Some given) → FinishesDialedLink link.finished (Some given) (Some now) → PassThroughDial target (link ∷ []) (Some state) (Some now)
 told_one {L} target link state given now gives back =
     let is_given : given ≡ gives.0 = none_some _ _ gives.1 in
     let a = gives.2 in
@@ -66,19 +66,19 @@ told_one {L} target link state given now gives back =
     )
 
 pub passes_one : {L : Type 0} (target : Target) (link : Lent L) (before given now : Option (DialState L))
-    → Connects link.given target.host target.port before given → Finishes link.finished given now → PassThrough target (link ∷ []) before now
-passes_one target link None given now gives back = subst (λ g. Finishes link.finished g now) gives back
+    → Connects link.given target.host target.port before given → FinishesDialedLink link.finished given now → PassThroughDial target (link ∷ []) before now
+passes_one target link None given now gives back = subst (λ g. FinishesDialedLink link.finished g now) gives back
 passes_one target link (Some state) given now gives back =
-    let back_some = subst (λ g. Finishes link.finished g now) gives.1 back in
-    subst (λ n. PassThrough target (link ∷ []) (Some state) n) (sym back_some.1)
+    let back_some = subst (λ g. FinishesDialedLink link.finished g now) gives.1 back in
+    subst (λ n. PassThroughDial target (link ∷ []) (Some state) n) (sym back_some.1)
     (told_one target link state gives.0 back_some.0
     (subst (λ g. Connects link.given target.host target.port (Some state) g) gives.1 gives)
-    (subst (λ n. Finishes link.finished (Some gives.0) n) back_some.1 back_some))
+    (subst (λ n. FinishesDialedLink link.finished (Some gives.0) n) back_some.1 back_some))
 
-pub fetched_over : {L : Type 0} (view : L → LinkView) (target : Target) (next : Option (List ℕ)) (link : Lent L) (host : List ℕ) (answer : Result Envelope FetchEnd)
+pub fetched_over : {L : Type 0} (view : L → ClientLinkView) (target : Target) (next : Option (List ℕ)) (link : Lent L) (host : List ℕ) (answer : Result Envelope FetchEnd)
     (before middle now : Option (DialState L)) (faults faults_middle faults_now : ℕ)
     → Connects link.given host target.port before middle → host ≡ target.host → faults_middle ≡ faults → Fetched target next (view link.given) (view link.finished) answer
-    → Finishes link.finished middle now → faults_now ≡ faults_middle
+    → FinishesDialedLink link.finished middle now → faults_now ≡ faults_middle
     → Dials view target next (record { observable = before; faults = faults }) (record { observable = now; faults = faults_now }) answer
 fetched_over view target next link host answer before middle now faults faults_middle faults_now gives same quiet fetched back quiet_now = inl (record {
   link = link;
@@ -88,7 +88,7 @@ fetched_over view target next link host answer before middle now faults faults_m
 })
 
 -- why a page didn't come
-lost : {L : Type 0} (view : L → LinkView) (before : PullState) (dial now : DialView L) (end : FetchEnd)
+lost : {L : Type 0} (view : L → ClientLinkView) (before : PullState) (dial now : DialView L) (end : FetchEnd)
     → AsksFor view before dial now (Err end) → Answers view before before dial now (Err (for_fetch end))
 lost view before dial now Fetch.Fault asks = (asks, refl)
 lost view before dial now Fetch.Cut asks = (asks, refl)
@@ -98,15 +98,15 @@ lost view before dial now Fetch.NoMemory asks = (asks, refl)
 abbrev state : Target → Cursor → ℕ → PullState
 state target cursor pages = record { target = target; cursor = cursor; pages = pages }
 
-pub lost_page : {L : Type 0} (view : L → LinkView) (before : PullState) (target : Target) (cursor : Cursor) (pages : ℕ) (next : Option (List ℕ)) (dial now : DialView L) (end : FetchEnd) (answer : Result (Option (List Entry)) PageEnd)
-    → state target cursor pages ≡ before → IsErrAnd answer (λ e. e ≡ for_fetch end) → pages < MAX_PAGES → Asks cursor next → Dials view target next dial now (Err end) → Answers view before before dial now answer
+pub lost_page : {L : Type 0} (view : L → ClientLinkView) (before : PullState) (target : Target) (cursor : Cursor) (pages : ℕ) (next : Option (List ℕ)) (dial now : DialView L) (end : FetchEnd) (answer : Result (Option (List Entry)) PageEnd)
+    → state target cursor pages ≡ before → IsErrAnd answer (λ e. e ≡ for_fetch end) → pages < MAX_PAGES → RequestsNext cursor next → Dials view target next dial now (Err end) → Answers view before before dial now answer
 lost_page view before target cursor pages next dial now end answer is failed few asks dials =
     passed_on (Answers view before before dial now) answer (for_fetch end) failed
     (subst (λ (s : PullState). Answers view s s dial now (Err (for_fetch end))) is
     (lost view (state target cursor pages) dial now end (record { few = few; next = next; asks = asks; dials = dials })))
 
-pub page_came : {L : Type 0} (view : L → LinkView) (before : PullState) (target : Target) (cursor after : Cursor) (pages : ℕ) (next : Option (List ℕ)) (dial now : DialView L) (envelope : Envelope)
-    → state target cursor pages ≡ before → pages < MAX_PAGES → Asks cursor next → Dials view target next dial now (Ok envelope) → after ≡ cursor_after envelope
+pub page_came : {L : Type 0} (view : L → ClientLinkView) (before : PullState) (target : Target) (cursor after : Cursor) (pages : ℕ) (next : Option (List ℕ)) (dial now : DialView L) (envelope : Envelope)
+    → state target cursor pages ≡ before → pages < MAX_PAGES → RequestsNext cursor next → Dials view target next dial now (Ok envelope) → after ≡ cursor_after envelope
     → GivesPage view before (state target after (pages + 1)) dial now envelope.entries
 page_came view before target cursor after pages next dial now envelope is few asks dials turns =
     subst (λ (s : PullState). GivesPage view s (state target after (pages + 1)) dial now envelope.entries) is (record {

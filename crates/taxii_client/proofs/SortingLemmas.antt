@@ -5,12 +5,12 @@ use Rattle.std.proofs.lemmas.List.Elements.{All-append, All-cons, All-nil}
 use Rattle.stix_json.specs.declared.entry.Entry.{Entry}
 use Rattle.taxii_rows.specs.declared.described.Described.{Described}
 use Rattle.taxii_store.specs.Planned.{IsSound}
-use Rattle.taxii_client.specs.Absorbing.{IsKept, IsSkipped, Splits}
+use Rattle.taxii_client.specs.Absorbing.{IsKeptEntry, IsSkippedEntry, SplitsPageEntries}
 use Rattle.taxii_client.specs.declared.partitioned.Partitioned.{Partitioned}
 use Rattle.taxii_client.specs.inner.Sorting.{Partitions, PartitionsOne}
 
 splits_object : (entries : List Entry) (objects : List Described) (skipped : List Entry) (entry : Entry) (object : Described)
-    → Splits entries objects skipped → IsKept entry object → Splits (entries ++ entry ∷ []) (objects ++ object ∷ []) skipped
+    → SplitsPageEntries entries objects skipped → IsKeptEntry entry object → SplitsPageEntries (entries ++ entry ∷ []) (objects ++ object ∷ []) skipped
 splits_object [] objects skipped entry object (none, nothing) kept = inl (object, [], ap (λ os. os ++ object ∷ []) none, kept, (refl, nothing))
 splits_object (first ∷ entries) objects skipped entry object (inl (one, others, is, its, rest)) kept =
     inl (one, others ++ object ∷ [], ap (λ os. os ++ object ∷ []) is, its, splits_object entries others skipped entry object rest kept)
@@ -18,7 +18,7 @@ splits_object (first ∷ entries) objects skipped entry object (inr (others, is,
     inr (others, is, its, splits_object entries objects others entry object rest kept)
 
 splits_skipped : (entries : List Entry) (objects : List Described) (skipped : List Entry) (entry : Entry)
-    → Splits entries objects skipped → IsSkipped entry → Splits (entries ++ entry ∷ []) objects (skipped ++ entry ∷ [])
+    → SplitsPageEntries entries objects skipped → IsSkippedEntry entry → SplitsPageEntries (entries ++ entry ∷ []) objects (skipped ++ entry ∷ [])
 splits_skipped [] objects skipped entry (none, nothing) fails = inr ([], ap (λ es. es ++ entry ∷ []) nothing, fails, (none, refl))
 splits_skipped (first ∷ entries) objects skipped entry (inl (one, others, is, its, rest)) fails =
     inl (one, others, is, its, splits_skipped entries others skipped entry rest fails)
@@ -28,13 +28,13 @@ splits_skipped (first ∷ entries) objects skipped entry (inr (others, is, its, 
 pub partitions_one : (entries : List Entry) (entry : Entry) (old new : Partitioned) → Partitions entries old → PartitionsOne entry old new → Partitions (entries ++ entry ∷ []) new
 partitions_one entries entry old new partitions (inl keeps) = record {
   skipped = partitions.skipped;
-  splits = subst (λ (os : List Described). Splits (entries ++ entry ∷ []) os partitions.skipped) (sym keeps.objects)
+  splits = subst (λ (os : List Described). SplitsPageEntries (entries ++ entry ∷ []) os partitions.skipped) (sym keeps.objects)
       (splits_object entries old.objects.items partitions.skipped entry keeps.object partitions.splits keeps.kept);
   count = keeps.count ∙ partitions.count;
 }
 partitions_one entries entry old new partitions (inr skips) = record {
   skipped = partitions.skipped ++ entry ∷ [];
-  splits = subst (λ (os : List Described). Splits (entries ++ entry ∷ []) os (partitions.skipped ++ entry ∷ [])) (sym skips.objects)
+  splits = subst (λ (os : List Described). SplitsPageEntries (entries ++ entry ∷ []) os (partitions.skipped ++ entry ∷ [])) (sym skips.objects)
       (splits_skipped entries old.objects.items partitions.skipped entry partitions.splits skips.fails);
   count = skips.count ∙ ap (λ n. n + 1) partitions.count ∙ sym (length-append partitions.skipped (entry ∷ []));
 }
@@ -45,7 +45,7 @@ sound_one entry old new all (inl keeps) =
     (All-append IsSound old.objects.items (keeps.object ∷ []) all (All-cons IsSound keeps.object [] keeps.sound (All-nil IsSound)))
 sound_one entry old new all (inr skips) = subst (All IsSound) (sym skips.objects) all
 
-splits_count : (entries : List Entry) (objects : List Described) (skipped : List Entry) → Splits entries objects skipped
+splits_count : (entries : List Entry) (objects : List Described) (skipped : List Entry) → SplitsPageEntries entries objects skipped
     → length objects + length skipped ≡ length entries
 splits_count [] objects skipped (none, nothing) =
     let few = ap length none in let fewer = ap length nothing in omega (arith, few, fewer)

@@ -10,7 +10,7 @@ use Rattle.std.proofs.lemmas.List.{append-nil}
 use Rattle.std.proofs.lemmas.List.Elements.{All-cons, All-nil, All-weaker, Contains-append_left, Contains-push, All-contains_itself}
 use Rattle.taxii_rows.specs.declared.stored_row.StoredRow.{StoredRow}
 use Rattle.taxii_rows.specs.declared.described.Described.{Described}
-use Rattle.taxii_rows.specs.Described.{row_of}
+use Rattle.taxii_rows.specs.Described.{stored_row_of}
 use Rattle.taxii_rows.specs.Identity.{is_row_of}
 use Rattle.taxii_index.specs.Presence.{agrees, is_duplicate, duplicate_of}
 use Rattle.taxii_index.proofs.ListLemmas.{first, later}
@@ -18,7 +18,7 @@ use Rattle.taxii_index.proofs.NameLemmas.{of_object}
 use Rattle.taxii_index.proofs.RowLemmas.{find_passes, find_nothing}
 use Rattle.taxii_store.specs.declared.add_outcome.AddOutcome.{AddOutcome}
 use Rattle.taxii_store.specs.declared.add_outcome.AddOutcome.TheVariants.{Added, Present}
-use Rattle.taxii_store.specs.Addition.{Adds}
+use Rattle.taxii_store.specs.Addition.{AddsObjects}
 use Rattle.taxii_client.specs.Standing.{IsStored, AreApart, AreStoredOnce}
 
 -- ---- the row of an object
@@ -40,9 +40,9 @@ unwrapped None date = refl
 unwrapped (Some version) date = refl
 
 -- the row that an object becomes makes it present
-row_same : (object : Described) (date collection : ℕ) → is_duplicate collection object (row_of object date collection) ≡ true
+row_same : (object : Described) (date collection : ℕ) → is_duplicate collection object (stored_row_of object date collection) ≡ true
 row_same object date collection =
-    let row = row_of object date collection in
+    let row = stored_row_of object date collection in
     and_from (is_row_of collection object.id row) (agrees object.version object.body row) (of_object collection object.id row refl refl)
     (agrees_itself object.version object.body row refl (unwrapped object.version date) refl)
 
@@ -55,10 +55,10 @@ stands_found : (collection : ℕ) (object : Described) (rows : List StoredRow) (
 stands_found collection object rows row found =
     let passes = find_passes (is_duplicate collection object) rows row found in record { row = row; among = passes.0; same = passes.1 }
 
-stands_added : (collection date : ℕ) (object : Described) (rows : List StoredRow) → IsStored collection object (rows ++ row_of object date collection ∷ [])
+stands_added : (collection date : ℕ) (object : Described) (rows : List StoredRow) → IsStored collection object (rows ++ stored_row_of object date collection ∷ [])
 stands_added collection date object rows = record {
-  row = row_of object date collection;
-  among = Contains-push rows (row_of object date collection);
+  row = stored_row_of object date collection;
+  among = Contains-push rows (stored_row_of object date collection);
   same = row_same object date collection;
 }
 
@@ -66,27 +66,27 @@ stands_added collection date object rows = record {
 abbrev Next : ℕ → ℕ → List StoredRow → Described → List Described → List AddOutcome → List StoredRow → Option StoredRow → Type 0
 Next collection date rows object objects outcomes new found = MatchOption found
     ((others : List AddOutcome) × (more : List StoredRow)
-    × (outcomes ≡ Added date ∷ others) × (new ≡ row_of object date collection ∷ more)
-    × Adds collection (date + 1) (rows ++ row_of object date collection ∷ []) objects others more)
-    (λ row. (others : List AddOutcome) × (outcomes ≡ Present row.date ∷ others) × Adds collection date rows objects others new)
+    × (outcomes ≡ Added date ∷ others) × (new ≡ stored_row_of object date collection ∷ more)
+    × AddsObjects collection (date + 1) (rows ++ stored_row_of object date collection ∷ []) objects others more)
+    (λ row. (others : List AddOutcome) × (outcomes ≡ Present row.date ∷ others) × AddsObjects collection date rows objects others new)
 
 abbrev AllStand : ℕ → List Described → List StoredRow → Type 0
 AllStand collection objects rows = All (λ object. IsStored collection object rows) objects
 
 -- each object of an addition stands after it
 pub added_stand : (collection date : ℕ) (rows : List StoredRow) (objects : List Described) (outcomes : List AddOutcome) (new : List StoredRow)
-    → Adds collection date rows objects outcomes new → AllStand collection objects (rows ++ new)
+    → AddsObjects collection date rows objects outcomes new → AllStand collection objects (rows ++ new)
 added_stand collection date rows [] outcomes new adds = All-nil (λ object. IsStored collection object (rows ++ new))
 added_stand collection date rows (object ∷ objects) outcomes new adds =
     go (duplicate_of collection object rows) refl adds (λ others. added_stand collection date rows objects others new)
     (λ others more. added_stand collection (date + 1) (rows ++ row ∷ []) objects others more)
   where
     row : StoredRow
-    row = row_of object date collection
+    row = stored_row_of object date collection
 
     go : (found : Option StoredRow) → duplicate_of collection object rows ≡ found → Next collection date rows object objects outcomes new found
-        → ((others : List AddOutcome) → Adds collection date rows objects others new → AllStand collection objects (rows ++ new))
-        → ((others : List AddOutcome) (more : List StoredRow) → Adds collection (date + 1) (rows ++ row ∷ []) objects others more
+        → ((others : List AddOutcome) → AddsObjects collection date rows objects others new → AllStand collection objects (rows ++ new))
+        → ((others : List AddOutcome) (more : List StoredRow) → AddsObjects collection (date + 1) (rows ++ row ∷ []) objects others more
         → AllStand collection objects ((rows ++ row ∷ []) ++ more))
         → AllStand collection (object ∷ objects) (rows ++ new)
     go (Some held) found (others, out, rest) again behind =
@@ -104,21 +104,21 @@ not_none collection object rows stands none =
 
 -- where each object stands already no row is new
 pub none_new : (collection date : ℕ) (rows : List StoredRow) (objects : List Described) (outcomes : List AddOutcome) (new : List StoredRow)
-    → ((object : Described) → Contains objects object → IsStored collection object rows) → Adds collection date rows objects outcomes new → new ≡ []
+    → ((object : Described) → Contains objects object → IsStored collection object rows) → AddsObjects collection date rows objects outcomes new → new ≡ []
 none_new collection date rows [] outcomes new stand adds = adds.1
 none_new collection date rows (object ∷ objects) outcomes new stand adds =
     go (duplicate_of collection object rows) refl adds
     (λ others. none_new collection date rows objects others new (λ one here. stand one (later object one objects here)))
   where
     go : (found : Option StoredRow) → duplicate_of collection object rows ≡ found → Next collection date rows object objects outcomes new found
-        → ((others : List AddOutcome) → Adds collection date rows objects others new → new ≡ []) → new ≡ []
+        → ((others : List AddOutcome) → AddsObjects collection date rows objects others new → new ≡ []) → new ≡ []
     go (Some held) found (others, out, rest) again = again others rest
     go None found (others, more, out, is, rest) again = absurd (not_none collection object rows (stand object (first object objects)) found)
 
 -- ---- rows that stand once
 
 version_apart : (object : Described) (date collection : ℕ) (observable : Option ℤ) (row : StoredRow) → agrees observable object.body row ≡ false → observable ≡ object.version
-    → row.dated ≡ true → is_some object.version ≡ true → (row_of object date collection).version ≢ row.version
+    → row.dated ≡ true → is_some object.version ≡ true → (stored_row_of object date collection).version ≢ row.version
 version_apart object date collection None row differs is dated observable same = absurd (false≢true (ap is_some is ∙ observable))
 version_apart object date collection (Some version) row differs is dated observable same =
     let its : version ≡ row.version = ap (λ (o : Option ℤ). unwrap_or o (pos date)) is ∙ same in
@@ -131,7 +131,7 @@ text_apart object None row differs is none same =
 text_apart object (Some version) row differs is none same = absurd (false≢true (sym none ∙ sym (ap is_some is)))
 
 -- the row that an object becomes is apart from a row that doesn't make it present
-apart_from : (collection date : ℕ) (object : Described) (row : StoredRow) → is_duplicate collection object row ≡ false → AreApart (row_of object date collection) row
+apart_from : (collection date : ℕ) (object : Described) (row : StoredRow) → is_duplicate collection object row ≡ false → AreApart (stored_row_of object date collection) row
 apart_from collection date object row other = record {
   dated = λ one id its dated. version_apart object date collection object.version row (differs (sym one) (sym id)) refl dated its;
   undated = λ one id its undated. text_apart object object.version row (differs (sym one) (sym id)) refl its;
@@ -143,18 +143,18 @@ apart_from collection date object row other = record {
 
 -- the new rows of an addition stand once
 pub added_once : (collection date : ℕ) (rows : List StoredRow) (objects : List Described) (outcomes : List AddOutcome) (new : List StoredRow)
-    → Adds collection date rows objects outcomes new → AreStoredOnce rows new
+    → AddsObjects collection date rows objects outcomes new → AreStoredOnce rows new
 added_once collection date rows [] outcomes new adds = subst (AreStoredOnce rows) (sym adds.1) tt
 added_once collection date rows (object ∷ objects) outcomes new adds =
     go (duplicate_of collection object rows) refl adds (λ others. added_once collection date rows objects others new)
     (λ others more. added_once collection (date + 1) (rows ++ row ∷ []) objects others more)
   where
     row : StoredRow
-    row = row_of object date collection
+    row = stored_row_of object date collection
 
     go : (found : Option StoredRow) → duplicate_of collection object rows ≡ found → Next collection date rows object objects outcomes new found
-        → ((others : List AddOutcome) → Adds collection date rows objects others new → AreStoredOnce rows new)
-        → ((others : List AddOutcome) (more : List StoredRow) → Adds collection (date + 1) (rows ++ row ∷ []) objects others more → AreStoredOnce (rows ++ row ∷ []) more)
+        → ((others : List AddOutcome) → AddsObjects collection date rows objects others new → AreStoredOnce rows new)
+        → ((others : List AddOutcome) (more : List StoredRow) → AddsObjects collection (date + 1) (rows ++ row ∷ []) objects others more → AreStoredOnce (rows ++ row ∷ []) more)
         → AreStoredOnce rows new
     go (Some held) found (others, out, rest) again behind = again others rest
     go None found (others, more, out, is, rest) again behind =

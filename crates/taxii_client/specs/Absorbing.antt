@@ -5,7 +5,7 @@ use Rattle.stix_json.specs.declared.entry.Entry.{Entry}
 use Rattle.stix_json.specs.declared.entry.Entry.TheVariants.{Good, Bad}
 use Rattle.stix_json.specs.DataOf.{data_of}
 use Rattle.stix_json.specs.Ordered.{IsOrdered}
-use Rattle.stix_json.specs.Refusal.{refusal_of}
+use Rattle.stix_json.specs.Refusal.{data_refusal}
 use Rattle.stix_objects.specs.Breaks.{AreBreaksOf}
 use Rattle.taxii_rows.specs.declared.stored_row.StoredRow.{StoredRow}
 use Rattle.taxii_rows.specs.declared.described.Described.{Described}
@@ -24,25 +24,25 @@ pub record MirrorState : Type 0 where
 
 -- where the entry is a value, JSON's limits take it, and its names are in order
 abbrev pub IsReadable : Entry → Type 0
-IsReadable (Good value) = (refusal_of (data_of value) ≡ None) × IsOrdered (data_of value)
+IsReadable (Good value) = (data_refusal (data_of value) ≡ None) × IsOrdered (data_of value)
 IsReadable (Bad refusal) = ⊤
 
 -- the entry is an valid object, and this is kept of it
-abbrev pub IsKept : Entry → Described → Type 0
-IsKept (Good value) object = AreBreaksOf (data_of value) [] × IsDescribed (data_of value) object
-IsKept (Bad refusal) object = ⊥
+abbrev pub IsKeptEntry : Entry → Described → Type 0
+IsKeptEntry (Good value) object = AreBreaksOf (data_of value) [] × IsDescribed (data_of value) object
+IsKeptEntry (Bad refusal) object = ⊥
 
 -- the entry is no JSON value, or has a break
-abbrev pub IsSkipped : Entry → Type 0
-IsSkipped (Good value) = ¬ AreBreaksOf (data_of value) []
-IsSkipped (Bad refusal) = ⊤
+abbrev pub IsSkippedEntry : Entry → Type 0
+IsSkippedEntry (Good value) = ¬ AreBreaksOf (data_of value) []
+IsSkippedEntry (Bad refusal) = ⊤
 
 -- entries in order: an object is kept of each, or it is skipped
-abbrev pub Splits : List Entry → List Described → List Entry → Type 0
-Splits [] objects skipped = (objects ≡ []) × (skipped ≡ [])
-Splits (entry ∷ entries) objects skipped =
-    ((object : Described) × (others : List Described) × (objects ≡ object ∷ others) × IsKept entry object × Splits entries others skipped)
-    ⊎ ((others : List Entry) × (skipped ≡ entry ∷ others) × IsSkipped entry × Splits entries objects others)
+abbrev pub SplitsPageEntries : List Entry → List Described → List Entry → Type 0
+SplitsPageEntries [] objects skipped = (objects ≡ []) × (skipped ≡ [])
+SplitsPageEntries (entry ∷ entries) objects skipped =
+    ((object : Described) × (others : List Described) × (objects ≡ object ∷ others) × IsKeptEntry entry object × SplitsPageEntries entries others skipped)
+    ⊎ ((others : List Entry) × (skipped ≡ entry ∷ others) × IsSkippedEntry entry × SplitsPageEntries entries objects others)
 
 -- whether the object became a new row
 abbrev pub is_added : AddOutcome → Bool
@@ -67,7 +67,7 @@ pub record Absorbed : Type 0 where
 pub record Absorbs (collection : ℕ) (page : Absorbed) (before after : StoreState) : Type 0 where
   pub objects : List Described
   pub skipped : List Entry
-  pub splits : Splits page.entries objects skipped
+  pub splits : SplitsPageEntries page.entries objects skipped
   pub outcomes : List AddOutcome
   pub new : List StoredRow
   pub addition : IsAddition before collection page.moment objects outcomes new
@@ -75,8 +75,8 @@ pub record Absorbs (collection : ℕ) (page : Absorbed) (before after : StoreSta
   pub tallies : Tallies outcomes skipped page.tally
 
 -- fewer dates are left than the objects of the page make new rows
-pub record LacksDates (collection : ℕ) (entries : List Entry) (store : StoreState) : Type 0 where
+pub record LacksDatesForPage (collection : ℕ) (entries : List Entry) (store : StoreState) : Type 0 where
   pub objects : List Described
   pub skipped : List Entry
-  pub splits : Splits entries objects skipped
+  pub splits : SplitsPageEntries entries objects skipped
   pub lacks : UsesUpDates store collection objects

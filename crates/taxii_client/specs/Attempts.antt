@@ -2,12 +2,12 @@
 -- arrives.
 use Rattle.std.specs.Prelude.{◌≡◌, ◌⊎◌, ℕ, ◌+◌, ◌-◌, ◌^◌, ◌≤◌, min, Bool, true, false, List, [], ◌∷◌, map, filter, filter_map, count_by, is_none, Option, Some, None, MatchOption, Result, Ok, Err}
 use Rattle.flow_edges.specs.Flow.{IsAtEnd}
-use Rattle.http_messages.specs.Replies.{IsCut, Takes}
+use Rattle.http_messages.specs.Replies.{IsCutReply, TakesFromLink}
 use Rattle.stix_json.specs.declared.entry.Entry.{Entry}
 use Rattle.stix_json.specs.declared.envelope.Envelope.{Envelope}
-use Rattle.taxii_client.specs.Environment.{LinkView, LinkFaultsIncreased}
+use Rattle.taxii_client.specs.Environment.{ClientLinkView, LinkFaultsIncreased}
 use Rattle.taxii_client.specs.Fetches.{Fetched}
-use Rattle.taxii_client.specs.Pulls.{Asks, Lent, Page, cursor_after}
+use Rattle.taxii_client.specs.Pulls.{RequestsNext, Lent, Page, cursor_after}
 use Rattle.taxii_client.specs.declared.fetch_end.FetchEnd.{FetchEnd}
 use Rattle.taxii_client.specs.declared.fetch_end.FetchEnd.TheVariants.{Fault, Cut, Refused, NoMemory}
 use Rattle.taxii_client.specs.declared.target.Target.{Target}
@@ -22,9 +22,9 @@ pub record Attempt (L : Type 0) : Type 0 where
 -- ---- attempts in turn
 
 -- the page at the cursor was requested over the link; or the dial gave none
-pub record IsAttemptAt {L : Type 0} (view : L → LinkView) (target : Target) (cursor : Cursor) (attempt : Attempt L) : Type 0 where
+pub record IsAttemptAt {L : Type 0} (view : L → ClientLinkView) (target : Target) (cursor : Cursor) (attempt : Attempt L) : Type 0 where
   pub next : Option (List ℕ)
-  pub asks : Asks cursor next
+  pub asks : RequestsNext cursor next
   pub fetched : MatchOption attempt.link (attempt.answer ≡ Err Fault) (λ link. Fetched target next (view link.given) (view link.finished) attempt.answer)
 
 -- the cursor after an attempt: unchanged if no page arrived
@@ -33,9 +33,9 @@ cursor_after_attempt cursor (Ok envelope) = cursor_after envelope
 cursor_after_attempt cursor (Err end) = cursor
 
 -- attempts in order, from one cursor to another
-abbrev pub InTurn : {L : Type 0} → (L → LinkView) → Target → Cursor → List (Attempt L) → Cursor → Type 0
-InTurn view target cursor [] after = after ≡ cursor
-InTurn view target cursor (attempt ∷ attempts) after = IsAttemptAt view target cursor attempt × InTurn view target (cursor_after_attempt cursor attempt.answer) attempts after
+abbrev pub AreAttemptsInTurn : {L : Type 0} → (L → ClientLinkView) → Target → Cursor → List (Attempt L) → Cursor → Type 0
+AreAttemptsInTurn view target cursor [] after = after ≡ cursor
+AreAttemptsInTurn view target cursor (attempt ∷ attempts) after = IsAttemptAt view target cursor attempt × AreAttemptsInTurn view target (cursor_after_attempt cursor attempt.answer) attempts after
 
 -- ---- what came of them
 
@@ -81,19 +81,19 @@ abbrev pub entries_of : {L : Type 0} → List (Page L) → List (List Entry)
 entries_of pages = map (λ page. page.envelope.entries) pages
 
 -- a page arrived, or the attempt was lost: another one may follow
-abbrev pub Continues : {L : Type 0} → Attempt L → Type 0
-Continues attempt = ((envelope : Envelope) × (attempt.answer ≡ Ok envelope)) ⊎ (is_lost attempt ≡ true)
+abbrev pub AllowsNextAttempt : {L : Type 0} → Attempt L → Type 0
+AllowsNextAttempt attempt = ((envelope : Envelope) × (attempt.answer ≡ Ok envelope)) ⊎ (is_lost attempt ≡ true)
 
 -- ---- why they were lost
 
 -- the link's bytes ended inside a reply
-pub record EndsInside (before now : LinkView) : Type 0 where
+pub record EndsInside (before now : ClientLinkView) : Type 0 where
   pub taken : List ℕ
-  pub takes : Takes taken before.left now.left
-  pub cut : IsCut taken
+  pub takes : TakesFromLink taken before.left now.left
+  pub cut : IsCutReply taken
   pub ended : IsAtEnd now.left
 
-abbrev pub LinkFailed : {L : Type 0} → (L → LinkView) → Lent L → Type 0
+abbrev pub LinkFailed : {L : Type 0} → (L → ClientLinkView) → Lent L → Type 0
 LinkFailed view link = LinkFaultsIncreased (view link.given) (view link.finished) ⊎ EndsInside (view link.given) (view link.finished)
 
 -- the dial counted each attempt that got no link, and nothing else; a saturated count counts as

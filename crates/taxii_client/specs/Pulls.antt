@@ -14,17 +14,17 @@ use Rattle.taxii_client.specs.declared.page_end.PageEnd.TheVariants.{Fault, Cut,
 use Rattle.taxii_client.specs.declared.cursor.Cursor.{Cursor}
 use Rattle.taxii_client.specs.declared.cursor.Cursor.TheVariants.{First, Resume, Over}
 use Rattle.taxii_client.specs.declared.pull.TheConstants.{MAX_PAGES}
-use Rattle.taxii_client.specs.Environment.{LinkView, DialView}
+use Rattle.taxii_client.specs.Environment.{ClientLinkView, DialView}
 use Rattle.taxii_client.specs.Fetches.{Fetched}
 
 -- ---- turns
 
 -- the `next` requested at a cursor: none for the first page, that of the page before for the
 -- others; at the end there is no request
-abbrev pub Asks : Cursor → Option (List ℕ) → Type 0
-Asks First next = next ≡ None
-Asks (Resume text) next = next ≡ Some text
-Asks Over next = ⊥
+abbrev pub RequestsNext : Cursor → Option (List ℕ) → Type 0
+RequestsNext First next = next ≡ None
+RequestsNext (Resume text) next = next ≡ Some text
+RequestsNext Over next = ⊥
 
 -- the cursor after a page, from `more` and `next`
 abbrev pub cursor_of : Bool → Option (List ℕ) → Cursor
@@ -44,8 +44,8 @@ pub record Lent (L : Type 0) : Type 0 where
 
 -- these links were dialled at the target's host and port, given and returned, in order, as far as
 -- the dial is observable
-abbrev pub PassThrough : {L : Type 0} → Target → List (Lent L) → Option (DialState L) → Option (DialState L) → Type 0
-PassThrough target links before now = Changes (λ state after.
+abbrev pub PassThroughDial : {L : Type 0} → Target → List (Lent L) → Option (DialState L) → Option (DialState L) → Type 0
+PassThroughDial target links before now = Changes (λ state after.
     (state.coming ≡ map (λ link. link.given) links ++ after.coming)
     × (after.finished ≡ state.finished ++ map (λ link. link.finished) links)
     × (after.dials ≡ state.dials ++ map (λ link. record { host = target.host; port = target.port }) links)
@@ -59,19 +59,19 @@ pub record Page (L : Type 0) : Type 0 where
   pub envelope : Envelope
 
 -- the page at the cursor was requested, and arrived completely over its link
-pub record IsPageAt {L : Type 0} (view : L → LinkView) (target : Target) (cursor : Cursor) (page : Page L) : Type 0 where
+pub record IsPageAt {L : Type 0} (view : L → ClientLinkView) (target : Target) (cursor : Cursor) (page : Page L) : Type 0 where
   pub next : Option (List ℕ)
-  pub asks : Asks cursor next
+  pub asks : RequestsNext cursor next
   pub fetched : Fetched target next (view page.link.given) (view page.link.finished) (Ok page.envelope)
 
 -- pages in order, from one cursor to another
-abbrev pub InTurn : {L : Type 0} → (L → LinkView) → Target → Cursor → List (Page L) → Cursor → Type 0
-InTurn view target cursor [] after = after ≡ cursor
-InTurn view target cursor (page ∷ pages) after = IsPageAt view target cursor page × InTurn view target (cursor_after page.envelope) pages after
+abbrev pub ArePagesInTurn : {L : Type 0} → (L → ClientLinkView) → Target → Cursor → List (Page L) → Cursor → Type 0
+ArePagesInTurn view target cursor [] after = after ≡ cursor
+ArePagesInTurn view target cursor (page ∷ pages) after = IsPageAt view target cursor page × ArePagesInTurn view target (cursor_after page.envelope) pages after
 
 -- a pull: pages in order from the first one on. It is complete if its cursor is at the end
-abbrev pub IsPull : {L : Type 0} → (L → LinkView) → Target → List (Page L) → Cursor → Type 0
-IsPull view target pages cursor = InTurn view target First pages cursor
+abbrev pub IsPull : {L : Type 0} → (L → ClientLinkView) → Target → List (Page L) → Cursor → Type 0
+IsPull view target pages cursor = ArePagesInTurn view target First pages cursor
 
 -- ---- what one call does
 
@@ -82,10 +82,10 @@ pub record PullState : Type 0 where
   pub pages : ℕ
 
 -- a link was dialled, fetched over and returned
-pub record FetchesOver {L : Type 0} (view : L → LinkView) (target : Target) (next : Option (List ℕ)) (dial now : DialView L) (answer : Result Envelope FetchEnd) : Type 0 where
+pub record FetchesOver {L : Type 0} (view : L → ClientLinkView) (target : Target) (next : Option (List ℕ)) (dial now : DialView L) (answer : Result Envelope FetchEnd) : Type 0 where
   pub link : Lent L
   pub fetched : Fetched target next (view link.given) (view link.finished) answer
-  pub through : PassThrough target (link ∷ []) dial.observable now.observable
+  pub through : PassThroughDial target (link ∷ []) dial.observable now.observable
   pub quiet : now.faults ≡ dial.faults
 
 -- the dial gave no link, and counted that
@@ -96,25 +96,25 @@ pub record FailsToDial {L : Type 0} (dial now : DialView L) (answer : Result Env
   pub fault : answer ≡ Err Fetch.Fault
 
 -- a fetch over a link that was dialled for it, or no link
-abbrev pub Dials : {L : Type 0} → (L → LinkView) → Target → Option (List ℕ) → DialView L → DialView L → Result Envelope FetchEnd → Type 0
+abbrev pub Dials : {L : Type 0} → (L → ClientLinkView) → Target → Option (List ℕ) → DialView L → DialView L → Result Envelope FetchEnd → Type 0
 Dials view target next dial now answer = FetchesOver view target next dial now answer ⊎ FailsToDial dial now answer
 
 -- a page was requested at the cursor
-pub record AsksFor {L : Type 0} (view : L → LinkView) (before : PullState) (dial now : DialView L) (answer : Result Envelope FetchEnd) : Type 0 where
+pub record AsksFor {L : Type 0} (view : L → ClientLinkView) (before : PullState) (dial now : DialView L) (answer : Result Envelope FetchEnd) : Type 0 where
   pub few : before.pages < MAX_PAGES
   pub next : Option (List ℕ)
-  pub asks : Asks before.cursor next
+  pub asks : RequestsNext before.cursor next
   pub dials : Dials view before.target next dial now answer
 
 -- a page arrived, and the walk continues after it
-pub record GivesPage {L : Type 0} (view : L → LinkView) (before after : PullState) (dial now : DialView L) (entries : List Entry) : Type 0 where
+pub record GivesPage {L : Type 0} (view : L → ClientLinkView) (before after : PullState) (dial now : DialView L) (entries : List Entry) : Type 0 where
   pub envelope : Envelope
   pub asks : AsksFor view before dial now (Ok envelope)
   pub entries_are : entries ≡ envelope.entries
   pub after_is : after ≡ record { target = before.target; cursor = cursor_after envelope; pages = before.pages + 1 }
 
 -- a page did not arrive, and the cursor is unchanged
-abbrev pub LosesPage : {L : Type 0} → (L → LinkView) → PullState → PullState → DialView L → DialView L → FetchEnd → Type 0
+abbrev pub LosesPage : {L : Type 0} → (L → ClientLinkView) → PullState → PullState → DialView L → DialView L → FetchEnd → Type 0
 LosesPage view before after dial now end = AsksFor view before dial now (Err end) × (after ≡ before)
 
 -- nothing was requested, and nothing changed
@@ -122,7 +122,7 @@ abbrev pub Rests : {L : Type 0} → PullState → PullState → DialView L → D
 Rests before after dial now = (after ≡ before) × (now ≡ dial)
 
 -- what the call for the next page did, by its answer
-abbrev pub Answers : {L : Type 0} → (L → LinkView) → PullState → PullState → DialView L → DialView L → Result (Option (List Entry)) PageEnd → Type 0
+abbrev pub Answers : {L : Type 0} → (L → ClientLinkView) → PullState → PullState → DialView L → DialView L → Result (Option (List Entry)) PageEnd → Type 0
 Answers view before after dial now (Ok None) = (before.cursor ≡ Over) × Rests before after dial now
 Answers view before after dial now (Ok (Some entries)) = GivesPage view before after dial now entries
 Answers view before after dial now (Err Fault) = LosesPage view before after dial now Fetch.Fault

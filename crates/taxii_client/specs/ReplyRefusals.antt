@@ -46,10 +46,10 @@ for_fetch (Fetch.Refused refusal) = Page.Refused refusal
 for_fetch Fetch.NoMemory = Page.NoMemory
 
 -- the name of a refusal, and after that of a status its code
-abbrev pub refusal_text : ReplyRefusal → List ℕ
-refusal_text BadHead = codes "BadHead"
-refusal_text (Status code) = codes "Status " ++ decimal code
-refusal_text Coding = codes "Coding"
-refusal_text NoLength = codes "NoLength"
-refusal_text TooLarge = codes "TooLarge"
-refusal_text NotEnvelope = codes "NotEnvelope"
+abbrev pub reply_refusal_text : ReplyRefusal → List ℕ
+reply_refusal_text BadHead = codes "BadHead"
+reply_refusal_text (Status code) = codes "Status " ++ decimal code
+reply_refusal_text Coding = codes "Coding"
+reply_refusal_text NoLength = codes "NoLength"
+reply_refusal_text TooLarge = codes "TooLarge"
+reply_refusal_text NotEnvelope = codes "NotEnvelope"

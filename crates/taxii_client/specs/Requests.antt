@@ -22,15 +22,15 @@ abbrev pub behind : Option (List ℕ) → Option (List ℕ) → List ℕ
 behind since next = since_pair since ++ next_pair next
 
 -- the path to a collection's objects, below the root
-abbrev pub path_of : Target → List ℕ
-path_of target = target.root ++ codes "collections/" ++ uuid_text target.collection ++ codes "/objects/"
+abbrev pub objects_path : Target → List ℕ
+objects_path target = target.root ++ codes "collections/" ++ uuid_text target.collection ++ codes "/objects/"
 
 -- the query for at most `limit` objects, in all their versions
 abbrev pub query_of : ℕ → Option (List ℕ) → Option (List ℕ) → List ℕ
 query_of limit since next = codes "?limit=" ++ decimal limit ++ codes "&match%5Bversion%5D=all" ++ behind since next
 
 abbrev pub request_line : Target → Option (List ℕ) → List ℕ
-request_line target next = codes "GET " ++ path_of target ++ query_of target.limit target.since next ++ codes " HTTP/1.1" ++ line_end
+request_line target next = codes "GET " ++ objects_path target ++ query_of target.limit target.since next ++ codes " HTTP/1.1" ++ line_end
 
 abbrev pub host_of : Target → List ℕ
 host_of target = target.host ++ codes ":" ++ decimal target.port

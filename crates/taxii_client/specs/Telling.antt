@@ -33,6 +33,6 @@ abbrev pub bad_in_pages : {L : Type 0} → List (Page L) → ℕ
 bad_in_pages pages = sum_by (λ page. bad_in page.envelope.entries) pages
 
 -- the names in a valid entry are in order
-abbrev pub IsWritable : Entry → Type 0
-IsWritable (Good json) = IsOrdered (data_of json)
-IsWritable (Bad refusal) = ⊤
+abbrev pub IsWritableEntry : Entry → Type 0
+IsWritableEntry (Good json) = IsOrdered (data_of json)
+IsWritableEntry (Bad refusal) = ⊤

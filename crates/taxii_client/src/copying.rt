@@ -4,7 +4,7 @@ ghost use Rattle.flow_links.specs.declared.dial.TheConstants.{MAX_HOST};
 ghost use Rattle.taxii_client.specs.Environment.{link_view};
 ghost use Rattle.taxii_store.specs.Loading.{IsBadAfter};
 ghost use Rattle.taxii_store.specs.declared.load_refusal.LoadRefusal.TheVariants as Unloaded;
-ghost use Rattle.taxii_client.specs.Filling.{environment};
+ghost use Rattle.taxii_client.specs.Filling.{copy_environment};
 ghost use Rattle.taxii_client.specs.Endings.{Copies, is_store_fault};
 ghost use Rattle.taxii_client.specs.inner.Opening.{stop_of, Opens};
 
@@ -36,9 +36,9 @@ pub fn copy<D: Dial, K: Keeper, C: Clock>(
     ensures copies { Copies
         (link_view D.Link.left D.Link.written D.Link.Source.faults D.Link.Sink.faults)
         (record { target = target.now; file = file.now; tries = tries })
-        (environment (D.observable dial.old) (D.faults dial.old) (K.kept keeper.old)
+        (copy_environment (D.observable dial.old) (D.faults dial.old) (K.kept keeper.old)
         (C.moments clock.old))
-        (environment (D.observable dial.new) (D.faults dial.new) (K.kept keeper.new)
+        (copy_environment (D.observable dial.new) (D.faults dial.new) (K.kept keeper.new)
         (C.moments clock.new)) result }
     // the keeper counts a fault exactly if the copy ends because the keeper failed
     ensures causes { Counted (IsErrAnd result (λ stop. is_store_fault stop ≡ true))

@@ -1,5 +1,5 @@
 ghost use Rattle.std.specs.Prelude.{◌≡◌, MatchOption, option_map};
-ghost use Rattle.taxii_client.specs.Pulls.{Asks, cursor_of};
+ghost use Rattle.taxii_client.specs.Pulls.{RequestsNext, cursor_of};
 ghost use Rattle.taxii_client.specs.declared.cursor.Cursor.TheVariants.{Over};
 
 use flow_values::Text;
@@ -28,7 +28,7 @@ impl Cursor {
     /// The `next` to request, or `None` after the last page. The first page has no `next`.
     pub(crate) fn next(&self) -> Option<Option<&str>>
         ensures { MatchOption result (self.now ≡ Over)
-            (λ next. Asks self.now (option_map (λ text. text.now) next)) }
+            (λ next. RequestsNext self.now (option_map (λ text. text.now) next)) }
     {
         match self {
             Cursor::First => Some(None),

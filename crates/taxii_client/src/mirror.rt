@@ -1,7 +1,7 @@
 ghost use Rattle.std.specs.Prelude.{◌≡◌, All, Err, IfOk, IfErr, OnErr};
 ghost use Rattle.flow_edges.specs.Faults.{Counted};
 ghost use Rattle.taxii_store.specs.Agreement.{Agrees};
-ghost use Rattle.taxii_client.specs.Absorbing.{IsReadable, Absorbs, LacksDates};
+ghost use Rattle.taxii_client.specs.Absorbing.{IsReadable, Absorbs, LacksDatesForPage};
 ghost use Rattle.taxii_client.specs.declared.store_refusal.StoreRefusal.TheVariants as Refused;
 
 use crate::partitioned::Partitioned;
@@ -63,7 +63,7 @@ impl Mirror {
             self.new.store) }
         // `DatesUsedUp` only if that is so
         ensures dates { IfErr result (λ refusal. refusal ≡ Refused.DatesUsedUp
-            → LacksDates self.old.collection entries self.old.store) }
+            → LacksDatesForPage self.old.collection entries self.old.store) }
         ensures err { OnErr result (self.new ≡ self.old) }
         // the keeper counts a fault exactly if the result is `Fault`
         ensures causes { Counted (result ≡ Err Refused.Fault) (K.faults keeper.old)

@@ -5,7 +5,7 @@ ghost use Rattle.std.specs.List.{Contains};
 ghost use Rattle.stix_json.specs.declared.entry.Entry.{Entry};
 ghost use Rattle.taxii_rows.specs.declared.described.Described.{Described};
 ghost use Rattle.taxii_rows.specs.StoreState.{StoreState};
-ghost use Rattle.taxii_client.specs.Absorbing.{Absorbed, Absorbs, IsKept};
+ghost use Rattle.taxii_client.specs.Absorbing.{Absorbed, Absorbs, IsKeptEntry};
 ghost use Rattle.taxii_client.specs.Mirrored.{Mirrored};
 ghost use Rattle.taxii_client.specs.Standing.{IsStored, GrowsOnce};
 
@@ -45,7 +45,7 @@ pub fn pages_are_stored_once()
     ensures present { (collection : ℕ) (state last : StoreState) (pages : List Absorbed)
         (page : Absorbed) (entry : Entry) (object : Described)
         → Mirrored collection state pages last → Contains pages page → Contains page.entries entry
-        → IsKept entry object
+        → IsKeptEntry entry object
         → IsStored collection object last.rows }
     ensures once { (collection : ℕ) (state last : StoreState) (pages : List Absorbed)
         → Mirrored collection state pages last → GrowsOnce state.rows last.rows }

@@ -4,7 +4,7 @@ ghost use Rattle.stix_json.specs.declared.entry.Entry.TheVariants.{Good};
 ghost use Rattle.stix_objects.specs.Breaks.{AreBreaksOf};
 ghost use Rattle.taxii_store.specs.Planned.{IsSound};
 ghost use Rattle.taxii_client.specs.Absorbing.{IsReadable};
-ghost use Rattle.taxii_client.specs.inner.Sorting.{Partitions, PartitionsOne, Keeps};
+ghost use Rattle.taxii_client.specs.inner.Sorting.{Partitions, PartitionsOne, KeepsObject};
 
 use flow_values::NoMemory;
 use std::alloc::Global;
@@ -74,7 +74,7 @@ impl Partitioned {
     fn add_object(&mut self, alloc: Global, object: &Json) -> Result<(), NoMemory>
         requires readable { IsReadable (Good object.now) }
         requires unbroken { AreBreaksOf (data_of object.now) [] }
-        ensures { OnOk result (Keeps (Good object.now) self.old self.new) }
+        ensures { OnOk result (KeepsObject (Good object.now) self.old self.new) }
     {
         no_breaks();
         let Some(described) = describe(alloc, object)? else {

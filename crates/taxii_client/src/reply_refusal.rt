@@ -40,9 +40,9 @@ impl From<HeadRefusal> for ReplyRefusal {
 
 impl fmt::Display for ReplyRefusal {
     ghost use Rattle.std.specs.Prelude.{Some};
-    ghost use Rattle.taxii_client.specs.ReplyRefusals.{refusal_text};
+    ghost use Rattle.taxii_client.specs.ReplyRefusals.{reply_refusal_text};
 
-    ghost output = { λ refusal. Some (refusal_text refusal) };
+    ghost output = { λ refusal. Some (reply_refusal_text refusal) };
 
     fn fmt<W: fmt::Write>(&self, f: &mut fmt::Formatter<W>) -> fmt::Result {
         match self {

@@ -1,7 +1,8 @@
 ghost use Rattle.std.specs.Prelude.{◌≡◌, ◌++◌, codes, decimal, option_map, IfOk, OnOk};
 ghost use Rattle.form_urlencoded.specs.Form.{byte_serialize};
 ghost use Rattle.http_messages.specs.Lines.{field_line};
-ghost use Rattle.taxii_client.specs.Requests.{request_of, request_line, path_of, query_of, behind};
+ghost use Rattle.taxii_client.specs.Requests.{request_of, request_line, objects_path, query_of};
+ghost use Rattle.taxii_client.specs.Requests.{behind};
 ghost use Rattle.taxii_client.specs.Requests.{since_pair, next_pair, host_of};
 
 use crate::Target;
@@ -42,7 +43,7 @@ fn push_request_line(text: &mut Text, target: &Target, next: Option<&str>) -> Re
 
 /// Appends the path of the collection's objects.
 fn push_path(text: &mut Text, target: &Target) -> Result<(), NoMemory>
-    ensures { OnOk result (text.new ≡ text.old ++ path_of target.now) }
+    ensures { OnOk result (text.new ≡ text.old ++ objects_path target.now) }
 {
     let mut buffer = [0; 36];
     text.push(target.root.as_str())?;

@@ -4,7 +4,7 @@ use Rattle.std.specs.Prelude.{SomeIff, decimal, option_map, if◌then◌else◌}
 use Rattle.stix_times.specs.Writing.{IsTextOfDigits}
 use Rattle.http_messages.specs.Lines.{field_line, line_if_some, line_end, status_line}
 use Rattle.taxii_exchange.specs.declared.answer.Answer.{Answer}
-use Rattle.taxii_exchange.specs.Answers.{media_type, methods_of, body_of, head_text, IsDateText, IsAnswerText}
+use Rattle.taxii_exchange.specs.Answers.{media_type, methods_of, body_bytes, head_text, IsOptionalDateText, IsAnswerText}
 use Rattle.taxii_exchange.specs.inner.HeadText.{PushesDate, IsHeadText}
 
 pub some_is : (found : Option ℤ) (P : Type 0) (v i : ℤ) → SomeIff found P v → found ≡ Some i → i ≡ v
@@ -33,7 +33,7 @@ pub head_of_lines : (answer : Answer) (close : Bool) (h1 h2 h3 h4 h5 h6 h7 h8 : 
     → PushesDate (codes "X-TAXII-Date-Added-First") answer.first h3 h4
     → PushesDate (codes "X-TAXII-Date-Added-Last") answer.last h4 h5
     → h6 ≡ h5 ++ field_line (codes "Content-Length") (decimal size)
-    → size ≡ length (body_of answer.body)
+    → size ≡ length (body_bytes answer.body)
     → h7 ≡ h6 ++ (if close then field_line (codes "Connection") (codes "close") else [])
     → h8 ≡ h7 ++ line_end
     → IsHeadText answer close h8
@@ -52,7 +52,7 @@ head_of_lines answer close h1 h2 h3 h4 h5 h6 h7 h8 media allow size e1 e2 m e3 a
           (line_if_some (codes "Allow") (option_map methods_of answer.allow))
           (line_if_some (codes "X-TAXII-Date-Added-First") first.text)
           (line_if_some (codes "X-TAXII-Date-Added-Last") last.text)
-          (field_line (codes "Content-Length") (decimal (length (body_of answer.body))))
+          (field_line (codes "Content-Length") (decimal (length (body_bytes answer.body))))
           (if close then field_line (codes "Connection") (codes "close") else [])
           line_end
           h1 h2 h3 h4 h5 h6 h7 h8 e1 typed allowed first.added last.added sized e7 e8;
@@ -63,7 +63,7 @@ head_of_lines answer close h1 h2 h3 h4 h5 h6 h7 h8 media allow size e1 e2 m e3 a
 abbrev IsUnique : Type 0
 IsUnique = (digits : ℕ) (instant : ℤ) (first second : List ℕ) → IsTextOfDigits digits first instant → IsTextOfDigits digits second instant → first ≡ second
 
-one_date : IsUnique → (date : Option ℕ) (first second : Option (List ℕ)) → IsDateText date first → IsDateText date second → first ≡ second
+one_date : IsUnique → (date : Option ℕ) (first second : Option (List ℕ)) → IsOptionalDateText date first → IsOptionalDateText date second → first ≡ second
 one_date unique None None None a b = refl
 one_date unique None None (Some text) a b = absurd b
 one_date unique None (Some text) second a b = absurd a
@@ -74,6 +74,6 @@ one_date unique (Some micros) (Some text) (Some other) a b = ap Some (unique 6 _
 pub one_text : IsUnique → (answer : Answer) (close : Bool) (text other : List ℕ) → IsAnswerText answer close text → IsAnswerText answer close other → text ≡ other
 one_text unique answer close text other x y =
     x.text_is
-    ∙ ap (λ (first : Option (List ℕ)). head_text answer first x.last close ++ body_of answer.body) (one_date unique answer.first x.first y.first x.first_is y.first_is)
-    ∙ ap (λ (last : Option (List ℕ)). head_text answer y.first last close ++ body_of answer.body) (one_date unique answer.last x.last y.last x.last_is y.last_is)
+    ∙ ap (λ (first : Option (List ℕ)). head_text answer first x.last close ++ body_bytes answer.body) (one_date unique answer.first x.first y.first x.first_is y.first_is)
+    ∙ ap (λ (last : Option (List ℕ)). head_text answer y.first last close ++ body_bytes answer.body) (one_date unique answer.last x.last y.last x.last_is y.last_is)
     ∙ sym y.text_is

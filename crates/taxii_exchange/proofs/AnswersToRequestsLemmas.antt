@@ -5,9 +5,9 @@ use Rattle.http_messages.specs.declared.method.Method.TheVariants.{Get, Head, Po
 use Rattle.http_messages.specs.declared.status.Status.TheVariants.{InternalServerError}
 use Rattle.taxii_bodies.specs.declared.problem.Problem.{Problem}
 use Rattle.taxii_bodies.specs.declared.problem.Problem.TheVariants.{StoreFault}
-use Rattle.taxii_exchange.specs.AnswersToRequests.{status_of, answer_to_problem}
+use Rattle.taxii_exchange.specs.AnswersToRequests.{problem_status, answer_to_problem}
 
-pub told_status : (method : Method) (problem : Problem) → (answer_to_problem method problem).status ≡ status_of problem
+pub told_status : (method : Method) (problem : Problem) → (answer_to_problem method problem).status ≡ problem_status problem
 told_status Get problem = refl
 told_status Head problem = refl
 told_status Post problem = refl

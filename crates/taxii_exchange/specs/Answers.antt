@@ -7,7 +7,7 @@ use Rattle.http_messages.specs.declared.request_refusal.Refusal.{Refusal}
 use Rattle.http_messages.specs.declared.status.Status.{Status}
 use Rattle.http_messages.specs.declared.status.Status.TheVariants as status
 use Rattle.http_messages.specs.Lines.{status_line, field_line, line_if_some, line_end}
-use Rattle.http_messages.specs.Statuses.{status_of, title_of}
+use Rattle.http_messages.specs.Statuses.{refusal_status, refusal_title}
 use Rattle.taxii_exchange.specs.declared.answer.Allow.{Allow}
 use Rattle.taxii_exchange.specs.declared.answer.Allow.TheVariants.{Get, GetPost, GetDelete}
 use Rattle.taxii_exchange.specs.declared.answer.Answer.{Answer}
@@ -24,9 +24,9 @@ methods_of GetPost = codes "GET, POST"
 methods_of GetDelete = codes "GET, DELETE"
 
 -- the bytes of a body
-abbrev pub body_of : Option (List ℕ) → List ℕ
-body_of None = []
-body_of (Some body) = body
+abbrev pub body_bytes : Option (List ℕ) → List ℕ
+body_bytes None = []
+body_bytes (Some body) = body
 
 -- the head of an answer, with the texts of its two dates
 unfoldable pub head_text : Answer → Option (List ℕ) → Option (List ℕ) → Bool → List ℕ
@@ -36,24 +36,24 @@ head_text answer first last close =
     ++ line_if_some (codes "Allow") (option_map methods_of answer.allow)
     ++ line_if_some (codes "X-TAXII-Date-Added-First") first
     ++ line_if_some (codes "X-TAXII-Date-Added-Last") last
-    ++ field_line (codes "Content-Length") (decimal (length (body_of answer.body)))
+    ++ field_line (codes "Content-Length") (decimal (length (body_bytes answer.body)))
     ++ (if close then field_line (codes "Connection") (codes "close") else [])
     ++ line_end
 
 -- the text of a date in microseconds since 1970, with six digits of a second, where there is a date
-abbrev pub IsDateText : Option ℕ → Option (List ℕ) → Type 0
-IsDateText None None = ⊤
-IsDateText None (Some text) = ⊥
-IsDateText (Some micros) None = ⊥
-IsDateText (Some micros) (Some text) = IsTextOfDigits 6 text (pos (1000 * micros))
+abbrev pub IsOptionalDateText : Option ℕ → Option (List ℕ) → Type 0
+IsOptionalDateText None None = ⊤
+IsOptionalDateText None (Some text) = ⊥
+IsOptionalDateText (Some micros) None = ⊥
+IsOptionalDateText (Some micros) (Some text) = IsTextOfDigits 6 text (pos (1000 * micros))
 
 -- the text of an answer, after which the connection ends or not
 pub record IsAnswerText (answer : Answer) (close : Bool) (text : List ℕ) : Type 0 where
   pub first : Option (List ℕ)
   pub last : Option (List ℕ)
-  pub first_is : IsDateText answer.first first
-  pub last_is : IsDateText answer.last last
-  pub text_is : text ≡ head_text answer first last close ++ body_of answer.body
+  pub first_is : IsOptionalDateText answer.first first
+  pub last_is : IsOptionalDateText answer.last last
+  pub text_is : text ≡ head_text answer first last close ++ body_bytes answer.body
 
 -- the dates lie before the year 10000
 pub record HasDates (answer : Answer) : Type 0 where
@@ -79,7 +79,7 @@ titled status title = record {
 
 -- the answer to a refusal
 abbrev pub answer_to : Refusal → Answer
-answer_to refusal = titled (status_of refusal) (title_of refusal)
+answer_to refusal = titled (refusal_status refusal) (refusal_title refusal)
 
 -- the answer when out of memory
 abbrev pub no_memory_answer : Answer

@@ -14,20 +14,20 @@ use Rattle.taxii_rows.specs.StoreState.{dates_of}
 use Rattle.taxii_bodies.specs.declared.problem.Problem.{Problem}
 use Rattle.taxii_bodies.specs.declared.problem.Problem.TheVariants.{BadValue, Repeated, Forbidden, NotFound, NotAcceptable, UnsupportedMediaType, NotJson, NotList, StoreFault, DatesUsedUp}
 use Rattle.taxii_bodies.specs.Title.{title_data}
-use Rattle.taxii_bodies.specs.Problem.{title_of}
+use Rattle.taxii_bodies.specs.Problem.{problem_title}
 
 -- the status of a problem
-abbrev pub status_of : Problem → Status
-status_of (BadValue param) = status.BadRequest
-status_of (Repeated param) = status.BadRequest
-status_of Forbidden = status.Forbidden
-status_of NotFound = status.NotFound
-status_of NotAcceptable = status.NotAcceptable
-status_of UnsupportedMediaType = status.UnsupportedMediaType
-status_of NotJson = status.UnprocessableEntity
-status_of NotList = status.UnprocessableEntity
-status_of StoreFault = status.InternalServerError
-status_of DatesUsedUp = status.ServiceUnavailable
+abbrev pub problem_status : Problem → Status
+problem_status (BadValue param) = status.BadRequest
+problem_status (Repeated param) = status.BadRequest
+problem_status Forbidden = status.Forbidden
+problem_status NotFound = status.NotFound
+problem_status NotAcceptable = status.NotAcceptable
+problem_status UnsupportedMediaType = status.UnsupportedMediaType
+problem_status NotJson = status.UnprocessableEntity
+problem_status NotList = status.UnprocessableEntity
+problem_status StoreFault = status.InternalServerError
+problem_status DatesUsedUp = status.ServiceUnavailable
 
 -- an answer with a body and no more
 abbrev pub body_answer : Status → List ℕ → Answer
@@ -39,16 +39,16 @@ bare_answer code its = record { status = code; body = None; first = None; last =
 
 -- the answer to a problem
 abbrev pub problem_answer : Problem → Answer
-problem_answer problem = body_answer (status_of problem) (compact_text (title_data (title_of problem)))
+problem_answer problem = body_answer (problem_status problem) (compact_text (title_data (problem_title problem)))
 
 -- the first of some dates
-abbrev pub first_of : List ℕ → Option ℕ
-first_of [] = None
-first_of (date ∷ dates) = Some date
+abbrev pub first_date_of : List ℕ → Option ℕ
+first_date_of [] = None
+first_date_of (date ∷ dates) = Some date
 
 -- the answer to a problem of a request: to a HEAD it has no body (RFC 9110, section 9.3.2)
 abbrev pub answer_to_problem : Method → Problem → Answer
-answer_to_problem Head problem = bare_answer (status_of problem) None
+answer_to_problem Head problem = bare_answer (problem_status problem) None
 answer_to_problem Get problem = problem_answer problem
 answer_to_problem Post problem = problem_answer problem
 answer_to_problem Delete problem = problem_answer problem
@@ -59,7 +59,7 @@ abbrev pub page_answer : List StoredRow → List ℕ → Answer
 page_answer rows body = record {
   status = status.Okay;
   body = Some body;
-  first = first_of (dates_of rows);
+  first = first_date_of (dates_of rows);
   last = last_or None (dates_of rows);
   allow = None;
 }

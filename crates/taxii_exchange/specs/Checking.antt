@@ -9,7 +9,7 @@ use Rattle.taxii_exchange.specs.declared.answer.Allow.{Allow}
 use Rattle.taxii_exchange.specs.declared.answer.Allow.TheVariants as allow
 use Rattle.taxii_routes.specs.declared.refusal.QueryRefusal.TheVariants as query
 use Rattle.taxii_routes.specs.MediaType.{Accepts, IsTaxii}
-use Rattle.taxii_routes.specs.Query.{pairs_of, IsRefusedAs}
+use Rattle.taxii_routes.specs.Query.{pairs_of, IsRefusedQuery}
 use Rattle.taxii_bodies.specs.declared.problem.Problem.TheVariants.{BadValue, Repeated, Forbidden, NotFound, NotAcceptable, UnsupportedMediaType, NotJson, NotList, StoreFault, DatesUsedUp}
 use Rattle.taxii_exchange.specs.declared.rights.Rights.{Rights}
 use Rattle.taxii_exchange.specs.declared.refusal.Refusal.{Refusal}
@@ -58,18 +58,18 @@ pub record IsFit (its : Allow) (rights : Rights) (request : Request) : Type 0 wh
   pub typed : IsTyped request
 
 -- the first reason against the request
-abbrev pub IsRefusedFor : Allow → Rights → Request → List ℕ → Refusal → Type 0
-IsRefusedFor its rights request text (NotAllowed others) = (others ≡ its) × (allows its request.method ≡ false)
-IsRefusedFor its rights request text (Problem NotAcceptable) = (allows its request.method ≡ true) × (¬ IsAccepted request)
-IsRefusedFor its rights request text (Problem Forbidden) =
+abbrev pub IsRefusedByCheck : Allow → Rights → Request → List ℕ → Refusal → Type 0
+IsRefusedByCheck its rights request text (NotAllowed others) = (others ≡ its) × (allows its request.method ≡ false)
+IsRefusedByCheck its rights request text (Problem NotAcceptable) = (allows its request.method ≡ true) × (¬ IsAccepted request)
+IsRefusedByCheck its rights request text (Problem Forbidden) =
     (allows its request.method ≡ true) × IsAccepted request × (permits rights request.method ≡ false)
-IsRefusedFor its rights request text (Problem UnsupportedMediaType) =
+IsRefusedByCheck its rights request text (Problem UnsupportedMediaType) =
     (allows its request.method ≡ true) × IsAccepted request × (permits rights request.method ≡ true) × (¬ IsTyped request)
-IsRefusedFor its rights request text (Problem (BadValue param)) = IsFit its rights request × IsRefusedAs (pairs_of text) (query.BadValue param)
-IsRefusedFor its rights request text (Problem (Repeated param)) = IsFit its rights request × IsRefusedAs (pairs_of text) (query.Repeated param)
-IsRefusedFor its rights request text (Problem NotFound) = ⊥
-IsRefusedFor its rights request text (Problem NotJson) = ⊥
-IsRefusedFor its rights request text (Problem NotList) = ⊥
-IsRefusedFor its rights request text (Problem StoreFault) = ⊥
-IsRefusedFor its rights request text (Problem DatesUsedUp) = ⊥
-IsRefusedFor its rights request text NoMemory = ⊥
+IsRefusedByCheck its rights request text (Problem (BadValue param)) = IsFit its rights request × IsRefusedQuery (pairs_of text) (query.BadValue param)
+IsRefusedByCheck its rights request text (Problem (Repeated param)) = IsFit its rights request × IsRefusedQuery (pairs_of text) (query.Repeated param)
+IsRefusedByCheck its rights request text (Problem NotFound) = ⊥
+IsRefusedByCheck its rights request text (Problem NotJson) = ⊥
+IsRefusedByCheck its rights request text (Problem NotList) = ⊥
+IsRefusedByCheck its rights request text (Problem StoreFault) = ⊥
+IsRefusedByCheck its rights request text (Problem DatesUsedUp) = ⊥
+IsRefusedByCheck its rights request text NoMemory = ⊥

@@ -24,5 +24,5 @@ with_status status statuses = record {
 }
 
 -- the body of the first that is kept under the identifier
-abbrev pub body_of : List ℕ → StatusesState → Option (List ℕ)
-body_of id statuses = option_map (λ status. status.body) (find (λ status. bytes_eq status.id id) statuses.kept)
+abbrev pub kept_status_body : List ℕ → StatusesState → Option (List ℕ)
+kept_status_body id statuses = option_map (λ status. status.body) (find (λ status. bytes_eq status.id id) statuses.kept)

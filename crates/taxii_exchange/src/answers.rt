@@ -76,7 +76,7 @@ pub fn page_answer(rows: &[&StoredRow], body: Text) -> Answer
 }
 
 fn first_date(rows: &[&StoredRow]) -> Option<u64>
-    ensures { result ≡ spec.first_of (dates_of (map (λ row. row.now) rows.now)) }
+    ensures { result ≡ spec.first_date_of (dates_of (map (λ row. row.now) rows.now)) }
 {
     let row = rows.first()?;
     Some(row.date)

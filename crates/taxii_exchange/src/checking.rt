@@ -1,7 +1,7 @@
 ghost use Rattle.std.specs.Prelude.{◌≡◌, ◌⊎◌, ◌↔◌, IsTrue, IfOk, IfErr};
 ghost use Rattle.taxii_routes.specs.Query.{pairs_of, IsQueryOf};
 ghost use Rattle.taxii_exchange.specs.Checking.{allows as allow_it, IsAccepted, IsTyped, IsFit};
-ghost use Rattle.taxii_exchange.specs.Checking.{IsRefusedFor};
+ghost use Rattle.taxii_exchange.specs.Checking.{IsRefusedByCheck};
 ghost use Rattle.taxii_exchange.specs.declared.refusal.Refusal.TheVariants as Refused;
 
 use crate::{Allow, Refusal, Rights};
@@ -22,7 +22,7 @@ pub fn check(
     ensures fit { IfOk result (λ asked. IsFit allow rights request.now) }
     ensures query { IfOk result (IsQueryOf (pairs_of query.now)) }
     ensures err { IfErr result (λ refusal. (refusal ≡ Refused.NoMemory)
-        ⊎ IsRefusedFor allow rights request.now query.now refusal) }
+        ⊎ IsRefusedByCheck allow rights request.now query.now refusal) }
 {
     if !allows(allow, request.method) {
         return Err(Refusal::NotAllowed(allow));

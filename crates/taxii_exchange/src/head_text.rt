@@ -2,7 +2,7 @@ ghost use Rattle.std.specs.Prelude.{◌≡◌, ◌+◌, ◌≤◌, [], ◌++◌,
 ghost use Rattle.std.specs.Prelude.{option_map, IfSome, codes, decimal, if◌then◌else◌};
 ghost use Rattle.http_messages.specs.Lines.{status_line, field_line, line_if_some};
 ghost use Rattle.taxii_exchange.specs.declared.answer.TheConstants.{MAX_DATE};
-ghost use Rattle.taxii_exchange.specs.Answers.{media_type, methods_of, body_of, HasDates};
+ghost use Rattle.taxii_exchange.specs.Answers.{media_type, methods_of, body_bytes, HasDates};
 ghost use Rattle.taxii_exchange.specs.inner.HeadText.{PushesDate, IsHeadText};
 
 use crate::Answer;
@@ -197,7 +197,7 @@ fn methods(answer: &Answer) -> Option<&'static [u8]>
 
 /// The length of the body in bytes.
 fn body_length(answer: &Answer) -> usize
-    ensures { result ≡ length (body_of answer.now.body) }
+    ensures { result ≡ length (body_bytes answer.now.body) }
 {
     match &answer.body {
         Some(body) => body.len(),

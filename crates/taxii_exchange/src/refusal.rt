@@ -1,5 +1,5 @@
 ghost use Rattle.std.specs.Prelude.{◌≡◌};
-ghost use Rattle.taxii_exchange.specs.AnswersToRequests.{status_of};
+ghost use Rattle.taxii_exchange.specs.AnswersToRequests.{problem_status};
 
 use crate::Allow;
 use flow_values::NoMemory;
@@ -30,7 +30,7 @@ impl From<NoMemory> for Refusal {
 
 /// The status of the error response for a problem.
 pub(crate) fn status_of_problem(problem: Problem) -> Status
-    ensures { result ≡ status_of problem }
+    ensures { result ≡ problem_status problem }
 {
     match problem {
         Problem::BadValue(_) => Status::BadRequest,

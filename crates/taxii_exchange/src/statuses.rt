@@ -1,6 +1,7 @@
 ghost use Rattle.std.specs.Prelude.{◌≡◌, IfOk, option_map};
 ghost use Rattle.taxii_bodies.specs.Status.{status_id_of};
-ghost use Rattle.taxii_exchange.specs.Statuses.{no_statuses, next_number, body_of, with_status};
+ghost use Rattle.taxii_exchange.specs.Statuses.{no_statuses, next_number, kept_status_body};
+ghost use Rattle.taxii_exchange.specs.Statuses.{with_status};
 
 use crate::KeptStatus;
 use circular_buffer::HeapCircularBuffer;
@@ -50,7 +51,7 @@ impl Statuses {
     /// The body of the status with this identifier, if it is still kept. A linear search of at most
     /// 1024 statuses; allocates nothing.
     pub fn find(&self, id: &str) -> Option<&Text>
-        ensures { option_map (λ body. body.now) result ≡ body_of id.now self.now }
+        ensures { option_map (λ body. body.now) result ≡ kept_status_body id.now self.now }
     {
         self.kept
             .iter()

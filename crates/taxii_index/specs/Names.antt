@@ -8,8 +8,8 @@ use Rattle.std.specs.declared.hash.DefaultHasher.{DefaultHasher}
 use Rattle.stix_ids.specs.declared.id.Id.{Id}
 
 -- the identifier of a number and a kind
-abbrev pub id_of : ℕ → List ℕ → Id
-id_of number kind = record { kind = kind; number = number }
+abbrev pub id_of_number : ℕ → List ℕ → Id
+id_of_number number kind = record { kind = kind; number = number }
 
 -- a hasher that has read the secret and an object's identity: the collection, the UUID and the type
 unfoldable pub fed_with : ℕ → ℕ → Id → DefaultHasher

@@ -9,7 +9,7 @@ ghost use Rattle.stix_ids.specs.declared.pick.Pick.TheVariants.{Last as LastOne,
 ghost use Rattle.taxii_rows.specs.StoreState.{dates_of, AscendFrom};
 ghost use Rattle.taxii_rows.specs.Keeper.{is_date_in};
 ghost use Rattle.taxii_rows.specs.Picking.{IsPicked, IsPickedBy};
-ghost use Rattle.taxii_index.specs.Names.{id_of};
+ghost use Rattle.taxii_index.specs.Names.{id_of_number};
 ghost use Rattle.taxii_index.specs.Index.{HasRowOf, AreRowsOf};
 ghost use Rattle.taxii_index.specs.Presence.{duplicate_of as first_duplicate};
 ghost use Rattle.taxii_index.specs.Hints.{AreTrueOf};
@@ -178,7 +178,7 @@ impl HintedRows {
 
     /// Whether the collection has a row of the object with this UUID and type.
     pub fn has_object(&self, collection: u128, number: u128, kind: &str) -> bool
-        ensures { IsTrue result ↔ HasRowOf self.now collection (id_of number kind.now) }
+        ensures { IsTrue result ↔ HasRowOf self.now collection (id_of_number number kind.now) }
     {
         self.rows.has_object(collection, number, kind)
     }

@@ -14,7 +14,7 @@ ghost use Rattle.taxii_rows.specs.Picking.{IsPicked, IsPickedBy};
 ghost use Rattle.taxii_index.specs.Presence.{is_duplicate as is_present};
 ghost use Rattle.taxii_index.specs.Presence.{duplicate_of as first_duplicate};
 ghost use Rattle.taxii_index.specs.Index.{has_row, key_dates, HasRowOf, AreRowsOf, row_where};
-ghost use Rattle.taxii_index.specs.Names.{id_of};
+ghost use Rattle.taxii_index.specs.Names.{id_of_number};
 ghost use Rattle.taxii_index.specs.Hints.{ComesBefore};
 
 use crate::dates::is_among;
@@ -204,7 +204,7 @@ impl IndexedRows {
 
     /// Whether the collection has a row of the object with this UUID and type.
     pub fn has_object(&self, collection: u128, number: u128, kind: &str) -> bool
-        ensures { IsTrue result ↔ HasRowOf self.now collection (id_of number kind.now) }
+        ensures { IsTrue result ↔ HasRowOf self.now collection (id_of_number number kind.now) }
     {
         let keys = self.index.of_object(collection, number, kind);
         self.has_object_among(keys, collection, number, kind)
@@ -218,7 +218,7 @@ impl IndexedRows {
         number: u128,
         kind: &str,
     ) -> bool
-        ensures { result ≡ list_any (has_row (is_of collection (id_of number kind.now)) self.now)
+        ensures { result ≡ list_any (has_row (is_of collection (id_of_number number kind.now)) self.now)
             (key_dates keys.entry) }
     {
         keys.map(|key| key.2)
@@ -227,7 +227,7 @@ impl IndexedRows {
 
     /// Whether the row of this date is one of the object in the collection.
     fn is_object_at(&self, date: u64, collection: u128, number: u128, kind: &str) -> bool
-        ensures { result ≡ has_row (is_of collection (id_of number kind.now)) self.now date }
+        ensures { result ≡ has_row (is_of collection (id_of_number number kind.now)) self.now date }
     {
         match row_at(&self.rows, date) {
             Some(row) => is_of_parts(row, collection, number, kind),
@@ -381,7 +381,7 @@ fn gather_dates(alloc: Global, keys: Range<'_, Key>) -> Result<Vec<u64>, NoMemor
 
 /// Whether the row is one of the object with this UUID and type in the collection.
 fn is_of_parts(row: &StoredRow, collection: u128, number: u128, kind: &str) -> bool
-    ensures { result ≡ is_of collection (id_of number kind.now) row.now }
+    ensures { result ≡ is_of collection (id_of_number number kind.now) row.now }
 {
     row.collection == collection && row.id.number == number && row.id.kind.as_str() == kind
 }

@@ -2,7 +2,7 @@
 //! first, so clients cannot construct collisions.
 
 ghost use Rattle.std.specs.Prelude.{◌≡◌};
-ghost use Rattle.taxii_index.specs.Names.{id_of, fed_with, name_of, text_name_of};
+ghost use Rattle.taxii_index.specs.Names.{id_of_number, fed_with, name_of, text_name_of};
 
 use std::hash::{DefaultHasher, Hasher};
 use stix_ids::Id;
@@ -16,7 +16,7 @@ pub(crate) fn object_name(secret: u128, collection: u128, id: &Id) -> u64
 
 /// The hash of the object with this UUID and type in the collection.
 pub(crate) fn parts_name(secret: u128, collection: u128, number: u128, kind: &str) -> u64
-    ensures { result ≡ name_of secret collection (id_of number kind.now) }
+    ensures { result ≡ name_of secret collection (id_of_number number kind.now) }
 {
     parts_hasher(secret, collection, number, kind).finish()
 }
@@ -39,7 +39,7 @@ fn object_hasher(secret: u128, collection: u128, id: &Id) -> DefaultHasher
 }
 
 fn parts_hasher(secret: u128, collection: u128, number: u128, kind: &str) -> DefaultHasher
-    ensures { result ≡ fed_with secret collection (id_of number kind.now) }
+    ensures { result ≡ fed_with secret collection (id_of_number number kind.now) }
 {
     let mut hasher = DefaultHasher::new();
     hasher.write(&secret.to_le_bytes());

@@ -10,7 +10,7 @@ ghost use Rattle.taxii_rows.specs.Keeper.{is_date_in};
 ghost use Rattle.taxii_index.specs.Index.{version_key as version_key_of, text_key as text_key_of};
 ghost use Rattle.taxii_index.specs.Index.{IsIndexOf, IsIndexBut, IsAbsent, IsBefore, LeadsToSame};
 ghost use Rattle.taxii_index.specs.Index.{LeadsToThose, LeadsToObject};
-ghost use Rattle.taxii_index.specs.Names.{id_of};
+ghost use Rattle.taxii_index.specs.Names.{id_of_number};
 ghost use Rattle.taxii_index.specs.Keys.{IsIn64Bits, HasKeys};
 
 use crate::keys::{Key, Keys};
@@ -178,7 +178,7 @@ impl RowIndex {
     /// The keys of the rows of the object with this UUID and type.
     pub(crate) fn of_object(&self, collection: u128, number: u128, kind: &str) -> Range<'_, Key>
         ensures { (rows : List Row) → IsIndexOf rows self.now
-            → LeadsToObject self.now.secret collection (id_of number kind.now) rows result }
+            → LeadsToObject self.now.secret collection (id_of_number number kind.now) rows result }
     {
         let name = parts_name(self.secret, collection, number, kind);
         self.by_version.after((name, i64::MIN, 0))

@@ -8,11 +8,11 @@ use Rattle.taxii_routes.specs.declared.param.Param.TheVariants.{AddedAfter, Limi
 use Rattle.taxii_routes.specs.declared.query.Query.{Query}
 use Rattle.taxii_routes.specs.declared.refusal.QueryRefusal.{QueryRefusal}
 use Rattle.taxii_routes.specs.declared.refusal.QueryRefusal.TheVariants.{BadValue}
-use Rattle.taxii_routes.specs.Value.{Meaning, IsValueOf}
+use Rattle.taxii_routes.specs.Value.{Meaning, IsParameterValue}
 use Rattle.taxii_routes.specs.Query.{asked}
-use Rattle.taxii_routes.specs.inner.Step.{put, Adds, CannotAdd}
+use Rattle.taxii_routes.specs.inner.Step.{with_parameter, AddsParameter, CannotAddParameter}
 
-pub asked-put : (param : Param) (slot : Option (Meaning param)) (query : Query) → asked param (put param slot query) ≡ slot
+pub asked-put : (param : Param) (slot : Option (Meaning param)) (query : Query) → asked param (with_parameter param slot query) ≡ slot
 asked-put AddedAfter slot query = refl
 asked-put Limit slot query = refl
 asked-put Next slot query = refl
@@ -21,7 +21,7 @@ asked-put MatchType slot query = refl
 asked-put MatchVersion slot query = refl
 asked-put MatchSpec slot query = refl
 
-pub asked-put_other : (param other : Param) (slot : Option (Meaning param)) (query : Query) → other ≢ param → asked other (put param slot query) ≡ asked other query
+pub asked-put_other : (param other : Param) (slot : Option (Meaning param)) (query : Query) → other ≢ param → asked other (with_parameter param slot query) ≡ asked other query
 asked-put_other AddedAfter AddedAfter slot query differs = absurd (differs refl)
 asked-put_other AddedAfter Limit slot query differs = refl
 asked-put_other AddedAfter Next slot query differs = refl
@@ -97,22 +97,22 @@ Sets meaning bad before after answer = MatchOption meaning ((answer ≡ Err bad)
 
 -- and what that says of the query
 abbrev pub AddAnswers : Param → List ℕ → Query → Query → Result (Unit {0}) QueryRefusal → Type 0
-AddAnswers param value old new answer = OnOk answer (Adds param value old new) × IfErr answer (CannotAdd param value old)
+AddAnswers param value old new answer = OnOk answer (AddsParameter param value old new) × IfErr answer (CannotAddParameter param value old)
 
 add_answers : (known : Param) (value : List ℕ) (old new : Query) (meaning after : Option (Meaning known)) (answer : Result (Unit {0}) QueryRefusal)
-    → asked known old ≡ None → FindsExactly (IsValueOf known value) meaning → Sets meaning (BadValue known) (asked known old) after answer → new ≡ put known after old
+    → asked known old ≡ None → FindsExactly (IsParameterValue known value) meaning → Sets meaning (BadValue known) (asked known old) after answer → new ≡ with_parameter known after old
     → AddAnswers known value old new answer
 add_answers known value old new None after (Ok u) none finds sets change = absurd cc
 add_answers known value old new None after (Err e) none finds sets change =
     let bad : BadValue known ≡ e = cc in
-    (tt, subst (CannotAdd known value old) bad (refl, none, λ (m, means). finds m means))
+    (tt, subst (CannotAddParameter known value old) bad (refl, none, λ (m, means). finds m means))
 add_answers known value old new (Some m) after (Ok u) none finds sets change =
-    (record { before = none; meaning = m; means = finds; change = change ∙ ap (λ w. put known w old) sets.1 }, tt)
+    (record { before = none; meaning = m; means = finds; change = change ∙ ap (λ w. with_parameter known w old) sets.1 }, tt)
 add_answers known value old new (Some m) after (Err e) none finds sets change = absurd (false≢true sets.0)
 
 -- the same at the parameter that was matched
 pub adds : (param known : Param) (value : List ℕ) (old new : Query) (meaning after : Option (Meaning known)) (answer : Result (Unit {0}) QueryRefusal)
-    → param ≡ known → asked param old ≡ None → FindsExactly (IsValueOf known value) meaning → Sets meaning (BadValue param) (asked known old) after answer → new ≡ put known after old
+    → param ≡ known → asked param old ≡ None → FindsExactly (IsParameterValue known value) meaning → Sets meaning (BadValue param) (asked known old) after answer → new ≡ with_parameter known after old
     → AddAnswers param value old new answer
 adds param known value old new meaning after answer same none finds sets change =
     subst (λ p. AddAnswers p value old new answer) (sym same)

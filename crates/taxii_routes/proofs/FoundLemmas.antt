@@ -14,7 +14,7 @@ use Rattle.taxii_routes.specs.declared.endpoint.Endpoint.{Endpoint}
 use Rattle.taxii_routes.specs.Route.{IsSegment}
 use Rattle.taxii_routes.specs.inner.Table.{row, collections, table}
 use Rattle.matchit.specs.declared.params.Params.{Params}
-use Rattle.taxii_routes.specs.inner.Found.{Taken, taken, Takes, Found}
+use Rattle.taxii_routes.specs.inner.Found.{Taken, taken, RepresentsParameter, Found}
 use Rattle.taxii_routes.proofs.SeekLemmas.{Fits, Has, found_fits}
 use Rattle.taxii_routes.proofs.WalkLemmas.{walk_param}
 use Rattle.taxii_routes.proofs.TableLemmas.{whole_fits, one_fits, two_fits, collections_text, objects_text, manifest_text, versions_text, status_text, root_text, discovery_text, slash_text, table_plain, object_is, versions_is}
@@ -62,14 +62,14 @@ abbrev pub params_of : RouteOf Endpoint → List ℕ → Taken
 params_of r path = walk r.pattern r.text path r.names 0 0
 
 -- one name
-one_taken : (params : Taken) (id : List ℕ) → params ≡ (codes "id", id) ∷ [] → IsUtf8 id → Takes params (codes "id") id
-one_taken params id is text = subst (λ ps. Takes ps (codes "id") id) (sym is) (record { found = refl; texts = (id_utf8, text, tt) })
+one_taken : (params : Taken) (id : List ℕ) → params ≡ (codes "id", id) ∷ [] → IsUtf8 id → RepresentsParameter params (codes "id") id
+one_taken params id is text = subst (λ ps. RepresentsParameter ps (codes "id") id) (sym is) (record { found = refl; texts = (id_utf8, text, tt) })
 
-first_taken : (params : Taken) (id object : List ℕ) → params ≡ (codes "id", id) ∷ (codes "object", object) ∷ [] → IsUtf8 id → IsUtf8 object → Takes params (codes "id") id
-first_taken params id object is text also = subst (λ ps. Takes ps (codes "id") id) (sym is) (record { found = refl; texts = (id_utf8, text, (object_utf8, also, tt)) })
+first_taken : (params : Taken) (id object : List ℕ) → params ≡ (codes "id", id) ∷ (codes "object", object) ∷ [] → IsUtf8 id → IsUtf8 object → RepresentsParameter params (codes "id") id
+first_taken params id object is text also = subst (λ ps. RepresentsParameter ps (codes "id") id) (sym is) (record { found = refl; texts = (id_utf8, text, (object_utf8, also, tt)) })
 
-second_taken : (params : Taken) (id object : List ℕ) → params ≡ (codes "id", id) ∷ (codes "object", object) ∷ [] → IsUtf8 id → IsUtf8 object → Takes params (codes "object") object
-second_taken params id object is text also = subst (λ ps. Takes ps (codes "object") object) (sym is) (record { found = refl; texts = (id_utf8, text, (object_utf8, also, tt)) })
+second_taken : (params : Taken) (id object : List ℕ) → params ≡ (codes "id", id) ∷ (codes "object", object) ∷ [] → IsUtf8 id → IsUtf8 object → RepresentsParameter params (codes "object") object
+second_taken params id object is text also = subst (λ ps. RepresentsParameter ps (codes "object") object) (sym is) (record { found = refl; texts = (id_utf8, text, (object_utf8, also, tt)) })
 
 -- the texts of a row with one name
 walk_one : (w v id text path : List ℕ) (name : ℕ × ℕ) → IsText w → IsSegment id → path ≡ w ++ (id ++ 47 ∷ v)

@@ -10,7 +10,7 @@ use Rattle.stix_ids.specs.Identifier as identifier
 use Rattle.stix_ids.proofs.IdLemmas.{one_identifier}
 use Rattle.taxii_routes.specs.declared.param.Param.{Param}
 use Rattle.taxii_routes.specs.declared.param.Param.TheVariants.{AddedAfter, Limit, Next, MatchId, MatchType, MatchVersion, MatchSpec}
-use Rattle.taxii_routes.specs.Value.{IsLimit, IsNext, AreTexts, IsTextOfMicros, IsPickText, Meaning, IsValueOf, members}
+use Rattle.taxii_routes.specs.Value.{IsLimit, IsNextCursor, AreValueTexts, IsTextOfMicros, IsPickText, Meaning, IsParameterValue, value_members}
 use Rattle.taxii_routes.specs.Query.{AskFor}
 
 pub one_zip : {A B : Type 0} (R : A → B → Type 0) → ((x : A) (y z : B) → R x y → R x z → y ≡ z)
@@ -23,7 +23,7 @@ one_zip R one (x ∷ xs) (y ∷ ys) [] p q = absurd q
 one_zip R one (x ∷ xs) (y ∷ ys) (z ∷ zs) p q = ap (λ a. a ∷ ys) (one x y z p.0 q.0) ∙ ap (λ rest. z ∷ rest) (one_zip R one xs ys zs p.1 q.1)
 
 -- a timestamp is longer than a word
-pub long_time : (text : List ℕ) (instant : ℤ) → time.IsTextOf text instant → 20 ≤ length text
+pub long_time : (text : List ℕ) (instant : ℤ) → time.IsTextOfInstant text instant → 20 ≤ length text
 long_time text instant (t, spells, exact) = subst (λ s. 20 ≤ length s) (sym spells.spelling) (text_of_long t)
 
 no_word : (text word : List ℕ) (micros : ℤ) → length word ≤ 5 → text ≡ word → ¬ IsTextOfMicros text micros
@@ -59,19 +59,19 @@ one_pick text (Pick.At a) (Pick.At b) p q = ap Pick.At (one_micros text a b p q)
 one_limit : (value : List ℕ) (m n : ℕ) → IsLimit value m → IsLimit value n → m ≡ n
 one_limit value m n p q = p.number ∙ sym q.number
 
-one_next : (value : List ℕ) (m n : ℕ) → IsNext value m → IsNext value n → m ≡ n
+one_next : (value : List ℕ) (m n : ℕ) → IsNextCursor value m → IsNextCursor value n → m ≡ n
 one_next value m n p q = p.number ∙ sym q.number
 
-one_list : (value : List ℕ) (m n : List (List ℕ)) → AreTexts value m → AreTexts value n → m ≡ n
+one_list : (value : List ℕ) (m n : List (List ℕ)) → AreValueTexts value m → AreValueTexts value n → m ≡ n
 one_list value m n p q = p.all ∙ sym q.all
 
-pub one_meaning : (param : Param) (value : List ℕ) (m n : Meaning param) → IsValueOf param value m → IsValueOf param value n → m ≡ n
+pub one_meaning : (param : Param) (value : List ℕ) (m n : Meaning param) → IsParameterValue param value m → IsParameterValue param value n → m ≡ n
 one_meaning AddedAfter value m n p q = one_instant value m n p q
 one_meaning Limit value m n p q = one_limit value m n p q
 one_meaning Next value m n p q = one_next value m n p q
-one_meaning MatchId value m n p q = one_zip identifier.IsTextOf one_identifier (members value) m n p q
+one_meaning MatchId value m n p q = one_zip identifier.IsTextOfId one_identifier (value_members value) m n p q
 one_meaning MatchType value m n p q = one_list value m n p q
-one_meaning MatchVersion value m n p q = one_zip IsPickText one_pick (members value) m n p q
+one_meaning MatchVersion value m n p q = one_zip IsPickText one_pick (value_members value) m n p q
 one_meaning MatchSpec value m n p q = one_list value m n p q
 
 pub one_wanted : (param : Param) (values : List (List ℕ)) (x y : Option (Meaning param)) → AskFor param values x → AskFor param values y → x ≡ y

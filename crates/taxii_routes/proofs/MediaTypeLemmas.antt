@@ -8,7 +8,7 @@ use Rattle.std.proofs.lemmas.List.Elements.{All-nil, All-from_get_or}
 use Rattle.std.proofs.lemmas.List.Splits.{slice_split_none, slice_split_first}
 use Rattle.std.proofs.lemmas.Str.Pattern.{IsSplitOnceResult, split_parts, split_once_first}
 use denote.Ref.{Bor}
-use Rattle.taxii_routes.specs.MediaType.{IsNamed, is_semicolon, range_of, parameters_of, NamesNoOtherVersion, IsTaxii}
+use Rattle.taxii_routes.specs.MediaType.{IsNamedRange, is_semicolon, range_of, parameters_of, NamesNoOtherVersion, IsTaxii}
 
 -- ---- at a semicolon
 
@@ -31,18 +31,18 @@ parameters_none text is =
     ap (drop 1) (slice_split_none is_semicolon text (All-from_get_or (λ b. is_semicolon b ≡ false) text 0 (λ i inside. ne_eqb (get_or text i 0) 59 (free i inside))))
 
 pub taxii_some : (text : List ℕ) (cut : Bor (List ℕ) × Bor (List ℕ)) → IsSplitOnceResult 59 text (Some cut)
-    → IsTaxii text ↔ (IsNamed (codes "application/taxii+json") cut.0.now × All NamesNoOtherVersion (slice_split is_semicolon cut.1.now))
+    → IsTaxii text ↔ (IsNamedRange (codes "application/taxii+json") cut.0.now × All NamesNoOtherVersion (slice_split is_semicolon cut.1.now))
 taxii_some text cut is =
     let range = range_some text cut is in
     let parameters = parameters_some text cut is in (
-      λ taxii. (subst (IsNamed (codes "application/taxii+json")) (sym range) taxii.name, subst (All NamesNoOtherVersion) parameters taxii.version),
-      λ (name, version). record { name = subst (IsNamed (codes "application/taxii+json")) range name; version = subst (All NamesNoOtherVersion) (sym parameters) version },
+      λ taxii. (subst (IsNamedRange (codes "application/taxii+json")) (sym range) taxii.name, subst (All NamesNoOtherVersion) parameters taxii.version),
+      λ (name, version). record { name = subst (IsNamedRange (codes "application/taxii+json")) range name; version = subst (All NamesNoOtherVersion) (sym parameters) version },
     )
 
-pub taxii_none : (text : List ℕ) → IsSplitOnceResult 59 text None → IsTaxii text ↔ IsNamed (codes "application/taxii+json") text
+pub taxii_none : (text : List ℕ) → IsSplitOnceResult 59 text None → IsTaxii text ↔ IsNamedRange (codes "application/taxii+json") text
 taxii_none text is =
     let range = range_none text is in
     let parameters = parameters_none text is in (
-      λ taxii. subst (IsNamed (codes "application/taxii+json")) (sym range) taxii.name,
-      λ name. record { name = subst (IsNamed (codes "application/taxii+json")) range name; version = subst (All NamesNoOtherVersion) (sym parameters) (All-nil NamesNoOtherVersion) },
+      λ taxii. subst (IsNamedRange (codes "application/taxii+json")) (sym range) taxii.name,
+      λ name. record { name = subst (IsNamedRange (codes "application/taxii+json")) range name; version = subst (All NamesNoOtherVersion) (sym parameters) (All-nil NamesNoOtherVersion) },
     )

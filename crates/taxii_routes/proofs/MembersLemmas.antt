@@ -5,14 +5,14 @@ use Rattle.std.specs.List.{AllZip}
 use Rattle.std.proofs.lemmas.Bool.{eqb-true, eq-eqb, false≢true}
 use Rattle.std.proofs.lemmas.List.{take_more}
 use Rattle.std.proofs.lemmas.List.Elements.{All-push}
-use Rattle.taxii_routes.specs.Value.{AreTexts, members}
+use Rattle.taxii_routes.specs.Value.{AreValueTexts, value_members}
 use denote.Ref.{Bor}
 
 -- the texts that these lend
 abbrev pub texts_of : List (Bor (List ℕ)) → List (List ℕ)
 texts_of lent = map (λ (text : Bor (List ℕ)). text.now) lent
 
--- the first so many members, each with what it means
+-- the first so many value_members, each with what it means
 zip_next : {A B : Type 0} (R : A → B → Type 0) (xs : List A) (ys : List B) (i : ℕ) (x : A) (y : B)
     → i < length xs → x ≡ get_or xs i x → AllZip R (take i xs) ys → R x y → AllZip R (take (suc i) xs) (ys ++ y ∷ [])
 zip_next R [] ys i x y inside is each more = absurd (omega arith)
@@ -37,7 +37,7 @@ zip_stops R (a ∷ xs) [] i x inside is none each = each
 zip_stops R (a ∷ xs) (b ∷ ys) zero x inside is none each = none b (subst (λ z. R z b) (sym is) each.0)
 zip_stops R (a ∷ xs) (b ∷ ys) (suc i) x inside is none each = zip_stops R xs ys i x (omega arith) is none each.1
 
--- ---- lent members
+-- ---- lent value_members
 
 length-texts_of : (items : List (Bor (List ℕ))) → length (texts_of items) ≡ length items
 length-texts_of [] = refl
@@ -55,9 +55,9 @@ at_place (x ∷ items) (suc i) inside = at_place items i (omega arith)
 within : (items : List (Bor (List ℕ))) (i : ℕ) → i < length items → i < length (texts_of items)
 within items i inside = let count = length-texts_of items in omega arith
 
--- the invariant of a loop over members
+-- the invariant of a loop over value_members
 pub record ReadsEach {B : Type 0} (R : List ℕ → B → Type 0) (value : List ℕ) (items : List (Bor (List ℕ))) (i : ℕ) (ys : List B) : Type 0 where
-  pub same : texts_of items ≡ members value
+  pub same : texts_of items ≡ value_members value
   pub each : AllZip R (take i (texts_of items)) ys
 
 pub each_next : {B : Type 0} (R : List ℕ → B → Type 0) (value : List ℕ) (items : List (Bor (List ℕ))) (old new : List B) (i : ℕ) (y : B) → ReadsEach R value items i old → i < length items
@@ -68,15 +68,15 @@ each_next R value items old new i y reads inside more is = record {
 }
 
 pub each_stops : {B : Type 0} (R : List ℕ → B → Type 0) (value : List ℕ) (items : List (Bor (List ℕ))) (old : List B) (i : ℕ) → ReadsEach R value items i old → i < length items
-    → ((y : B) → ¬ R (text_at items i) y) → (ys : List B) → ¬ AllZip R (members value) ys
+    → ((y : B) → ¬ R (text_at items i) y) → (ys : List B) → ¬ AllZip R (value_members value) ys
 each_stops R value items old i reads inside none ys each =
     zip_stops R (texts_of items) ys i (text_at items i) (within items i inside) (at_place items i inside) none (subst (λ xs. AllZip R xs ys) (sym reads.same) each)
 
--- ---- members as they are
+-- ---- value_members as they are
 
--- the first so many members, of which none is empty
+-- the first so many value_members, of which none is empty
 pub record ReadsTexts (value : List ℕ) (items : List (Bor (List ℕ))) (i : ℕ) (texts : List (List ℕ)) : Type 0 where
-  pub same : texts_of items ≡ members value
+  pub same : texts_of items ≡ value_members value
   pub some : All (λ text. text ≢ []) texts
   pub front : texts ≡ take i (texts_of items)
 
@@ -91,7 +91,7 @@ texts_next value items old new i reads inside some is = record {
 }
 
 pub texts_stop : (value : List ℕ) (items : List (Bor (List ℕ))) (old : List (List ℕ)) (i : ℕ) → ReadsTexts value items i old → i < length items → text_at items i ≡ []
-    → (texts : List (List ℕ)) → ¬ AreTexts value texts
+    → (texts : List (List ℕ)) → ¬ AreValueTexts value texts
 texts_stop value items old i reads inside empty texts are =
     let all : texts ≡ texts_of items = are.all ∙ sym reads.same in
     let there : get_or texts i (text_at items i) ≡ [] = ap (λ ts. get_or ts i (text_at items i)) all ∙ sym (at_place items i inside) ∙ empty in

@@ -10,10 +10,10 @@ use Rattle.taxii_routes.specs.declared.param.Param.TheVariants.{AddedAfter, Limi
 use Rattle.taxii_routes.specs.declared.query.Query.{Query}
 use Rattle.taxii_routes.specs.declared.refusal.QueryRefusal.{QueryRefusal}
 use Rattle.taxii_routes.specs.declared.refusal.QueryRefusal.TheVariants.{BadValue, Repeated, NoMemory}
-use Rattle.taxii_routes.specs.Param.{name_of}
-use Rattle.taxii_routes.specs.Value.{Meaning, IsValueOf, HasMeaning}
-use Rattle.taxii_routes.specs.Query.{Pair, values_of, asked, AskFor, IsQueryOf, IsBadAfter, IsRefusedAs}
-use Rattle.taxii_routes.specs.inner.Step.{Adds, CannotAdd}
+use Rattle.taxii_routes.specs.Param.{param_name}
+use Rattle.taxii_routes.specs.Value.{Meaning, IsParameterValue, HasMeaning}
+use Rattle.taxii_routes.specs.Query.{Pair, parameter_values, asked, AskFor, IsQueryOf, IsBadPairAfter, IsRefusedQuery}
+use Rattle.taxii_routes.specs.inner.Step.{AddsParameter, CannotAddParameter}
 use Rattle.taxii_routes.proofs.MeaningLemmas.{one_wanted}
 use Rattle.taxii_routes.proofs.FieldLemmas.{asked-put, asked-put_other}
 
@@ -30,7 +30,7 @@ param_of text =
     (cond (bytes_eq text (codes "match[version]")) (Some MatchVersion)
     (cond (bytes_eq text (codes "match[spec_version]")) (Some MatchSpec) None))))))
 
-param_of-name : (param : Param) → param_of (name_of param) ≡ Some param
+param_of-name : (param : Param) → param_of (param_name param) ≡ Some param
 param_of-name AddedAfter = refl
 param_of-name Limit = refl
 param_of-name Next = refl
@@ -43,21 +43,21 @@ same_some : (a b : Param) → Some a ≡ Some b → a ≡ b
 same_some a b e = cc
 
 -- two parameters have two names
-pub one_param : (a b : Param) → name_of a ≡ name_of b → a ≡ b
+pub one_param : (a b : Param) → param_name a ≡ param_name b → a ≡ b
 one_param a b same = same_some a b (sym (param_of-name a) ∙ ap param_of same ∙ param_of-name b)
 
 -- ---- values of a name
 
-values_of-append : (name : List ℕ) (xs ys : List Pair) → values_of name (xs ++ ys) ≡ values_of name xs ++ values_of name ys
+values_of-append : (name : List ℕ) (xs ys : List Pair) → parameter_values name (xs ++ ys) ≡ parameter_values name xs ++ parameter_values name ys
 values_of-append name xs ys =
     ap (map (λ (pair : Pair). pair.1)) (filter-append (λ (pair : Pair). bytes_eq pair.0 name) xs ys)
     ∙ map-append (λ (pair : Pair). pair.1) (filter (λ (pair : Pair). bytes_eq pair.0 name) xs) (filter (λ (pair : Pair). bytes_eq pair.0 name) ys)
 
-values_of-hit : (name : List ℕ) (pair : Pair) (rest : List Pair) → pair.0 ≡ name → values_of name (pair ∷ rest) ≡ pair.1 ∷ values_of name rest
+values_of-hit : (name : List ℕ) (pair : Pair) (rest : List Pair) → pair.0 ≡ name → parameter_values name (pair ∷ rest) ≡ pair.1 ∷ parameter_values name rest
 values_of-hit name pair rest same =
     ap (map (λ (pair : Pair). pair.1)) (cond-true _ _ _ ((bytes_eq-Decides pair.0 name).1 same))
 
-values_of-miss : (name : List ℕ) (pair : Pair) (rest : List Pair) → bytes_eq pair.0 name ≡ false → values_of name (pair ∷ rest) ≡ values_of name rest
+values_of-miss : (name : List ℕ) (pair : Pair) (rest : List Pair) → bytes_eq pair.0 name ≡ false → parameter_values name (pair ∷ rest) ≡ parameter_values name rest
 values_of-miss name pair rest other =
     ap (map (λ (pair : Pair). pair.1)) (cond-false _ _ _ other)
 
@@ -82,52 +82,52 @@ no_meaning param (other ∷ more) value slot bad asks = asks
 -- ---- one pair more
 
 -- a pair of another name changes nothing
-pub query_passes : (before : List Pair) (pair : Pair) (query : Query) → ((param : Param) → ¬ (pair.0 ≡ name_of param)) → IsQueryOf before query
+pub query_passes : (before : List Pair) (pair : Pair) (query : Query) → ((param : Param) → ¬ (pair.0 ≡ param_name param)) → IsQueryOf before query
     → IsQueryOf (before ++ pair ∷ []) query
-query_passes before pair query other asks = λ param. go param (bytes_eq pair.0 (name_of param)) refl
+query_passes before pair query other asks = λ param. go param (bytes_eq pair.0 (param_name param)) refl
   where
-    go : (param : Param) (v : Bool) → bytes_eq pair.0 (name_of param) ≡ v → AskFor param (values_of (name_of param) (before ++ pair ∷ [])) (asked param query)
-    go param true e = absurd (other param ((bytes_eq-Decides pair.0 (name_of param)).0 e))
+    go : (param : Param) (v : Bool) → bytes_eq pair.0 (param_name param) ≡ v → AskFor param (parameter_values (param_name param) (before ++ pair ∷ [])) (asked param query)
+    go param true e = absurd (other param ((bytes_eq-Decides pair.0 (param_name param)).0 e))
     go param false e =
         subst (λ vs. AskFor param vs (asked param query))
-        (sym (values_of-append (name_of param) before (pair ∷ []) ∙ ap (λ vs. values_of (name_of param) before ++ vs) (values_of-miss (name_of param) pair [] e) ∙ append-nil (values_of (name_of param) before)))
+        (sym (values_of-append (param_name param) before (pair ∷ []) ∙ ap (λ vs. parameter_values (param_name param) before ++ vs) (values_of-miss (param_name param) pair [] e) ∙ append-nil (parameter_values (param_name param) before)))
         (asks param)
 
 -- a pair of a parameter adds what its value means
-pub query_grows : (before : List Pair) (pair : Pair) (param : Param) (old new : Query) → pair.0 ≡ name_of param → Adds param pair.1 old new → IsQueryOf before old
+pub query_grows : (before : List Pair) (pair : Pair) (param : Param) (old new : Query) → pair.0 ≡ param_name param → AddsParameter param pair.1 old new → IsQueryOf before old
     → IsQueryOf (before ++ pair ∷ []) new
-query_grows before pair param old new named adds asks = λ other. go other (bytes_eq pair.0 (name_of other)) refl
+query_grows before pair param old new named adds asks = λ other. go other (bytes_eq pair.0 (param_name other)) refl
   where
-    none : values_of (name_of param) before ≡ []
-    none = nothing_asked param (values_of (name_of param) before) (asked param old) adds.before (asks param)
+    none : parameter_values (param_name param) before ≡ []
+    none = nothing_asked param (parameter_values (param_name param) before) (asked param old) adds.before (asks param)
 
-    here : AskFor param (values_of (name_of param) (before ++ pair ∷ [])) (asked param new)
+    here : AskFor param (parameter_values (param_name param) (before ++ pair ∷ [])) (asked param new)
     here =
         subst (λ vs. AskFor param vs (asked param new))
-        (sym (values_of-append (name_of param) before (pair ∷ []) ∙ ap (λ vs. vs ++ values_of (name_of param) (pair ∷ [])) none ∙ values_of-hit (name_of param) pair [] named))
-        (subst (λ w. IsSomeAnd w (λ meaning. IsValueOf param pair.1 meaning)) (sym (ap (asked param) adds.change ∙ asked-put param (Some adds.meaning) old)) adds.means)
+        (sym (values_of-append (param_name param) before (pair ∷ []) ∙ ap (λ vs. vs ++ parameter_values (param_name param) (pair ∷ [])) none ∙ values_of-hit (param_name param) pair [] named))
+        (subst (λ w. IsSomeAnd w (λ meaning. IsParameterValue param pair.1 meaning)) (sym (ap (asked param) adds.change ∙ asked-put param (Some adds.meaning) old)) adds.means)
 
-    go : (other : Param) (v : Bool) → bytes_eq pair.0 (name_of other) ≡ v → AskFor other (values_of (name_of other) (before ++ pair ∷ [])) (asked other new)
+    go : (other : Param) (v : Bool) → bytes_eq pair.0 (param_name other) ≡ v → AskFor other (parameter_values (param_name other) (before ++ pair ∷ [])) (asked other new)
     go other true e =
-        let same : param ≡ other = one_param param other (sym named ∙ (bytes_eq-Decides pair.0 (name_of other)).0 e) in
-        subst (λ p. AskFor p (values_of (name_of p) (before ++ pair ∷ [])) (asked p new)) same here
+        let same : param ≡ other = one_param param other (sym named ∙ (bytes_eq-Decides pair.0 (param_name other)).0 e) in
+        subst (λ p. AskFor p (parameter_values (param_name p) (before ++ pair ∷ [])) (asked p new)) same here
     go other false e =
-        let differs : other ≢ param = λ same. false≢true (sym e ∙ (bytes_eq-Decides pair.0 (name_of other)).1 (named ∙ ap name_of (sym same))) in
-        subst (λ w. AskFor other (values_of (name_of other) (before ++ pair ∷ [])) w) (sym (ap (asked other) adds.change ∙ asked-put_other param other (Some adds.meaning) old differs))
+        let differs : other ≢ param = λ same. false≢true (sym e ∙ (bytes_eq-Decides pair.0 (param_name other)).1 (named ∙ ap param_name (sym same))) in
+        subst (λ w. AskFor other (parameter_values (param_name other) (before ++ pair ∷ [])) w) (sym (ap (asked other) adds.change ∙ asked-put_other param other (Some adds.meaning) old differs))
         (subst (λ vs. AskFor other vs (asked other old))
-        (sym (values_of-append (name_of other) before (pair ∷ []) ∙ ap (λ vs. values_of (name_of other) before ++ vs) (values_of-miss (name_of other) pair [] e) ∙ append-nil (values_of (name_of other) before)))
+        (sym (values_of-append (param_name other) before (pair ∷ []) ∙ ap (λ vs. parameter_values (param_name other) before ++ vs) (values_of-miss (param_name other) pair [] e) ∙ append-nil (parameter_values (param_name other) before)))
         (asks other))
 
 -- why a pair can't be added is what is wrong with it
-pub query_stops : (before : List Pair) (pair : Pair) (param : Param) (old : Query) (refusal : QueryRefusal) → pair.0 ≡ name_of param → IsQueryOf before old
-    → CannotAdd param pair.1 old refusal → (refusal ≡ NoMemory) ⊎ IsBadAfter before pair refusal
+pub query_stops : (before : List Pair) (pair : Pair) (param : Param) (old : Query) (refusal : QueryRefusal) → pair.0 ≡ param_name param → IsQueryOf before old
+    → CannotAddParameter param pair.1 old refusal → (refusal ≡ NoMemory) ⊎ IsBadPairAfter before pair refusal
 query_stops before pair param old (Repeated name) named asks cannot = inr (
-  named ∙ ap name_of (sym cannot.0),
-  λ none. cannot.1 (subst (λ vs. AskFor param vs (asked param old)) (ap (λ n. values_of n before) (sym named) ∙ none) (asks param)),
+  named ∙ ap param_name (sym cannot.0),
+  λ none. cannot.1 (subst (λ vs. AskFor param vs (asked param old)) (ap (λ n. parameter_values n before) (sym named) ∙ none) (asks param)),
 )
 query_stops before pair param old (BadValue name) named asks cannot = inr (
-  named ∙ ap name_of (sym cannot.0),
-  ap (λ n. values_of n before) named ∙ nothing_asked param (values_of (name_of param) before) (asked param old) cannot.1 (asks param),
+  named ∙ ap param_name (sym cannot.0),
+  ap (λ n. parameter_values n before) named ∙ nothing_asked param (parameter_values (param_name param) before) (asked param old) cannot.1 (asks param),
   subst (λ p. ¬ HasMeaning p pair.1) (sym cannot.0) cannot.2,
 )
 query_stops before pair param old NoMemory named asks cannot = inl refl
@@ -135,22 +135,22 @@ query_stops before pair param old NoMemory named asks cannot = inl refl
 -- ---- laws
 
 -- no query has a bad pair
-pub bad_in_none : (before after : List Pair) (pair : Pair) (refusal : QueryRefusal) (query : Query) → IsBadAfter before pair refusal → ¬ IsQueryOf (before ++ pair ∷ after) query
+pub bad_in_none : (before after : List Pair) (pair : Pair) (refusal : QueryRefusal) (query : Query) → IsBadPairAfter before pair refusal → ¬ IsQueryOf (before ++ pair ∷ after) query
 bad_in_none before after pair (Repeated param) query bad asks =
-    too_many param (values_of (name_of param) before) (values_of (name_of param) after) pair.1 (asked param query)
-    (λ none. bad.1 (ap (λ n. values_of n before) bad.0 ∙ none))
+    too_many param (parameter_values (param_name param) before) (parameter_values (param_name param) after) pair.1 (asked param query)
+    (λ none. bad.1 (ap (λ n. parameter_values n before) bad.0 ∙ none))
     (subst (λ vs. AskFor param vs (asked param query))
-    (values_of-append (name_of param) before (pair ∷ after) ∙ ap (λ vs. values_of (name_of param) before ++ vs) (values_of-hit (name_of param) pair after bad.0))
+    (values_of-append (param_name param) before (pair ∷ after) ∙ ap (λ vs. parameter_values (param_name param) before ++ vs) (values_of-hit (param_name param) pair after bad.0))
     (asks param))
 bad_in_none before after pair (BadValue param) query bad asks =
-    no_meaning param (values_of (name_of param) after) pair.1 (asked param query) bad.2
+    no_meaning param (parameter_values (param_name param) after) pair.1 (asked param query) bad.2
     (subst (λ vs. AskFor param vs (asked param query))
-    (values_of-append (name_of param) before (pair ∷ after) ∙ ap (λ vs. vs ++ values_of (name_of param) (pair ∷ after)) (ap (λ n. values_of n before) (sym bad.0) ∙ bad.1)
-    ∙ values_of-hit (name_of param) pair after bad.0)
+    (values_of-append (param_name param) before (pair ∷ after) ∙ ap (λ vs. vs ++ parameter_values (param_name param) (pair ∷ after)) (ap (λ n. parameter_values n before) (sym bad.0) ∙ bad.1)
+    ∙ values_of-hit (param_name param) pair after bad.0)
     (asks param))
 bad_in_none before after pair NoMemory query bad asks = bad
 
-pub never_both : (pairs : List Pair) (query : Query) (refusal : QueryRefusal) → IsQueryOf pairs query → ¬ IsRefusedAs pairs refusal
+pub never_both : (pairs : List Pair) (query : Query) (refusal : QueryRefusal) → IsQueryOf pairs query → ¬ IsRefusedQuery pairs refusal
 never_both pairs query refusal asks refused =
     bad_in_none refused.before refused.after refused.pair refusal query refused.bad (subst (λ ps. IsQueryOf ps query) refused.spelling asks)
 
@@ -162,7 +162,7 @@ pub one_query : (pairs : List Pair) (a b : Query) → IsQueryOf pairs a → IsQu
 one_query pairs a b p q = same_query a b (one AddedAfter) (one Limit) (one Next) (one MatchId) (one MatchType) (one MatchVersion) (one MatchSpec)
   where
     one : (param : Param) → asked param a ≡ asked param b
-    one param = one_wanted param (values_of (name_of param) pairs) (asked param a) (asked param b) (p param) (q param)
+    one param = one_wanted param (parameter_values (param_name param) pairs) (asked param a) (asked param b) (p param) (q param)
 
 -- where two cuts of one list stand to each other: at one place, or one before the other
 abbrev Seams : List Pair → Pair → List Pair → Pair → Type 0
@@ -197,7 +197,7 @@ seams (a ∷ xs) (b ∷ ys) ps qs x y e = go (seams xs ys ps qs x y (tail a b (x
     go (inr (inl later)) = inr (inl (later.0, ap (λ c. c ∷ ys) (sym first) ∙ ap (λ zs. a ∷ zs) later.1))
     go (inr (inr later)) = inr (inr (later.0, ap (λ c. c ∷ xs) first ∙ ap (λ zs. b ∷ zs) later.1))
 
-one_bad : (before : List Pair) (pair : Pair) (a b : QueryRefusal) → IsBadAfter before pair a → IsBadAfter before pair b → a ≡ b
+one_bad : (before : List Pair) (pair : Pair) (a b : QueryRefusal) → IsBadPairAfter before pair a → IsBadPairAfter before pair b → a ≡ b
 one_bad before pair (Repeated a) (Repeated b) p q = ap Repeated (one_param a b (sym p.0 ∙ q.0))
 one_bad before pair (Repeated a) (BadValue b) p q = absurd (p.1 q.1)
 one_bad before pair (Repeated a) NoMemory p q = absurd q
@@ -206,10 +206,10 @@ one_bad before pair (BadValue a) (BadValue b) p q = ap BadValue (one_param a b (
 one_bad before pair (BadValue a) NoMemory p q = absurd q
 one_bad before pair NoMemory b p q = absurd p
 
-pub one_refusal : (pairs : List Pair) (a b : QueryRefusal) → IsRefusedAs pairs a → IsRefusedAs pairs b → a ≡ b
+pub one_refusal : (pairs : List Pair) (a b : QueryRefusal) → IsRefusedQuery pairs a → IsRefusedQuery pairs b → a ≡ b
 one_refusal pairs a b p q = go (seams p.before q.before p.after q.after p.pair q.pair (sym p.spelling ∙ q.spelling))
   where
     go : Seams p.before p.pair q.before q.pair → a ≡ b
-    go (inl same) = one_bad q.before q.pair a b (subst (λ ps. IsBadAfter ps q.pair a) same.0 (subst (λ x. IsBadAfter p.before x a) same.1 p.bad)) q.bad
+    go (inl same) = one_bad q.before q.pair a b (subst (λ ps. IsBadPairAfter ps q.pair a) same.0 (subst (λ x. IsBadPairAfter p.before x a) same.1 p.bad)) q.bad
     go (inr (inl later)) = absurd (bad_in_none p.before later.0 p.pair a q.fine.0 p.bad (subst (λ ps. IsQueryOf ps q.fine.0) later.1 q.fine.1))
     go (inr (inr later)) = absurd (bad_in_none q.before later.0 q.pair b p.fine.0 q.bad (subst (λ ps. IsQueryOf ps p.fine.0) later.1 p.fine.1))

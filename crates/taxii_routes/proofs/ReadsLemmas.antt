@@ -5,14 +5,14 @@ use Rattle.taxii_routes.specs.declared.param.Param.{Param}
 use Rattle.taxii_routes.specs.declared.query.Query.{Query}
 use Rattle.taxii_routes.specs.declared.refusal.QueryRefusal.{QueryRefusal}
 use Rattle.taxii_routes.specs.declared.refusal.QueryRefusal.TheVariants.{NoMemory}
-use Rattle.taxii_routes.specs.Param.{name_of}
-use Rattle.taxii_routes.specs.Query.{Pair, text_of, pairs_of, IsQueryOf, IsBadAfter, IsRefusedAs}
-use Rattle.taxii_routes.specs.inner.Step.{Adds, CannotAdd, Steps, Stops}
+use Rattle.taxii_routes.specs.Param.{param_name}
+use Rattle.taxii_routes.specs.Query.{Pair, decoded_text, pairs_of, IsQueryOf, IsBadPairAfter, IsRefusedQuery}
+use Rattle.taxii_routes.specs.inner.Step.{AddsParameter, CannotAddParameter, Steps, Stops}
 use Rattle.taxii_routes.proofs.FieldLemmas.{AddAnswers}
 use Rattle.taxii_routes.proofs.QueryLemmas.{query_passes, query_grows, query_stops}
 
 abbrev pub decoded : Pair → Pair
-decoded pair = (text_of pair.0, text_of pair.1)
+decoded pair = (decoded_text pair.0, decoded_text pair.1)
 
 -- the pairs up to here ask for the query, and these come yet
 pub record Reads (text : List ℕ) (left : List Pair) (query : Query) : Type 0 where
@@ -36,19 +36,19 @@ reads_on text raw left old new reads (inr (other, same)) = record {
 }
 
 pub reads_stop : (text : List ℕ) (raw : Pair) (left : List Pair) (old : Query) (refusal : QueryRefusal) → Reads text (raw ∷ left) old → Stops raw.0 raw.1 old refusal
-    → (refusal ≡ NoMemory) ⊎ IsRefusedAs (pairs_of text) refusal
+    → (refusal ≡ NoMemory) ⊎ IsRefusedQuery (pairs_of text) refusal
 reads_stop text raw left old refusal reads (inl none) = inl none
 reads_stop text raw left old refusal reads (inr (param, named, cannot)) = go (query_stops reads.done (decoded raw) param old refusal named reads.asks cannot)
   where
-    go : (refusal ≡ NoMemory) ⊎ IsBadAfter reads.done (decoded raw) refusal → (refusal ≡ NoMemory) ⊎ IsRefusedAs (pairs_of text) refusal
+    go : (refusal ≡ NoMemory) ⊎ IsBadPairAfter reads.done (decoded raw) refusal → (refusal ≡ NoMemory) ⊎ IsRefusedQuery (pairs_of text) refusal
     go (inl none) = inl none
     go (inr bad) = inr (record { before = reads.done; pair = decoded raw; after = map decoded left; spelling = reads.all; fine = (old, reads.asks); bad = bad })
 
 -- what adding a value says of the encoded pair
 pub pair_answers : (name value : List ℕ) (param : Param) (shown worth : List ℕ) (old new : Query) (answer : Result (Unit {0}) QueryRefusal)
-    → shown ≡ text_of name → worth ≡ text_of value → shown ≡ name_of param → AddAnswers param worth old new answer
+    → shown ≡ decoded_text name → worth ≡ decoded_text value → shown ≡ param_name param → AddAnswers param worth old new answer
     → OnOk answer (Steps name value old new) × IfErr answer (Stops name value old)
 pair_answers name value param shown worth old new (Ok u) same also named adds =
-    (inl (param, sym same ∙ named, subst (λ w. Adds param w old new) also adds.0), tt)
+    (inl (param, sym same ∙ named, subst (λ w. AddsParameter param w old new) also adds.0), tt)
 pair_answers name value param shown worth old new (Err e) same also named adds =
-    (tt, inr (param, sym same ∙ named, subst (λ w. CannotAdd param w old e) also adds.1))
+    (tt, inr (param, sym same ∙ named, subst (λ w. CannotAddParameter param w old e) also adds.1))

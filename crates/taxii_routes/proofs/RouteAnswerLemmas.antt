@@ -6,14 +6,14 @@ use Rattle.taxii_routes.specs.declared.route.Route.{Route}
 use Rattle.taxii_routes.specs.declared.route.Route.TheVariants as Route
 use Rattle.taxii_routes.specs.declared.endpoint.Endpoint.{Endpoint}
 use Rattle.taxii_routes.specs.declared.endpoint.Endpoint.TheVariants as Endpoint
-use Rattle.taxii_routes.specs.Route.{IsPathOf}
+use Rattle.taxii_routes.specs.Route.{IsRoutePath}
 use Rattle.taxii_routes.specs.inner.Found.{Taken, Found}
 
 -- a route of the path is answered
 abbrev pub Answers : List ℕ → Result Route NoMemory → Type 0
-Answers path answer = IfOk answer (λ route. (route ≢ Route.None) × IsPathOf path route)
+Answers path answer = IfOk answer (λ route. (route ≢ Route.None) × IsRoutePath path route)
 
-pub has_path : (path : List ℕ) (answer : Result Route NoMemory) → Answers path answer → IfOk answer (λ route. route ≢ Route.None → IsPathOf path route)
+pub has_path : (path : List ℕ) (answer : Result Route NoMemory) → Answers path answer → IfOk answer (λ route. route ≢ Route.None → IsRoutePath path route)
 has_path path (Ok route) is = λ some. is.1
 has_path path (Err e) is = is
 
@@ -32,7 +32,7 @@ pub no_some : (value : List ℕ) → ◌≡◌ {A = Option (List ℕ)} None (Som
 no_some value is = cc
 
 -- what was found is a route's path
-pub found_path : (endpoint : Endpoint) (path : List ℕ) (took : Taken) → Found endpoint path took → (route : Route) × IsPathOf path route
+pub found_path : (endpoint : Endpoint) (path : List ℕ) (took : Taken) → Found endpoint path took → (route : Route) × IsRoutePath path route
 found_path Endpoint.Discovery path took found = (Route.Discovery, found)
 found_path Endpoint.Root path took found = (Route.Root, found)
 found_path Endpoint.Status path took found = (Route.Status found.0, found.1)

@@ -6,7 +6,7 @@ use Rattle.std.proofs.lemmas.List.Elements.{All-weaker}
 use Rattle.std.proofs.lemmas.List.Splits.{slice_split_at}
 use Rattle.taxii_routes.specs.declared.route.Route.{Route}
 use Rattle.taxii_routes.specs.declared.route.Route.TheVariants.{Discovery, Root, Status, Collections, Collection, Manifest, Objects, Object, Versions}
-use Rattle.taxii_routes.specs.Route.{IsSegment, collection_path, object_path, IsPathOf}
+use Rattle.taxii_routes.specs.Route.{IsSegment, collection_path, object_path, IsRoutePath}
 
 abbrev is_slash : ℕ → Bool
 is_slash byte = byte == 47
@@ -49,7 +49,7 @@ object_parts collection object rest path is also e =
     collection_parts collection (codes "objects/" ++ (object ++ 47 ∷ rest)) path is whole
     ∙ ap (λ (parts : List (List ℕ)). [] ∷ codes "api" ∷ codes "collections" ∷ collection ∷ codes "objects" ∷ parts) (part_first object rest also)
 
-told : (path : List ℕ) (route : Route) → IsPathOf path route → route_of (parts_of path) ≡ route
+told : (path : List ℕ) (route : Route) → IsRoutePath path route → route_of (parts_of path) ≡ route
 told path Discovery is = ap (λ p. route_of (parts_of p)) is
 told path Root is = ap (λ p. route_of (parts_of p)) is
 told path (Status id) is =
@@ -62,5 +62,5 @@ told path (Object collection object) is = ap route_of (object_parts collection o
 told path (Versions collection object) is = ap route_of (object_parts collection object (codes "versions/") path is.0 is.1 is.2)
 told path Route.None is = absurd is
 
-pub one_route : (path : List ℕ) (first second : Route) → IsPathOf path first → IsPathOf path second → first ≡ second
+pub one_route : (path : List ℕ) (first second : Route) → IsRoutePath path first → IsRoutePath path second → first ≡ second
 one_route path first second p q = sym (told path first p) ∙ told path second q

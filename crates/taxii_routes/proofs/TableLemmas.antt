@@ -7,7 +7,7 @@ use Rattle.matchit.specs.Seek.{first}
 use Rattle.matchit.specs.Level.{IsText}
 use Rattle.taxii_routes.specs.declared.endpoint.Endpoint.{Endpoint}
 use Rattle.taxii_routes.specs.declared.route.Route.{Route}
-use Rattle.taxii_routes.specs.Route.{IsSegment, object_path, IsPathOf}
+use Rattle.taxii_routes.specs.Route.{IsSegment, object_path, IsRoutePath}
 use Rattle.taxii_routes.specs.inner.Table.{collections, table}
 use Rattle.taxii_routes.proofs.SeekLemmas.{IsPlain, Fits, ArePlain, FitsRow, none_fits}
 
@@ -155,7 +155,7 @@ two_paths : (w v u path id object : List ℕ) → IsText w → IsText v → IsTe
 two_paths w v u path id object text also third is_id is_object is =
     subst (λ q. Fits (w ++ 256 ∷ (v ++ 256 ∷ u)) q) (sym is) (fits_two w v u id object text also third is_id is_object)
 
-pub path_fits : (path : List ℕ) (route : Route) → IsPathOf path route → FitsSome path
+pub path_fits : (path : List ℕ) (route : Route) → IsRoutePath path route → FitsSome path
 unfolding table
 path_fits path (Route.Manifest id) is = (
   _,
@@ -204,5 +204,5 @@ path_fits path Route.Discovery is =
 path_fits path Route.None is = absurd is
 
 -- where the router finds nothing, no route has the path
-pub no_route : (path : List ℕ) → first table path ≡ None → (route : Route) → ¬ IsPathOf path route
+pub no_route : (path : List ℕ) → first table path ≡ None → (route : Route) → ¬ IsRoutePath path route
 no_route path none route is = let (k, fits) = path_fits path route is in none_fits (length path) table path (omega arith) table_plain none k fits

@@ -15,16 +15,16 @@ use Rattle.stix_times.specs.Reading as time
 use Rattle.stix_times.specs.Instant.{IsInstant}
 use Rattle.stix_times.proofs.LawLemmas.{one_instant}
 use Rattle.stix_ids.specs.declared.pick.Pick.{Pick}
-use Rattle.taxii_routes.specs.Value.{IsLimit, IsHexDigit, IsNext, IsTextOfMicros, IsPickText}
+use Rattle.taxii_routes.specs.Value.{IsLimit, IsHexDigit, IsNextCursor, IsTextOfMicros, IsPickText}
 use mir.Syntax.{w64, w128}
 use mir.Val.{SFits, of_z, to_z}
 
 -- ---- instants
 
-pub found_instant : (text : List ℕ) (answer : Result ℤ TimeRefusal) (found : Option ℤ) → IfOk answer (time.IsTextOf text)
-    → ((other : Result ℤ TimeRefusal) → time.Reads text other → other ≡ answer) → found ≡ result_ok answer → FindsExactly (time.IsTextOf text) found
-found_instant text (Ok instant) found ok only is = subst (FindsExactly (time.IsTextOf text)) (sym is) ok
-found_instant text (Err e) found ok only is = subst (FindsExactly (time.IsTextOf text)) (sym is) (λ instant named. no_error instant (only (Ok instant) named))
+pub found_instant : (text : List ℕ) (answer : Result ℤ TimeRefusal) (found : Option ℤ) → IfOk answer (time.IsTextOfInstant text)
+    → ((other : Result ℤ TimeRefusal) → time.ReadsTimestamp text other → other ≡ answer) → found ≡ result_ok answer → FindsExactly (time.IsTextOfInstant text) found
+found_instant text (Ok instant) found ok only is = subst (FindsExactly (time.IsTextOfInstant text)) (sym is) ok
+found_instant text (Err e) found ok only is = subst (FindsExactly (time.IsTextOfInstant text)) (sym is) (λ instant named. no_error instant (only (Ok instant) named))
   where
     no_error : (instant : ℤ) → ◌≡◌ {A = Result ℤ TimeRefusal} (Ok instant) (Err e) → ⊥
     no_error instant same = cc
@@ -64,8 +64,8 @@ plain_hex : (text : List ℕ) → All IsHexDigit text → 0 < length text → wi
 plain_hex text all some = without_leading_plus_none text (no_plus (get_or text 0 0) (all 0 0 some))
 
 pub found_next : {E : Type 0} (value : List ℕ) (answer : Result ℕ E) (found : Option ℕ) → length value ≡ 16 → All IsHexDigit value → ParsesUnsigned 64 16 value answer → found ≡ result_ok answer
-    → FindsExactly (IsNext value) found
-found_next {E} value answer found long all parses is = subst (FindsExactly (IsNext value)) (sym is) (go answer parses)
+    → FindsExactly (IsNextCursor value) found
+found_next {E} value answer found long all parses is = subst (FindsExactly (IsNextCursor value)) (sym is) (go answer parses)
   where
     digits : AllDigits 16 value
     digits = hex_digits value all
@@ -76,7 +76,7 @@ found_next {E} value answer found long all parses is = subst (FindsExactly (IsNe
     below : digits_value 16 value < 2 ^ 64
     below = subst (λ n. digits_value 16 value < 16 ^ n) long (digits_value-lt 16 value digits)
 
-    go : (answer : Result ℕ E) → ParsesUnsigned 64 16 value answer → FindsExactly (IsNext value) (result_ok answer)
+    go : (answer : Result ℕ E) → ParsesUnsigned 64 16 value answer → FindsExactly (IsNextCursor value) (result_ok answer)
     go (Ok n) parses = record { digits = all; long = long; number = parses.1 ∙ ap (digits_value 16) plain }
     go (Err e) parses = λ n next.
         absurd (parses (subst (λ (text : List ℕ). IsNumeral 16 text × (digits_value 16 text < 2 ^ 64)) (sym plain) ((omega arith, digits), below)))
@@ -110,7 +110,7 @@ quot_is z fits =
     ∙ to_z-of_z w128 (int_div z (pos 1000)) (quot_fits w128 z (pos 1000) fits (omega (arith, ints)))
 
 -- an instant between two microseconds has no number of them
-pub no_micros : (text : List ℕ) (z : ℤ) → SFits w128 z → time.IsTextOf text z → (rem_bits z ≡ 0 → ⊥) → (micros : ℤ) → ¬ IsTextOfMicros text micros
+pub no_micros : (text : List ℕ) (z : ℤ) → SFits w128 z → time.IsTextOfInstant text z → (rem_bits z ≡ 0 → ⊥) → (micros : ℤ) → ¬ IsTextOfMicros text micros
 no_micros text z fits named some micros other =
     let same : z ≡ pos 1000 *ℤ micros = one_instant text z (pos 1000 *ℤ micros) named other in
     let none : int_rem z (pos 1000) ≡ pos 0 = rem_none (int_div z (pos 1000)) micros (int_rem z (pos 1000)) (quot-rem z (pos 1000) ∙ same) (rem_small z) in
@@ -119,7 +119,7 @@ no_micros text z fits named some micros other =
     zero_bits : of_z w128 (pos 0) ≡ 0
     zero_bits = omega (arith, ints)
 
-pub found_micros : {E : Type 0} (text : List ℕ) (z : ℤ) (answer : Result ℤ E) (found : Option ℤ) → SFits w128 z → IsInstant z → time.IsTextOf text z → rem_bits z ≡ 0
+pub found_micros : {E : Type 0} (text : List ℕ) (z : ℤ) (answer : Result ℤ E) (found : Option ℤ) → SFits w128 z → IsInstant z → time.IsTextOfInstant text z → rem_bits z ≡ 0
     → OkIff answer (SFits w64 (quot_bits z)) (quot_bits z) → found ≡ result_ok answer → FindsExactly (IsTextOfMicros text) found
 found_micros {E = E} text z answer found fits range named none told is = subst (FindsExactly (IsTextOfMicros text)) (sym is) (go answer told)
   where
@@ -133,7 +133,7 @@ found_micros {E = E} text z answer found fits range named none told is = subst (
     small = omega (arith, ints, whole)
 
     go : (answer : Result ℤ E) → OkIff answer (SFits w64 (quot_bits z)) (quot_bits z) → FindsExactly (IsTextOfMicros text) (result_ok answer)
-    go (Ok micros) told = subst (time.IsTextOf text) (whole ∙ ap (λ q. pos 1000 *ℤ q) (sym (quot_is z fits) ∙ sym told.1)) named
+    go (Ok micros) told = subst (time.IsTextOfInstant text) (whole ∙ ap (λ q. pos 1000 *ℤ q) (sym (quot_is z fits) ∙ sym told.1)) named
     go (Err e) told = absurd (told (subst (SFits w64) (sym (quot_is z fits)) small))
 
 -- ---- picks

@@ -8,24 +8,24 @@ use Rattle.std.specs.Char.{to_ascii_lowercase}
 use Rattle.taxii_routes.specs.Value.{is_comma}
 
 -- OWS = *( SP / HTAB )
-abbrev pub is_blank : ℕ → Bool
-is_blank byte = byte == 32 || byte == 9
+abbrev pub is_optional_space : ℕ → Bool
+is_optional_space byte = byte == 32 || byte == 9
 
 -- the text without the whitespace that it begins with
 abbrev pub without_front : List ℕ → List ℕ
-without_front text = drop (prefix_len is_blank text) text
+without_front text = drop (prefix_len is_optional_space text) text
 
 -- the text without the whitespace that it ends with
 abbrev pub without_back : List ℕ → List ℕ
-without_back text = take (length text - suffix_len is_blank text) text
+without_back text = take (length text - suffix_len is_optional_space text) text
 
 -- the text without the whitespace at both ends
 abbrev pub trimmed : List ℕ → List ℕ
 trimmed text = without_back (without_front text)
 
 -- the text, trimmed, is the name, in letters of either case
-abbrev pub IsNamed : List ℕ → List ℕ → Type 0
-IsNamed name text = map to_ascii_lowercase (trimmed text) ≡ map to_ascii_lowercase name
+abbrev pub IsNamedRange : List ℕ → List ℕ → Type 0
+IsNamedRange name text = map to_ascii_lowercase (trimmed text) ≡ map to_ascii_lowercase name
 
 abbrev pub is_semicolon : ℕ → Bool
 is_semicolon byte = byte == 59
@@ -49,21 +49,21 @@ abbrev pub parameter_value : List ℕ → List ℕ
 parameter_value parameter = after_first is_equals_sign parameter
 
 -- the version 2.1, as a token or quoted
-abbrev pub IsVersion : List ℕ → Type 0
-IsVersion value = (trimmed value ≡ codes "2.1") ⊎ (trimmed value ≡ codes "\"2.1\"")
+abbrev pub IsMediaTypeVersion : List ℕ → Type 0
+IsMediaTypeVersion value = (trimmed value ≡ codes "2.1") ⊎ (trimmed value ≡ codes "\"2.1\"")
 
 -- a parameter that is named `version` says 2.1
 abbrev pub NamesNoOtherVersion : List ℕ → Type 0
-NamesNoOtherVersion parameter = IsNamed (codes "version") (parameter_name parameter) → IsVersion (parameter_value parameter)
+NamesNoOtherVersion parameter = IsNamedRange (codes "version") (parameter_name parameter) → IsMediaTypeVersion (parameter_value parameter)
 
 -- application/taxii+json, and no version but 2.1
 pub record IsTaxii (text : List ℕ) : Type 0 where
-  pub name : IsNamed (codes "application/taxii+json") (range_of text)
+  pub name : IsNamedRange (codes "application/taxii+json") (range_of text)
   pub version : All NamesNoOtherVersion (parameters_of text)
 
 -- a media range that takes in every type of which TAXII's is one
 abbrev pub IsWildcard : List ℕ → Type 0
-IsWildcard text = IsNamed (codes "*/*") (range_of text) ⊎ IsNamed (codes "application/*") (range_of text)
+IsWildcard text = IsNamedRange (codes "*/*") (range_of text) ⊎ IsNamedRange (codes "application/*") (range_of text)
 
 -- Accept = #( media-range [ weight ] ): some member of the list is TAXII's type, or a range that
 -- takes it in

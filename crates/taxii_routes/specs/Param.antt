@@ -4,11 +4,11 @@ use Rattle.taxii_routes.specs.declared.param.Param.{Param}
 use Rattle.taxii_routes.specs.declared.param.Param.TheVariants.{AddedAfter, Limit, Next, MatchId, MatchType, MatchVersion, MatchSpec}
 
 -- the name of a parameter
-abbrev pub name_of : Param → List ℕ
-name_of AddedAfter = codes "added_after"
-name_of Limit = codes "limit"
-name_of Next = codes "next"
-name_of MatchId = codes "match[id]"
-name_of MatchType = codes "match[type]"
-name_of MatchVersion = codes "match[version]"
-name_of MatchSpec = codes "match[spec_version]"
+abbrev pub param_name : Param → List ℕ
+param_name AddedAfter = codes "added_after"
+param_name Limit = codes "limit"
+param_name Next = codes "next"
+param_name MatchId = codes "match[id]"
+param_name MatchType = codes "match[type]"
+param_name MatchVersion = codes "match[version]"
+param_name MatchSpec = codes "match[spec_version]"

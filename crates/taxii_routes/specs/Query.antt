@@ -9,24 +9,24 @@ use Rattle.taxii_routes.specs.declared.param.Param.TheVariants.{AddedAfter, Limi
 use Rattle.taxii_routes.specs.declared.query.Query.{Query}
 use Rattle.taxii_routes.specs.declared.refusal.QueryRefusal.{QueryRefusal}
 use Rattle.taxii_routes.specs.declared.refusal.QueryRefusal.TheVariants.{BadValue, Repeated, NoMemory}
-use Rattle.taxii_routes.specs.Param.{name_of}
-use Rattle.taxii_routes.specs.Value.{Meaning, IsValueOf, HasMeaning}
+use Rattle.taxii_routes.specs.Param.{param_name}
+use Rattle.taxii_routes.specs.Value.{Meaning, IsParameterValue, HasMeaning}
 
 -- a name and a value
 abbrev pub Pair : Type 0
 Pair = List ℕ × List ℕ
 
 -- the text that an encoded one represents
-abbrev pub text_of : List ℕ → List ℕ
-text_of encoded = utf8_lossy (decode encoded)
+abbrev pub decoded_text : List ℕ → List ℕ
+decoded_text encoded = utf8_lossy (decode encoded)
 
 -- the pairs of a query, in order
 abbrev pub pairs_of : List ℕ → List Pair
-pairs_of query = map (λ pair. (text_of pair.0, text_of pair.1)) (raw_pairs query)
+pairs_of query = map (λ pair. (decoded_text pair.0, decoded_text pair.1)) (raw_pairs query)
 
 -- the values of the pairs of a name
-abbrev pub values_of : List ℕ → List Pair → List (List ℕ)
-values_of name pairs = map (λ pair. pair.1) (filter (λ pair. bytes_eq pair.0 name) pairs)
+abbrev pub parameter_values : List ℕ → List Pair → List (List ℕ)
+parameter_values name pairs = map (λ pair. pair.1) (filter (λ pair. bytes_eq pair.0 name) pairs)
 
 -- what a query asks for by a parameter
 abbrev pub asked : (param : Param) → Query → Option (Meaning param)
@@ -41,25 +41,25 @@ asked MatchSpec query = query.specs
 -- these values of a parameter ask for that: nothing if there is none, else what the one means
 abbrev pub AskFor : (param : Param) → List (List ℕ) → Option (Meaning param) → Type 0
 AskFor param [] slot = slot ≡ None
-AskFor param (value ∷ []) slot = IsSomeAnd slot (λ meaning. IsValueOf param value meaning)
+AskFor param (value ∷ []) slot = IsSomeAnd slot (λ meaning. IsParameterValue param value meaning)
 AskFor param (value ∷ other ∷ values) slot = ⊥
 
 -- the pairs ask for the query
 abbrev pub IsQueryOf : List Pair → Query → Type 0
-IsQueryOf pairs query = (param : Param) → AskFor param (values_of (name_of param) pairs) (asked param query)
+IsQueryOf pairs query = (param : Param) → AskFor param (parameter_values (param_name param) pairs) (asked param query)
 
 -- what is wrong with a pair after others: its parameter stood there before, or its value has no
 -- meaning
-abbrev pub IsBadAfter : List Pair → Pair → QueryRefusal → Type 0
-IsBadAfter before pair (Repeated param) = (pair.0 ≡ name_of param) × (values_of pair.0 before ≢ [])
-IsBadAfter before pair (BadValue param) = (pair.0 ≡ name_of param) × (values_of pair.0 before ≡ []) × (¬ HasMeaning param pair.1)
-IsBadAfter before pair NoMemory = ⊥
+abbrev pub IsBadPairAfter : List Pair → Pair → QueryRefusal → Type 0
+IsBadPairAfter before pair (Repeated param) = (pair.0 ≡ param_name param) × (parameter_values pair.0 before ≢ [])
+IsBadPairAfter before pair (BadValue param) = (pair.0 ≡ param_name param) × (parameter_values pair.0 before ≡ []) × (¬ HasMeaning param pair.1)
+IsBadPairAfter before pair NoMemory = ⊥
 
 -- the first bad pair: those before it are a query
-pub record IsRefusedAs (pairs : List Pair) (refusal : QueryRefusal) : Type 0 where
+pub record IsRefusedQuery (pairs : List Pair) (refusal : QueryRefusal) : Type 0 where
   pub before : List Pair
   pub pair : Pair
   pub after : List Pair
   pub spelling : pairs ≡ before ++ pair ∷ after
   pub fine : (query : Query) × IsQueryOf before query
-  pub bad : IsBadAfter before pair refusal
+  pub bad : IsBadPairAfter before pair refusal

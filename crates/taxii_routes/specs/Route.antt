@@ -19,15 +19,15 @@ abbrev pub object_path : List ℕ → List ℕ → List ℕ
 object_path collection object = collection_path collection ++ (codes "objects/" ++ object ++ codes "/")
 
 -- the path has the route: its texts stand in their places, and each is a segment
-abbrev pub IsPathOf : List ℕ → Route → Type 0
-IsPathOf path Discovery = path ≡ codes "/taxii2/"
-IsPathOf path Root = path ≡ codes "/api/"
-IsPathOf path (Status id) = IsSegment id × (path ≡ codes "/api/status/" ++ id ++ codes "/")
-IsPathOf path Collections = path ≡ codes "/api/collections/"
-IsPathOf path (Collection id) = IsSegment id × (path ≡ collection_path id)
-IsPathOf path (Manifest id) = IsSegment id × (path ≡ collection_path id ++ codes "manifest/")
-IsPathOf path (Objects id) = IsSegment id × (path ≡ collection_path id ++ codes "objects/")
-IsPathOf path (Object collection object) = IsSegment collection × IsSegment object × (path ≡ object_path collection object)
-IsPathOf path (Versions collection object) =
+abbrev pub IsRoutePath : List ℕ → Route → Type 0
+IsRoutePath path Discovery = path ≡ codes "/taxii2/"
+IsRoutePath path Root = path ≡ codes "/api/"
+IsRoutePath path (Status id) = IsSegment id × (path ≡ codes "/api/status/" ++ id ++ codes "/")
+IsRoutePath path Collections = path ≡ codes "/api/collections/"
+IsRoutePath path (Collection id) = IsSegment id × (path ≡ collection_path id)
+IsRoutePath path (Manifest id) = IsSegment id × (path ≡ collection_path id ++ codes "manifest/")
+IsRoutePath path (Objects id) = IsSegment id × (path ≡ collection_path id ++ codes "objects/")
+IsRoutePath path (Object collection object) = IsSegment collection × IsSegment object × (path ≡ object_path collection object)
+IsRoutePath path (Versions collection object) =
     IsSegment collection × IsSegment object × (path ≡ object_path collection object ++ codes "versions/")
-IsPathOf path Route.None = ⊥
+IsRoutePath path Route.None = ⊥

@@ -24,7 +24,7 @@ abbrev pub IsHexDigit : ℕ → Type 0
 IsHexDigit byte = IsAsciiDigit byte ⊎ IsInRange 97 102 byte
 
 -- sixteen hex digits in lower case
-pub record IsNext (value : List ℕ) (next : ℕ) : Type 0 where
+pub record IsNextCursor (value : List ℕ) (next : ℕ) : Type 0 where
   pub digits : All IsHexDigit value
   pub long : length value ≡ 16
   pub number : next ≡ digits_value 16 value
@@ -32,18 +32,18 @@ pub record IsNext (value : List ℕ) (next : ℕ) : Type 0 where
 abbrev pub is_comma : ℕ → Bool
 is_comma byte = byte == 44
 
--- the members of a list, between its commas
-abbrev pub members : List ℕ → List (List ℕ)
-members value = slice_split is_comma value
+-- the value_members of a list, between its commas
+abbrev pub value_members : List ℕ → List (List ℕ)
+value_members value = slice_split is_comma value
 
--- the members, of which none is empty
-pub record AreTexts (value : List ℕ) (texts : List (List ℕ)) : Type 0 where
+-- the value_members, of which none is empty
+pub record AreValueTexts (value : List ℕ) (texts : List (List ℕ)) : Type 0 where
   pub some : All (λ text. text ≢ []) texts
-  pub all : texts ≡ members value
+  pub all : texts ≡ value_members value
 
 -- the timestamp of a whole number of microseconds since 1970
 abbrev pub IsTextOfMicros : List ℕ → ℤ → Type 0
-IsTextOfMicros text micros = time.IsTextOf text (pos 1000 *ℤ micros)
+IsTextOfMicros text micros = time.IsTextOfInstant text (pos 1000 *ℤ micros)
 
 -- `last`, `first`, `all`, or a version's time
 abbrev pub IsPickText : List ℕ → Pick → Type 0
@@ -63,15 +63,15 @@ Meaning MatchVersion = List Pick
 Meaning MatchSpec = List (List ℕ)
 
 -- the text is a well-formed value of the parameter with this meaning
-abbrev pub IsValueOf : (param : Param) → List ℕ → Meaning param → Type 0
-IsValueOf AddedAfter value instant = time.IsTextOf value instant
-IsValueOf Limit value limit = IsLimit value limit
-IsValueOf Next value next = IsNext value next
-IsValueOf MatchId value ids = AllZip identifier.IsTextOf (members value) ids
-IsValueOf MatchType value kinds = AreTexts value kinds
-IsValueOf MatchVersion value picks = AllZip IsPickText (members value) picks
-IsValueOf MatchSpec value specs = AreTexts value specs
+abbrev pub IsParameterValue : (param : Param) → List ℕ → Meaning param → Type 0
+IsParameterValue AddedAfter value instant = time.IsTextOfInstant value instant
+IsParameterValue Limit value limit = IsLimit value limit
+IsParameterValue Next value next = IsNextCursor value next
+IsParameterValue MatchId value ids = AllZip identifier.IsTextOfId (value_members value) ids
+IsParameterValue MatchType value kinds = AreValueTexts value kinds
+IsParameterValue MatchVersion value picks = AllZip IsPickText (value_members value) picks
+IsParameterValue MatchSpec value specs = AreValueTexts value specs
 
 -- the text is a well-formed value of the parameter
 abbrev pub HasMeaning : Param → List ℕ → Type 0
-HasMeaning param value = (meaning : Meaning param) × IsValueOf param value meaning
+HasMeaning param value = (meaning : Meaning param) × IsParameterValue param value meaning

@@ -5,8 +5,8 @@ ghost use Rattle.taxii_routes.specs.declared.route.Route.{Route};
 ghost use Rattle.taxii_routes.specs.declared.query.Query.{Query};
 ghost use Rattle.taxii_routes.specs.declared.refusal.QueryRefusal.{QueryRefusal};
 ghost use Rattle.taxii_routes.specs.Target.{IsTargetOf};
-ghost use Rattle.taxii_routes.specs.Route.{IsPathOf};
-ghost use Rattle.taxii_routes.specs.Query.{Pair, IsQueryOf, IsRefusedAs};
+ghost use Rattle.taxii_routes.specs.Route.{IsRoutePath};
+ghost use Rattle.taxii_routes.specs.Query.{Pair, IsQueryOf, IsRefusedQuery};
 
 /// A target has one path and at most one query.
 pub fn one_target()
@@ -18,7 +18,7 @@ pub fn one_target()
 
 /// A path has at most one route.
 pub fn one_route()
-    ensures { (path : List ℕ) (first second : Route) → IsPathOf path first → IsPathOf path second
+    ensures { (path : List ℕ) (first second : Route) → IsRoutePath path first → IsRoutePath path second
         → first ≡ second }
 {}
 
@@ -30,12 +30,12 @@ pub fn one_query()
 
 /// The refusal of a list of pairs is unique.
 pub fn one_refusal()
-    ensures { (pairs : List Pair) (first second : QueryRefusal) → IsRefusedAs pairs first
-        → IsRefusedAs pairs second → first ≡ second }
+    ensures { (pairs : List Pair) (first second : QueryRefusal) → IsRefusedQuery pairs first
+        → IsRefusedQuery pairs second → first ≡ second }
 {}
 
 /// No list of pairs has both a meaning and a refusal.
 pub fn never_both()
     ensures { (pairs : List Pair) (query : Query) (refusal : QueryRefusal) → IsQueryOf pairs query
-        → ¬ IsRefusedAs pairs refusal }
+        → ¬ IsRefusedQuery pairs refusal }
 {}

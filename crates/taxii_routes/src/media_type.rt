@@ -1,6 +1,7 @@
 ghost use Rattle.std.specs.Prelude.{◌≡◌, ◌↔◌, ◌⊎◌, IsTrue, All};
 ghost use Rattle.std.specs.List.{slice_split};
-ghost use Rattle.taxii_routes.specs.MediaType.{is_semicolon, IsTaxii, IsWildcard, IsVersion};
+ghost use Rattle.taxii_routes.specs.MediaType.{is_semicolon, IsTaxii, IsWildcard};
+ghost use Rattle.taxii_routes.specs.MediaType.{IsMediaTypeVersion};
 ghost use Rattle.taxii_routes.specs.MediaType.{NamesNoOtherVersion, Accepts};
 ghost use Rattle.taxii_routes.specs.MediaType as spec;
 
@@ -55,7 +56,7 @@ fn is_version_2_1_or_absent(parameter: &str) -> bool
 
 /// Whether the value is the version 2.1, quoted or not.
 fn is_version(value: &str) -> bool
-    ensures { IsTrue result ↔ IsVersion value.now }
+    ensures { IsTrue result ↔ IsMediaTypeVersion value.now }
 {
     let value = trimmed(value);
     value == b"2.1".as_slice() || value == b"\"2.1\"".as_slice()

@@ -1,8 +1,8 @@
 ghost use Rattle.std.specs.Prelude.{◌≡◌, IfOk, map};
 ghost use Rattle.std.specs.List.{AllZip};
 ghost use Rattle.flow_values.specs.Answers.{FindsExactly};
-ghost use Rattle.stix_ids.specs.Identifier.{IsTextOf};
-ghost use Rattle.taxii_routes.specs.Value.{AreTexts, IsPickText};
+ghost use Rattle.stix_ids.specs.Identifier.{IsTextOfId};
+ghost use Rattle.taxii_routes.specs.Value.{AreValueTexts, IsPickText};
 ghost use Rattle.taxii_routes.specs.Value as spec;
 
 use crate::value::read_pick;
@@ -12,14 +12,14 @@ use stix_ids::{Id, IdRefusal, Pick, read_id};
 
 /// The comma-separated members of a list, borrowed.
 fn members(alloc: Global, value: &str) -> Result<Vec<&str>, AllocError>
-    ensures { IfOk result (λ texts. map (λ text. text.now) texts.items ≡ spec.members value.now) }
+    ensures { IfOk result (λ texts. map (λ text. text.now) texts.items ≡ spec.value_members value.now) }
 {
     value.split(',').collect(alloc)
 }
 
 /// The members of a list as owned texts, or `None` if one is empty.
 pub(crate) fn read_texts(alloc: Global, value: &str) -> Result<Option<Items<Text>>, NoMemory>
-    ensures { IfOk result (FindsExactly (AreTexts value.now)) }
+    ensures { IfOk result (FindsExactly (AreValueTexts value.now)) }
 {
     let members = members(alloc, value)?;
     let mut texts = Items::new(alloc);
@@ -34,7 +34,7 @@ pub(crate) fn read_texts(alloc: Global, value: &str) -> Result<Option<Items<Text
 
 /// The members of a list as STIX identifiers, or `None` if one is malformed.
 pub(crate) fn read_ids(alloc: Global, value: &str) -> Result<Option<Items<Id>>, NoMemory>
-    ensures { IfOk result (FindsExactly (AllZip IsTextOf (spec.members value.now))) }
+    ensures { IfOk result (FindsExactly (AllZip IsTextOfId (spec.value_members value.now))) }
 {
     let members = members(alloc, value)?;
     let mut ids = Items::new(alloc);
@@ -49,7 +49,7 @@ pub(crate) fn read_ids(alloc: Global, value: &str) -> Result<Option<Items<Id>>, 
 
 /// The member as a STIX identifier, if it is one.
 fn identifier(alloc: Global, member: &str) -> Result<Option<Id>, NoMemory>
-    ensures { IfOk result (FindsExactly (IsTextOf member.now)) }
+    ensures { IfOk result (FindsExactly (IsTextOfId member.now)) }
 {
     match read_id(alloc, member) {
         Ok(id) => Ok(Some(id)),
@@ -62,7 +62,7 @@ fn identifier(alloc: Global, member: &str) -> Result<Option<Id>, NoMemory>
 
 /// The members of a `match[version]` value, or `None` if one is malformed.
 pub(crate) fn read_picks(alloc: Global, value: &str) -> Result<Option<Items<Pick>>, NoMemory>
-    ensures { IfOk result (FindsExactly (AllZip IsPickText (spec.members value.now))) }
+    ensures { IfOk result (FindsExactly (AllZip IsPickText (spec.value_members value.now))) }
 {
     let members = members(alloc, value)?;
     let mut picks = Items::new(alloc);

@@ -1,6 +1,6 @@
 ghost use Rattle.std.specs.Prelude.{◌≡◌, ℕ, List, option_map, Some, MatchOption};
 ghost use Rattle.flow_values.specs.Answers.{FindsExactly};
-ghost use Rattle.taxii_routes.specs.Param.{name_of};
+ghost use Rattle.taxii_routes.specs.Param.{param_name};
 
 /// A query parameter (TAXII 2.1, sections 3.4 and 3.5).
 #[derive(Clone, Copy, Debug, PartialEq, Eq)]
@@ -24,7 +24,7 @@ pub enum Param {
 impl Param {
     /// The parameter's name in a query string.
     pub fn name(self) -> &'static str
-        ensures { result.now ≡ name_of self }
+        ensures { result.now ≡ param_name self }
     {
         match self {
             Param::AddedAfter => "added_after",
@@ -39,7 +39,7 @@ impl Param {
 
     /// The parameter with this name, if any.
     pub(crate) fn named(name: &str) -> Option<Param>
-        ensures { FindsExactly (λ param. name.now ≡ name_of param) result }
+        ensures { FindsExactly (λ param. name.now ≡ param_name param) result }
     {
         match name {
             "added_after" => Some(Param::AddedAfter),

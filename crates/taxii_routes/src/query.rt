@@ -2,8 +2,8 @@ ghost use Rattle.std.specs.Prelude.{◌≡◌, ◌≢◌, ◌⊎◌, ◌↔◌, 
 ghost use Rattle.std.specs.Prelude.{OnOk, MatchOption};
 ghost use Rattle.taxii_routes.specs.declared.param.Param.{Param};
 ghost use Rattle.taxii_routes.specs.declared.refusal.QueryRefusal.TheVariants as QueryRefusal;
-ghost use Rattle.taxii_routes.specs.Query.{pairs_of, asked, IsQueryOf, IsRefusedAs};
-ghost use Rattle.taxii_routes.specs.inner.Step.{Adds, CannotAdd, Steps, Stops};
+ghost use Rattle.taxii_routes.specs.Query.{pairs_of, asked, IsQueryOf, IsRefusedQuery};
+ghost use Rattle.taxii_routes.specs.inner.Step.{AddsParameter, CannotAddParameter, Steps, Stops};
 
 use crate::members::{read_ids, read_picks, read_texts};
 use crate::value::{read_instant, read_limit, read_next};
@@ -39,7 +39,7 @@ pub struct Query {
 pub fn read_query(alloc: Global, text: &str) -> Result<Query, QueryRefusal>
     ensures ok { IfOk result (IsQueryOf (pairs_of text.now)) }
     ensures err { IfErr result
-        (λ refusal. (refusal ≡ QueryRefusal.NoMemory) ⊎ IsRefusedAs (pairs_of text.now) refusal) }
+        (λ refusal. (refusal ≡ QueryRefusal.NoMemory) ⊎ IsRefusedQuery (pairs_of text.now) refusal) }
 {
     let mut query = Query::new();
     for (name, value) in raw_pairs(text.as_bytes()) {
@@ -96,8 +96,8 @@ impl Query {
 
     /// Parses a value, and stores it under its parameter.
     fn add(&mut self, alloc: Global, param: Param, value: &str) -> Result<(), QueryRefusal>
-        ensures ok { OnOk result (Adds param value.now self.old self.new) }
-        ensures err { IfErr result (CannotAdd param value.now self.old) }
+        ensures ok { OnOk result (AddsParameter param value.now self.old self.new) }
+        ensures err { IfErr result (CannotAddParameter param value.now self.old) }
     {
         if self.has(param) {
             return Err(QueryRefusal::Repeated { name: param });

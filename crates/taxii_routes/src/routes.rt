@@ -3,8 +3,8 @@
 ghost use Rattle.std.specs.Prelude.{◌≡◌, ◌≢◌, ℕ, List, [], Ok, IfOk, OnOk, OnErr};
 ghost use Rattle.taxii_routes.specs.declared.route.Route.{Route};
 ghost use Rattle.taxii_routes.specs.declared.route.Route.TheVariants as Route;
-ghost use Rattle.taxii_routes.specs.Route.{IsPathOf};
-ghost use Rattle.taxii_routes.specs.inner.Found.{taken, Takes, Found};
+ghost use Rattle.taxii_routes.specs.Route.{IsRoutePath};
+ghost use Rattle.taxii_routes.specs.inner.Found.{taken, RepresentsParameter, Found};
 ghost use Rattle.taxii_routes.specs.inner.Table.{table};
 
 use crate::Route;
@@ -34,9 +34,9 @@ impl Routes {
     /// has a route but its segments could not be copied, so a wrong path is reported even when out
     /// of memory.
     pub fn route(&self, path: &str) -> Result<Route, NoMemory>
-        ensures found { IfOk result (λ route. route ≢ Route.None → IsPathOf path.now route) }
-        ensures none { result ≡ Ok Route.None → (route : Route) → ¬ IsPathOf path.now route }
-        ensures err { OnErr result ((route : Route) × IsPathOf path.now route) }
+        ensures found { IfOk result (λ route. route ≢ Route.None → IsRoutePath path.now route) }
+        ensures none { result ≡ Ok Route.None → (route : Route) → ¬ IsRoutePath path.now route }
+        ensures err { OnErr result ((route : Route) × IsRoutePath path.now route) }
     {
         match self.router.at(path) {
             Ok(found) => self.named(*found.value, &found.params),
@@ -47,7 +47,7 @@ impl Routes {
     /// The route of an endpoint with its path parameters.
     fn named(&self, endpoint: Endpoint, params: &Params<'_, '_>) -> Result<Route, NoMemory>
         ensures { (path : List ℕ) → Found endpoint path (taken params.now)
-            → IfOk result (λ route. (route ≢ Route.None) × IsPathOf path route) }
+            → IfOk result (λ route. (route ≢ Route.None) × IsRoutePath path route) }
     {
         match endpoint {
             Endpoint::Discovery => Ok(Route::Discovery),
@@ -72,7 +72,7 @@ impl Routes {
 
     /// The path parameter with this name.
     fn text(&self, params: &Params<'_, '_>, name: &str) -> Result<Text, NoMemory>
-        ensures { (value : List ℕ) → Takes (taken params.now) name.now value
+        ensures { (value : List ℕ) → RepresentsParameter (taken params.now) name.now value
             → IfOk result (λ text. text ≡ value) }
     {
         match params.get(name) {

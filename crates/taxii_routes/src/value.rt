@@ -1,7 +1,8 @@
 ghost use Rattle.std.specs.Prelude.{◌↔◌, IsTrue, All};
 ghost use Rattle.flow_values.specs.Answers.{FindsExactly};
 ghost use Rattle.stix_times.specs.Reading as time;
-ghost use Rattle.taxii_routes.specs.Value.{IsLimit, IsNext, IsHexDigit, IsPickText, IsTextOfMicros};
+ghost use Rattle.taxii_routes.specs.Value.{IsLimit, IsNextCursor, IsHexDigit, IsPickText};
+ghost use Rattle.taxii_routes.specs.Value.{IsTextOfMicros};
 
 use stix_ids::Pick;
 use stix_times::{Instant, nanos, read};
@@ -16,7 +17,7 @@ const NANOS_PER_MICRO: i128 = 1000;
 
 /// Parses a timestamp.
 pub(crate) fn read_instant(value: &str) -> Option<Instant>
-    ensures { FindsExactly (time.IsTextOf value.now) result }
+    ensures { FindsExactly (time.IsTextOfInstant value.now) result }
 {
     read(value).ok()
 }
@@ -37,7 +38,7 @@ pub(crate) fn read_limit(value: &str) -> Option<u64>
 
 /// Parses a cursor: 16 lower-case hexadecimal digits.
 pub(crate) fn read_next(value: &str) -> Option<u64>
-    ensures { FindsExactly (IsNext value.now) result }
+    ensures { FindsExactly (IsNextCursor value.now) result }
 {
     if value.len() != NEXT_LENGTH || !has_hex_digits(value) {
         return None;

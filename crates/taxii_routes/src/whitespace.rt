@@ -1,5 +1,5 @@
 ghost use Rattle.std.specs.Prelude.{◌≡◌, ◌↔◌, IsTrue};
-ghost use Rattle.taxii_routes.specs.MediaType.{IsNamed};
+ghost use Rattle.taxii_routes.specs.MediaType.{IsNamedRange};
 ghost use Rattle.taxii_routes.specs.MediaType as spec;
 
 /// The text without leading and trailing spaces and tabs.
@@ -11,7 +11,7 @@ pub(crate) fn trimmed(text: &str) -> &[u8]
 
 /// Whether the trimmed text equals the name, ignoring ASCII case.
 pub(crate) fn is_named(text: &str, name: &str) -> bool
-    ensures { IsTrue result ↔ IsNamed name.now text.now }
+    ensures { IsTrue result ↔ IsNamedRange name.now text.now }
 {
     trimmed(text).eq_ignore_ascii_case(name.as_bytes())
 }

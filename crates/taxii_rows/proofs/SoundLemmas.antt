@@ -18,7 +18,7 @@ use Rattle.taxii_rows.specs.declared.described.Described.{Described}
 use Rattle.taxii_rows.specs.declared.type_set.TypeSet.{TypeSet}
 use Rattle.taxii_rows.specs.declared.type_set.TypeSet.TheVariants.{Second}
 use Rattle.taxii_rows.specs.Version.{HasVersion, IsUndated}
-use Rattle.taxii_rows.specs.Described.{IsDescribed, row_of}
+use Rattle.taxii_rows.specs.Described.{IsDescribed, stored_row_of}
 use Rattle.taxii_rows.specs.SoundRow.{FitsUnder, Fits, IsRowOf, IsSoundRow}
 use Rattle.taxii_rows.proofs.VersionLemmas.{OneVersion, undated, never_dated}
 
@@ -103,7 +103,7 @@ fits_by set d date None none = (undated set d none, refl)
 
 -- the row of what is kept of an object is sound
 pub described_is_sound : (object : Json) (described : Described) (date collection : ℕ) → IsDescribed (data_of object) described → IsJsonOf described.body object
-    → IsSoundRow (row_of described date collection)
+    → IsSoundRow (stored_row_of described date collection)
 described_is_sound object described date collection is reads = record {
   object = object;
   reads = reads;

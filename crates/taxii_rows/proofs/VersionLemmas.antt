@@ -4,7 +4,7 @@ use Rattle.std.specs.Prelude.{codes}
 use Rattle.std.proofs.lemmas.Int.{ints}
 use Rattle.flow_values.specs.Answers.{FindsExactly}
 use Rattle.serde_json.specs.Data.{Data}
-use Rattle.stix_json.specs.Properties.{text_at}
+use Rattle.stix_json.specs.Properties.{property_text}
 use Rattle.stix_objects.specs.declared.groups.Group.{Group}
 use Rattle.stix_objects.specs.declared.groups.Group.TheVariants.{Domain, Marking, Observable, Other}
 use Rattle.taxii_rows.specs.declared.type_set.TypeSet.{TypeSet}
@@ -51,14 +51,14 @@ version_at set d version time is versioned observable = record { versioned = ver
 pub no_version : (set : TypeSet) (d : Data) → FindsExactly (IsVersionTime d) None → (version : ℤ) → ¬ HasVersion set d version
 no_version set d none version has = none (version *ℤ pos 1000) has.time
 
-by_group : (set : TypeSet) (d : Data) (kind : List ℕ) (group : Group) → text_at (codes "type") d ≡ Some kind → group_under set kind ≡ group
+by_group : (set : TypeSet) (d : Data) (kind : List ℕ) (group : Group) → property_text (codes "type") d ≡ Some kind → group_under set kind ≡ group
     → IsObservableOf set d ⊎ (¬ IsObservableOf set d)
 by_group set d kind Observable there is = inl (kind, there, is)
 by_group set d kind Domain there is = inr (λ own. let same : kind ≡ own.0 = (let e = own.1 in cc) in let other : Domain ≡ Observable = sym is ∙ ap (group_under set) same ∙ own.2 in absurd (cc))
 by_group set d kind Marking there is = inr (λ own. let same : kind ≡ own.0 = (let e = own.1 in cc) in let other : Marking ≡ Observable = sym is ∙ ap (group_under set) same ∙ own.2 in absurd (cc))
 by_group set d kind Other there is = inr (λ own. let same : kind ≡ own.0 = (let e = own.1 in cc) in let other : Other ≡ Observable = sym is ∙ ap (group_under set) same ∙ own.2 in absurd (cc))
 
-by_type : (set : TypeSet) (d : Data) (type : Option (List ℕ)) → text_at (codes "type") d ≡ type → IsObservableOf set d ⊎ (¬ IsObservableOf set d)
+by_type : (set : TypeSet) (d : Data) (type : Option (List ℕ)) → property_text (codes "type") d ≡ type → IsObservableOf set d ⊎ (¬ IsObservableOf set d)
 by_type set d (Some kind) is = by_group set d kind (group_under set kind) is refl
 by_type set d None is = inr (λ own. let e = own.1 in absurd (cc))
 
@@ -75,7 +75,7 @@ no_time set d none versioned =
 -- without a version an object is undated
 pub undated : (set : TypeSet) (d : Data) → ((version : ℤ) → ¬ HasVersion set d version) → IsUndated set d
 undated set d none =
-    elim (by_type set d (text_at (codes "type") d) refl) [
+    elim (by_type set d (property_text (codes "type") d) refl) [
       | inl is ↦ inl is
       | inr versioned ↦ inr (no_time set d none versioned)
     ]

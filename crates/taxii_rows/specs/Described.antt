@@ -21,8 +21,8 @@ abbrev pub Describes : Data → Option Described → Type 0
 Describes d found = MatchOption found ((id : Id) → ¬ HasId d id) (IsDescribed d)
 
 -- the row of an object in a collection, added then: an undated object has its date as its version
-abbrev pub row_of : Described → ℕ → ℕ → StoredRow
-row_of described date collection = record {
+abbrev pub stored_row_of : Described → ℕ → ℕ → StoredRow
+stored_row_of described date collection = record {
   date = date;
   collection = collection;
   id = described.id;

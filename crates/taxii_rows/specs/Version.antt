@@ -3,7 +3,7 @@
 -- none (STIX 2.1, section 6), nor has an object without both.
 use Rattle.std.specs.Prelude.{◌≡◌, ◌⊎◌, ℕ, ℤ, pos, ◌*ℤ◌, List, Some, codes}
 use Rattle.serde_json.specs.Data.{Data}
-use Rattle.stix_json.specs.Properties.{text_at}
+use Rattle.stix_json.specs.Properties.{property_text}
 use Rattle.stix_objects.specs.declared.groups.Group.{Group}
 use Rattle.stix_objects.specs.declared.groups.Group.TheVariants.{Observable}
 use Rattle.stix_objects.specs.declared.form.Precision.TheVariants.{Millis}
@@ -20,7 +20,7 @@ group_under Second kind = group_of kind
 
 -- its type is that of an observable of the set
 abbrev pub IsObservableOf : TypeSet → Data → Type 0
-IsObservableOf set d = (kind : List ℕ) × (text_at (codes "type") d ≡ Some kind) × (group_under set kind ≡ Observable)
+IsObservableOf set d = (kind : List ℕ) × (property_text (codes "type") d ≡ Some kind) × (group_under set kind ≡ Observable)
 
 -- the property is a timestamp of that instant, to the millisecond at least
 abbrev pub IsTimeAt : List ℕ → Data → ℤ → Type 0

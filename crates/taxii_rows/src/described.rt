@@ -2,9 +2,9 @@ ghost use Rattle.std.specs.Prelude.{◌≡◌, ◌≤◌, ℕ, None, Ok, IfOk, I
 ghost use Rattle.stix_ids.specs.declared.id.Id.{Id as Identifier};
 ghost use Rattle.stix_json.specs.DataOf.{data_of};
 ghost use Rattle.stix_json.specs.Ordered.{IsOrdered};
-ghost use Rattle.stix_json.specs.Refusal.{refusal_of};
+ghost use Rattle.stix_json.specs.Refusal.{data_refusal};
 ghost use Rattle.stix_objects.specs.Properties.{HasId};
-ghost use Rattle.taxii_rows.specs.Described.{Describes, row_of};
+ghost use Rattle.taxii_rows.specs.Described.{Describes, stored_row_of};
 ghost use Rattle.taxii_rows.specs.SoundRow.{IsSoundRow};
 
 use crate::{LAST_DATE, StoredRow, TypeSet, version_of};
@@ -33,8 +33,8 @@ pub fn describe(alloc: Global, object: &Json) -> Result<Option<Described>, NoMem
     ensures unnamed { ((id : Identifier) → ¬ HasId (data_of object.now) id) → result ≡ Ok None }
     // `refusal_of .. ≡ None` means that the reader accepts the object
     ensures sound { IfOk result
-        (λ found. IfSome found (λ described. refusal_of (data_of object.now) ≡ None
-        → (date collection : ℕ) → IsSoundRow (row_of described date collection))) }
+        (λ found. IfSome found (λ described. data_refusal (data_of object.now) ≡ None
+        → (date collection : ℕ) → IsSoundRow (stored_row_of described date collection))) }
 {
     let Some(parts) = object_id(object) else {
         return Ok(None);
@@ -56,7 +56,7 @@ impl Described {
     /// that date.
     pub fn into_row(self, date: u64, collection: u128) -> StoredRow
         requires { date ≤ LAST_DATE }
-        ensures { result ≡ row_of self date collection }
+        ensures { result ≡ stored_row_of self date collection }
     {
         let dated = self.version.is_some();
         let version = self.version.unwrap_or(date as i64);

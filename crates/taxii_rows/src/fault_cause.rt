@@ -1,5 +1,5 @@
 ghost use Rattle.std.specs.Prelude.{◌≡◌};
-ghost use Rattle.taxii_rows.specs.Causes.{text_of};
+ghost use Rattle.taxii_rows.specs.Causes.{cause_text};
 
 /// Why a keeper failed, as far as it knows.
 #[derive(Clone, Copy, Debug, PartialEq, Eq)]
@@ -41,7 +41,7 @@ pub enum FaultCause {
 impl FaultCause {
     /// The cause as a clause whose subject is the store, for error messages.
     pub fn text(self) -> &'static str
-        ensures { result.now ≡ text_of self }
+        ensures { result.now ≡ cause_text self }
     {
         match self {
             FaultCause::NotKnown => "no cause is known",

@@ -12,7 +12,7 @@ use Rattle.taxii_server.specs.declared.connection.TheConstants.{MAX_REQUESTS}
 use Rattle.taxii_server.specs.Environment.{LinkView, Environment, GivesMoments, HasIncreasedBy}
 use Rattle.taxii_server.specs.Connections.{Connection, Pass, keeper_faults}
 use Rattle.taxii_server.specs.declared.served.Served.{Served}
-use Rattle.taxii_server.specs.Serving.{Client, exchanges_of, HaveConnections, PassThrough}
+use Rattle.taxii_server.specs.Serving.{Client, exchanges_of, HaveConnections, PassThroughDoor}
 use Rattle.taxii_server.specs.inner.Serving.{ServesClient, SoFar}
 
 -- ---- connections
@@ -95,7 +95,7 @@ no_pass environment = record {
 some_is : {A : Type 0} (a b : A) → Some a ≡ Some b → a ≡ b
 some_is a b is = cc
 
-listens_through : {L : Type 0} (port : ℕ) (before now : Option (DoorState L)) → Listens port before now → PassThrough port [] before now
+listens_through : {L : Type 0} (port : ℕ) (before now : Option (DoorState L)) → Listens port before now → PassThroughDoor port [] before now
 listens_through port None now listens = listens
 listens_through port (Some state) now listens = (
   listens.0,
@@ -111,8 +111,8 @@ listens_through port (Some state) now listens = (
 
 -- a link that was given and handed back, where the door tells
 told_through : {L : Type 0} (port : ℕ) (clients : List (Client L)) (client : Client L) (before state given now : DoorState L)
-    → PassThrough port clients (Some before) (Some state) → GivesNext (Some client.given) (Some state) (Some given) → Finishes client.finished (Some given) (Some now)
-    → PassThrough port (clients ++ (client ∷ [])) (Some before) (Some now)
+    → PassThroughDoor port clients (Some before) (Some state) → GivesNext (Some client.given) (Some state) (Some given) → Finishes client.finished (Some given) (Some now)
+    → PassThroughDoor port (clients ++ (client ∷ [])) (Some before) (Some now)
 told_through {L} port clients client before state given now through gives back =
     let a = through.2 in let b = gives.2 in let d = back.2 in
     let is_state : state ≡ through.0 = some_is _ _ through.1 in
@@ -140,18 +140,18 @@ told_through {L} port clients client before state given now through gives back =
     )
 
 through_one_more : {L : Type 0} (port : ℕ) (clients : List (Client L)) (client : Client L) (before state given now : Option (DoorState L))
-    → PassThrough port clients before state → GivesNext (Some client.given) state given → Finishes client.finished given now
-    → PassThrough port (clients ++ (client ∷ [])) before now
+    → PassThroughDoor port clients before state → GivesNext (Some client.given) state given → Finishes client.finished given now
+    → PassThroughDoor port (clients ++ (client ∷ [])) before now
 through_one_more port clients client None state given now through gives back =
     let gives_none = subst (λ s. GivesNext (Some client.given) s given) through gives in
     subst (λ s. Finishes client.finished s now) gives_none back
 through_one_more port clients client (Some before) state given now through gives back =
     let gives_some = subst (λ s. GivesNext (Some client.given) s given) through.1 gives in
     let back_some = subst (λ s. Finishes client.finished s now) gives_some.1 back in
-    let through_some = subst (λ s. PassThrough port clients (Some before) s) through.1 through in
+    let through_some = subst (λ s. PassThroughDoor port clients (Some before) s) through.1 through in
     let gives_both = subst (λ s. GivesNext (Some client.given) (Some through.0) s) gives_some.1 gives_some in
     let back_both = subst (λ s. Finishes client.finished (Some gives_some.0) s) back_some.1 back_some in
-    subst (λ s. PassThrough port (clients ++ (client ∷ [])) (Some before) s) (sym back_some.1)
+    subst (λ s. PassThroughDoor port (clients ++ (client ∷ [])) (Some before) s) (sym back_some.1)
     (told_through port clients client before through.0 gives_some.0 back_some.0 through_some gives_both back_both)
 
 -- ---- all of it

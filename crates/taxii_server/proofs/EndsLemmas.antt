@@ -10,11 +10,11 @@ use Rattle.taxii_server.specs.declared.link_end.LinkEnd.{LinkEnd}
 use Rattle.taxii_server.specs.declared.link_end.LinkEnd.TheVariants.{Closed, LinkFault}
 use Rattle.taxii_server.specs.declared.receive_end.ReceiveEnd.{ReceiveEnd}
 use Rattle.taxii_server.specs.declared.receive_end.ReceiveEnd.TheVariants.{AtEnd, Refused, NoMemory, Failed}
-use Rattle.taxii_server.specs.Connections.{IsQuiet, IsClosingAnswer, Ends, Connection, Pass, Reply, replies_within, RepliesInTime, requests_of}
+use Rattle.taxii_server.specs.Connections.{IsQuiet, IsClosingAnswer, EndsConnection, Connection, Pass, Reply, replies_within, RepliesInTime, requests_of}
 use Rattle.taxii_server.specs.declared.connection.TheConstants.{MAX_REQUESTS}
 use Rattle.taxii_server.specs.Environment.{LinkView, Environment}
 use Rattle.taxii_server.specs.inner.Answering.{IsClosing, SaysClosingAnswer, WritesClosingAnswer}
-use Rattle.taxii_server.specs.inner.Receiving.{StopsReceivingAt, IsInTime}
+use Rattle.taxii_server.specs.inner.Receiving.{StopsReceivingAt, IsReceivedInTime}
 use Rattle.taxii_server.proofs.RepliesLemmas.{replies-next, replies-count, writes-next, end-next, cuts-next}
 use Rattle.taxii_server.proofs.TakesLemmas.{replies-in-time}
 use Rattle.taxii_server.proofs.SoFarLemmas.{HasAnswered, SoFar, IsNextAnswer, answered-next, next_reply, next_reply-closes}
@@ -45,7 +45,7 @@ Finishes config before environment link end now environment_now link_now =
 finishes : {config : Config} {before : State} {environment : Environment} {rest : List ℕ} {requests : ℕ} {now : State} {environment_now : Environment}
     {left_now : Option (List ℕ)} {exchanges : List Exchange} (link link_now : LinkView) (closing_answer : Option Answer) (end : LinkEnd)
     → HasAnswered config before environment link.left rest requests now environment_now left_now exchanges
-    → link_now.left ≡ left_now → requests_of end ≡ requests → IsClosingAnswer rest closing_answer → Ends end link link_now rest exchanges closing_answer
+    → link_now.left ≡ left_now → requests_of end ≡ requests → IsClosingAnswer rest closing_answer → EndsConnection end link link_now rest exchanges closing_answer
     → Finishes config before environment link end now environment_now link_now
 finishes {rest = rest} {exchanges = exchanges} link link_now closing_answer end has same count closing_answer_is ends = (
   exchanges,
@@ -65,7 +65,7 @@ finishes {rest = rest} {exchanges = exchanges} link link_now closing_answer end 
 
 -- one reply more is due than requests were answered
 one-more-in-time : (link link_then : LinkView) (exchanges : List Exchange) (reply : Reply) (requests : ℕ) → length exchanges ≡ requests
-    → IsInTime link.left link_then.left link_then.began requests → RepliesInTime link link_then (replies_within MAX_REQUESTS exchanges ++ reply ∷ [])
+    → IsReceivedInTime link.left link_then.left link_then.began requests → RepliesInTime link link_then (replies_within MAX_REQUESTS exchanges ++ reply ∷ [])
 one-more-in-time link link_then exchanges reply requests count in_time =
     let many = length-append (replies_within MAX_REQUESTS exchanges) (reply ∷ []) in
     replies-in-time link link_then _ requests (omega (arith, many, replies-count MAX_REQUESTS exchanges, count)) in_time
@@ -93,7 +93,7 @@ finishes-saying : {T E : Type 0} {config : Config} {before : State} {environment
     {environment_now : Environment} {left_now written_now : Option (List ℕ)} (link_then : LinkView) (receive_end : ReceiveEnd) (answer : Answer) (last : Result T E) (end : LinkEnd)
     → SoFar config before environment link rest requests now environment_now left_now written_now → link_then.left ≡ left_now
     → IsClosingAnswer rest (Some answer) → SaysClosingAnswer receive_end (Some answer) written_now link_then.written last → (IsErr last → HasIncreased link.write_faults link_then.write_faults)
-    → IsInTime link.left link_then.left link_then.began requests → ((closed : ℕ) → end ≡ Closed closed → IsQuiet link link_then)
+    → IsReceivedInTime link.left link_then.left link_then.began requests → ((closed : ℕ) → end ≡ Closed closed → IsQuiet link link_then)
     → MatchResult last (λ _. end ≡ Closed requests) (λ _. end ≡ LinkFault requests) → Finishes config before environment link end now environment_now link_then
 finishes-saying {link = link} {requests = requests} link_then receive_end answer (Ok done) end so_far same closing_answer (text, its, says) rose in_time quiet is =
     rw is (finishes link link_then (Some answer) (Closed requests) so_far.answered same refl closing_answer
@@ -109,7 +109,7 @@ pub finishes-leave : {T E : Type 0} {config : Config} {before : State} {environm
     → SoFar config before environment link rest requests now environment_now left_now written_now → link_then.left ≡ left_now
     → StopsReceivingAt rest left_now link.read_faults link_then.read_faults receive_end → WritesClosingAnswer receive_end written_now link_then.written last
     → (receive_end ≢ Failed → (IsErr last → HasIncreased link.write_faults link_then.write_faults))
-    → IsInTime link.left link_then.left link_then.began requests → ((closed : ℕ) → end ≡ Closed closed → IsQuiet link link_then)
+    → IsReceivedInTime link.left link_then.left link_then.began requests → ((closed : ℕ) → end ≡ Closed closed → IsQuiet link link_then)
     → MatchResult last (λ _. end ≡ Closed requests) (λ _. end ≡ LinkFault requests) → Finishes config before environment link end now environment_now link_then
 finishes-leave {config = config} {before = before} {environment = environment} {link = link} {rest = rest} {now = now} {environment_now = environment_now} {left_now = left_now} {written_now = written_now}
     link_then receive_end last end so_far same pauses takes rose in_time quiet is = go takes.closing_answer takes.leave takes.says
@@ -153,7 +153,7 @@ pub finishes-cut : {E : Type 0} {config : Config} {before : State} {environment 
     {now state_then : State} {environment_now environment_then : Environment} {left_now written_now : Option (List ℕ)} {fault : E} (link_then : LinkView)
     → SoFar config before environment link rest requests now environment_now left_now written_now
     → IsNextAnswer config rest after requests now environment_now written_now (Err fault) state_then environment_then link_then.written
-    → link_then.left ≡ left_now → HasIncreased link.write_faults link_then.write_faults → IsInTime link.left link_then.left link_then.began requests
+    → link_then.left ≡ left_now → HasIncreased link.write_faults link_then.write_faults → IsReceivedInTime link.left link_then.left link_then.began requests
     → Finishes config before environment link (LinkFault (requests + 1)) state_then environment_then link_then
 finishes-cut {link = link} {requests = requests} link_then so_far next same rose in_time =
     let reply = next_reply so_far.exchanges next.answers.exchange in

@@ -15,7 +15,7 @@ use Rattle.taxii_service.specs.Step.{Step, FailsToKeep}
 use Rattle.taxii_service.specs.Exchanges.{Course, IsExchange}
 use Rattle.taxii_service.specs.Exchanges.Course.{Stepped, KeeperFailed, OutOfMemory}
 use Rattle.taxii_server.specs.Environment.{Environment, GivesMoments}
-use Rattle.taxii_server.specs.Connections.{Pass, is_out_of_memory}
+use Rattle.taxii_server.specs.Connections.{Pass, ends_out_of_memory}
 use Rattle.taxii_server.specs.inner.Answering.{Answers}
 
 -- the next moment alone
@@ -34,7 +34,7 @@ Writes close text written now result =
 -- an exchange, with what it asks of the clock and of the keeper
 pub record Exchanged (config : Config) (before : State) (moment : ℕ) (request : Request) (environment now : Environment) (out_of_memory : Bool) (answer : Answer) (after : State) : Type 0 where
   pub course : Course
-  pub memory : is_out_of_memory course ≡ out_of_memory
+  pub memory : ends_out_of_memory course ≡ out_of_memory
   pub its : IsExchange config (record { before = before; moment = moment; request = request; course = course; answer = answer; after = after })
   pub passes : Pass (record { before = before; moment = moment; request = request; course = course; answer = answer; after = after } ∷ []) environment now
 

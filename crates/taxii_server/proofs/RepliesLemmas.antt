@@ -5,11 +5,11 @@ use Rattle.std.proofs.lemmas.List.{append-nil}
 use Rattle.flow_edges.specs.Flow.{written_with, WritesPart}
 use Rattle.taxii_exchange.specs.Answers.{IsAnswerText}
 use Rattle.taxii_service.specs.Exchanges.{Exchange}
-use Rattle.taxii_server.specs.Connections.{Reply, is_out_of_memory, replies_within, Continue, End, AreTexts, WritesReplies, CutsReplies}
+use Rattle.taxii_server.specs.Connections.{Reply, ends_out_of_memory, replies_within, KeepConnection, End, IsTextOfReplies, WritesReplies, CutsReplies}
 
 -- the reply to an exchange before which so many may be given
 abbrev pub reply_within : ℕ → Exchange → Reply
-reply_within left e = record { answer = e.answer; close = e.request.close || is_out_of_memory e.course || nat_eq left 1 }
+reply_within left e = record { answer = e.answer; close = e.request.close || ends_out_of_memory e.course || nat_eq left 1 }
 
 pub replies-next : (left : ℕ) (exchanges : List Exchange) (e : Exchange)
     → replies_within left (exchanges ++ e ∷ []) ≡ replies_within left exchanges ++ reply_within (left - length exchanges) e ∷ []
@@ -26,12 +26,12 @@ replies-count left (first ∷ exchanges) = ap suc (replies-count (left - 1) exch
 pub last-within : (most requests : ℕ) → requests < most → nat_eq (most - requests) 1 ≡ nat_eq (requests + 1) most
 last-within most requests few = grind (arith, nat_tests)
 
-pub proceed-next : (replies : List Reply) (reply : Reply) → Continue replies → reply.close ≡ false → Continue (replies ++ reply ∷ [])
+pub proceed-next : (replies : List Reply) (reply : Reply) → KeepConnection replies → reply.close ≡ false → KeepConnection (replies ++ reply ∷ [])
 proceed-next [] reply proceed stays = (stays, tt)
 proceed-next (first ∷ replies) reply (its, proceed) stays = (its, proceed-next replies reply proceed stays)
 
-texts-next : (replies : List Reply) (reply : Reply) (text more : List ℕ) → AreTexts replies text → IsAnswerText reply.answer reply.close more
-    → AreTexts (replies ++ reply ∷ []) (text ++ more)
+texts-next : (replies : List Reply) (reply : Reply) (text more : List ℕ) → IsTextOfReplies replies text → IsAnswerText reply.answer reply.close more
+    → IsTextOfReplies (replies ++ reply ∷ []) (text ++ more)
 texts-next [] reply text more none its = (more, [], its, refl, ap (λ (t : List ℕ). t ++ more) none ∙ sym (append-nil more))
 texts-next (first ∷ replies) reply text more (one, rest, is, are, whole) its =
     (one, rest ++ more, is, texts-next replies reply rest more are its, ap (λ (t : List ℕ). t ++ more) whole ∙ append_assoc one rest more)
@@ -50,10 +50,10 @@ writes-next replies reply more before middle now (text, are, is) its says =
     (text ++ more, texts-next replies reply text more are its, says ∙ ap (written_with more) is ∙ written-then text more before)
 
 -- the last one ends the connection
-pub end-next : (replies : List Reply) (reply : Reply) → Continue replies → reply.close ≡ true → End (replies ++ reply ∷ [])
+pub end-next : (replies : List Reply) (reply : Reply) → KeepConnection replies → reply.close ≡ true → End (replies ++ reply ∷ [])
 end-next replies reply proceed close = (replies, reply, refl, proceed, close)
 
 -- less than all of the last one was written
-pub cuts-next : (replies : List Reply) (reply : Reply) (text : List ℕ) (before middle now : Option (List ℕ)) → Continue replies → WritesReplies replies before middle
+pub cuts-next : (replies : List Reply) (reply : Reply) (text : List ℕ) (before middle now : Option (List ℕ)) → KeepConnection replies → WritesReplies replies before middle
     → IsAnswerText reply.answer reply.close text → WritesPart text middle now → CutsReplies (replies ++ reply ∷ []) before now
 cuts-next replies reply text before middle now proceed writes its part = (replies, reply, middle, text, refl, proceed, writes, its, part)

@@ -11,10 +11,10 @@ use Rattle.taxii_service.specs.declared.state.State.{State}
 use Rattle.taxii_service.specs.Exchanges.{Exchange, IsExchange, Follow, HasServed}
 use Rattle.taxii_server.specs.declared.connection.TheConstants.{MAX_BODY, MAX_REQUESTS}
 use Rattle.taxii_server.specs.declared.receive_end.ReceiveEnd.{ReceiveEnd}
-use Rattle.taxii_server.specs.Connections.{BeginWith, Reply, is_out_of_memory, replies_within, Continue, WritesReplies, Pass}
-use Rattle.taxii_server.specs.Environment.{LinkView, Environment, Takes}
+use Rattle.taxii_server.specs.Connections.{BeginWith, Reply, ends_out_of_memory, replies_within, KeepConnection, WritesReplies, Pass}
+use Rattle.taxii_server.specs.Environment.{LinkView, Environment, TakesFromClient}
 use Rattle.taxii_server.specs.inner.Answering.{Answers}
-use Rattle.taxii_server.specs.inner.Receiving.{Receives, WantedMore, IsInTime}
+use Rattle.taxii_server.specs.inner.Receiving.{Receives, WantedMore, IsReceivedInTime}
 use Rattle.taxii_server.proofs.BytesLemmas.{LaterBytesChangeNothing, begin_with-more, begin_with-next}
 use Rattle.taxii_server.proofs.EnvironmentLemmas.{pass-none, pass-then}
 use Rattle.taxii_server.proofs.RepliesLemmas.{reply_within, replies-next, last-within, proceed-next, writes-none, writes-next}
@@ -40,7 +40,7 @@ served-next config before middle after exchanges e served its is is_after = reco
 pub record HasAnswered (config : Config) (before : State) (environment : Environment) (left : Option (List ℕ)) (rest : List ℕ) (requests : ℕ)
     (now : State) (environment_now : Environment) (left_now : Option (List ℕ)) (exchanges : List Exchange) : Type 0 where
   pub taken : List ℕ
-  pub takes : Takes taken left left_now
+  pub takes : TakesFromClient taken left left_now
   pub begins : BeginWith taken (map (λ e. e.request) exchanges) rest
   pub served : HasServed config before exchanges now
   pub count : length exchanges ≡ requests
@@ -51,7 +51,7 @@ pub record SoFar (config : Config) (before : State) (environment : Environment) 
     (now : State) (environment_now : Environment) (left_now written_now : Option (List ℕ)) : Type 0 where
   pub exchanges : List Exchange
   pub answered : HasAnswered config before environment link.left rest requests now environment_now left_now exchanges
-  pub proceed : Continue (replies_within MAX_REQUESTS exchanges)
+  pub proceed : KeepConnection (replies_within MAX_REQUESTS exchanges)
   pub writes : WritesReplies (replies_within MAX_REQUESTS exchanges) link.written written_now
 
 -- nothing was taken yet
@@ -94,8 +94,8 @@ so_far-received later so_far received same = record {
 pub received-in-time : {L : Type 0} {config : Config} {before : State} {environment : Environment} {link : LinkView} {rest : List ℕ} {requests : ℕ} {now : State}
     {environment_now : Environment} {written_now : Option (List ℕ)} → LaterBytesChangeNothing → (left began : L → Option (List ℕ)) (old new : L)
     → SoFar config before environment link rest requests now environment_now (left old) written_now
-    → IsInTime link.left (left old) (began old) requests → (new ≡ old) ⊎ IfSome (began new) (WantedMore rest (left old))
-    → IsInTime link.left (left new) (began new) requests
+    → IsReceivedInTime link.left (left old) (began old) requests → (new ≡ old) ⊎ IfSome (began new) (WantedMore rest (left old))
+    → IsReceivedInTime link.left (left new) (began new) requests
 received-in-time {rest = rest} {requests = requests} later left began old new so_far in_time wanted =
     still-in-time so_far.answered.taken rest (map (λ e. e.request) so_far.exchanges) requests later in_time so_far.answered.takes so_far.answered.begins
     (length-map so_far.exchanges (λ e. e.request) ∙ so_far.answered.count) (observable wanted)
@@ -144,8 +144,8 @@ pub next_reply-closes : {E : Type 0} {config : Config} {rest after : List ℕ} {
 next_reply-closes {requests = requests} exchanges count next =
     let at : nat_eq (MAX_REQUESTS - length exchanges) 1 ≡ next.is_last =
     ap (λ k. nat_eq (MAX_REQUESTS - k) 1) count ∙ last-within MAX_REQUESTS requests next.few ∙ sym next.last in
-    ap (λ (its : Request). its.close || is_out_of_memory next.answers.exchange.course || nat_eq (MAX_REQUESTS - length exchanges) 1) next.answers.request_is
-    ∙ ap (λ (its : Bool). next.request.close || is_out_of_memory next.answers.exchange.course || its) at ∙ sym next.answers.close_is
+    ap (λ (its : Request). its.close || ends_out_of_memory next.answers.exchange.course || nat_eq (MAX_REQUESTS - length exchanges) 1) next.answers.request_is
+    ∙ ap (λ (its : Bool). next.request.close || ends_out_of_memory next.answers.exchange.course || its) at ∙ sym next.answers.close_is
 
 not-last : (requests most : ℕ) → requests < most → nat_eq (requests + 1) most ≡ false → requests + 1 < most
 not-last requests most few not = grind (arith, nat_tests)
@@ -162,7 +162,7 @@ pub few-next : {E : Type 0} {config : Config} {rest after : List ℕ} {requests 
     → closes ≡ false → requests + 1 < MAX_REQUESTS
 few-next {requests = requests} next continues =
     let not : nat_eq (requests + 1) MAX_REQUESTS ≡ false =
-    sym next.last ∙ last-is next.request.close (is_out_of_memory next.answers.exchange.course) next.is_last (sym next.answers.close_is ∙ sym next.answers.writes.0 ∙ continues) in
+    sym next.last ∙ last-is next.request.close (ends_out_of_memory next.answers.exchange.course) next.is_last (sym next.answers.close_is ∙ sym next.answers.writes.0 ∙ continues) in
     not-last requests MAX_REQUESTS next.few not
 
 -- the connection goes on after it

@@ -10,18 +10,18 @@ use Rattle.taxii_server.specs.declared.connection.TheConstants.{MAX_BODY}
 use Rattle.taxii_server.specs.declared.receive_end.ReceiveEnd.{ReceiveEnd}
 use Rattle.taxii_server.specs.declared.receive_end.ReceiveEnd.TheVariants.{AtEnd, Refused, NoMemory, Failed}
 use Rattle.taxii_server.specs.Connections.{BeginWith, Reply, RepliesInTime}
-use Rattle.taxii_server.specs.Environment.{LinkView, Takes}
+use Rattle.taxii_server.specs.Environment.{LinkView, TakesFromClient}
 use Rattle.taxii_server.proofs.BytesLemmas.{LaterBytesChangeNothing, begin_with-more}
-use Rattle.taxii_server.specs.inner.Receiving.{Lacks, TakesMore, StopsReceivingAt, Receives, WantedMore, IsInTime}
+use Rattle.taxii_server.specs.inner.Receiving.{FailsToReceive, TakesMore, StopsReceivingAt, Receives, WantedMore, IsReceivedInTime}
 
 -- none was taken
-pub takes-none : (left now : Option (List ℕ)) → now ≡ left → Takes [] left now
+pub takes-none : (left now : Option (List ℕ)) → now ≡ left → TakesFromClient [] left now
 takes-none None now same = same
 takes-none (Some bytes) now same = (bytes, refl, same)
 
 -- a read gave these
 pub takes-read : (n : ℕ) (buffer : List ℕ) (left now : Option (List ℕ)) → n ≤ length buffer → IsNextOf (take n buffer) left → now ≡ left_after n left
-    → Takes (take n buffer) left now
+    → TakesFromClient (take n buffer) left now
 takes-read n buffer None now within given rest = rest
 takes-read n buffer (Some bytes) now within given rest = (
   drop n bytes,
@@ -30,7 +30,7 @@ takes-read n buffer (Some bytes) now within given rest = (
 )
 
 -- some were taken, and then some more
-pub takes-then : (first more : List ℕ) (left middle now : Option (List ℕ)) → Takes first left middle → Takes more middle now → Takes (first ++ more) left now
+pub takes-then : (first more : List ℕ) (left middle now : Option (List ℕ)) → TakesFromClient first left middle → TakesFromClient more middle now → TakesFromClient (first ++ more) left now
 takes-then first more None None now takes later = later
 takes-then first more None (Some bytes) now takes later = absurd (cc takes)
 takes-then first more (Some bytes) None now takes later = absurd (cc takes.2)
@@ -41,11 +41,11 @@ takes-then first more (Some bytes) (Some middle) now takes later =
 -- some bytes were taken, and follow those that were there before
 pub record HasTaken (before after : List ℕ) (left now : Option (List ℕ)) : Type 0 where
   pub taken : List ℕ
-  pub takes : Takes taken left now
+  pub takes : TakesFromClient taken left now
   pub fed : after ≡ before ++ taken
 
 -- and then some more
-pub taken-more : {before fed after : List ℕ} {left middle now : Option (List ℕ)} → HasTaken before fed left middle → (taken : List ℕ) → Takes taken middle now
+pub taken-more : {before fed after : List ℕ} {left middle now : Option (List ℕ)} → HasTaken before fed left middle → (taken : List ℕ) → TakesFromClient taken middle now
     → after ≡ fed ++ taken → HasTaken before after left now
 taken-more {before = before} {left = left} {middle = middle} {now = now} has taken takes is = record {
   taken = has.taken ++ taken;
@@ -60,14 +60,14 @@ fed-falls most before after taken room fed some = omega (arith, ap length fed, l
 
 -- why no more bytes were taken
 pub takes_more-err : {T : Type 0} {before after : List ℕ} {left now : Option (List ℕ)} {faults faults_now : ℕ} (taken : List ℕ) (its : ReceiveEnd) (result : Result T ReceiveEnd)
-    → IsErrAnd result (λ receive_end. receive_end ≡ its) → Takes taken left now → Lacks taken now faults faults_now its → TakesMore before after left now faults faults_now result
+    → IsErrAnd result (λ receive_end. receive_end ≡ its) → TakesFromClient taken left now → FailsToReceive taken now faults faults_now its → TakesMore before after left now faults faults_now result
 takes_more-err taken its (Ok done) failed takes lacks = absurd failed
 takes_more-err {now = now} {faults = faults} {faults_now = faults_now} taken its (Err receive_end) failed takes lacks =
-    record { taken = taken; takes = takes; gives = subst (λ (p : ReceiveEnd). Lacks taken now faults faults_now p) (sym failed) lacks }
+    record { taken = taken; takes = takes; gives = subst (λ (p : ReceiveEnd). FailsToReceive taken now faults faults_now p) (sym failed) lacks }
 
 -- bytes to which none were added still want more
 pauses : (bytes taken : List ℕ) (left : Option (List ℕ)) (faults now : ℕ) (receive_end : ReceiveEnd) → IsFirstFrame MAX_BODY bytes More bytes
-    → Lacks taken left faults now receive_end → StopsReceivingAt (bytes ++ taken) left faults now receive_end
+    → FailsToReceive taken left faults now receive_end → StopsReceivingAt (bytes ++ taken) left faults now receive_end
 pauses bytes taken left faults now AtEnd first (none, ended) = (rw (none, append-nil bytes) first, ended)
 pauses bytes taken left faults now (Refused refusal) first lacks = absurd lacks
 pauses bytes taken left faults now NoMemory first lacks = tt
@@ -101,7 +101,7 @@ each_told None each observable = tt
 each_told (Some bytes) each observable = each bytes observable
 
 -- all bytes are those taken, and then those left
-takes-all : (taken bytes : List ℕ) (first left : Option (List ℕ)) → Takes taken first left → left ≡ Some bytes → first ≡ Some (taken ++ bytes)
+takes-all : (taken bytes : List ℕ) (first left : Option (List ℕ)) → TakesFromClient taken first left → left ≡ Some bytes → first ≡ Some (taken ++ bytes)
 takes-all taken bytes None left takes is = absurd (cc (takes, is))
 takes-all taken bytes (Some all) left takes is =
     let same : takes.0 ≡ bytes = cc (takes.2, is) in
@@ -120,8 +120,8 @@ wanted-more {fed = fed} {first = first} {left = left} has more began observable 
 
 -- so it began when only the requests that were given before had come whole
 pub still-in-time : {first left left_then began began_then : Option (List ℕ)} (taken rest : List ℕ) (requests : List Request) (given : ℕ)
-    → LaterBytesChangeNothing → IsInTime first left began given → Takes taken first left → BeginWith taken requests rest → length requests ≡ given
-    → ((left_then ≡ left) × (began_then ≡ began)) ⊎ IfSome began_then (WantedMore rest left) → IsInTime first left_then began_then given
+    → LaterBytesChangeNothing → IsReceivedInTime first left began given → TakesFromClient taken first left → BeginWith taken requests rest → length requests ≡ given
+    → ((left_then ≡ left) × (began_then ≡ began)) ⊎ IfSome began_then (WantedMore rest left) → IsReceivedInTime first left_then began_then given
 still-in-time {first = first} {left_then = left_then} taken rest requests given later so_far takes begins count (inl same) =
     rw (same.0, same.1) so_far
 still-in-time {first = first} {left = left} {began_then = began_then} taken rest requests given later so_far takes begins count (inr observable) =
@@ -140,11 +140,11 @@ still-in-time {first = first} {left = left} {began_then = began_then} taken rest
     )) observable)
 
 -- and so before one reply more is due
-pub next-in-time : {first left : Option (List ℕ)} (began : Option (List ℕ)) (given later : ℕ) → given ≤ later → IsInTime first left began given → IsInTime first left began later
+pub next-in-time : {first left : Option (List ℕ)} (began : Option (List ℕ)) (given later : ℕ) → given ≤ later → IsReceivedInTime first left began given → IsReceivedInTime first left began later
 next-in-time began given later fewer (inl same) = inl same
 next-in-time began given later fewer (inr observable) = inr (each_told began (λ bytes came. (came.0, omega (arith, came.1, fewer), came.2)) observable)
 
-pub replies-in-time : (before now : LinkView) (replies : List Reply) (given : ℕ) → given < length replies → IsInTime before.left now.left now.began given
+pub replies-in-time : (before now : LinkView) (replies : List Reply) (given : ℕ) → given < length replies → IsReceivedInTime before.left now.left now.began given
     → RepliesInTime before now replies
 replies-in-time before now replies given fewer (inl same) = inl same
 replies-in-time before now replies given fewer (inr observable) = inr (each_told now.began (λ bytes came. (came.0, omega (arith, came.1, fewer), came.2)) observable)

@@ -16,7 +16,7 @@ use Rattle.taxii_service.specs.Exchanges.Course.{Stepped, KeeperFailed, OutOfMem
 use Rattle.taxii_server.specs.declared.connection.TheConstants.{MAX_BODY, MAX_REQUESTS}
 use Rattle.taxii_server.specs.declared.link_end.LinkEnd.{LinkEnd}
 use Rattle.taxii_server.specs.declared.link_end.LinkEnd.TheVariants.{Closed, LinkFault}
-use Rattle.taxii_server.specs.Environment.{LinkView, Takes, Environment, GivesMoments, HasIncreasedBy}
+use Rattle.taxii_server.specs.Environment.{LinkView, TakesFromClient, Environment, GivesMoments, HasIncreasedBy}
 
 -- the bytes begin with these requests, one after the other, and the rest follows them
 abbrev pub BeginWith : List ℕ → List Request → List ℕ → Type 0
@@ -41,10 +41,10 @@ pub record Reply : Type 0 where
   pub close : Bool
 
 -- memory ran out
-abbrev pub is_out_of_memory : Course → Bool
-is_out_of_memory Stepped = false
-is_out_of_memory KeeperFailed = false
-is_out_of_memory OutOfMemory = true
+abbrev pub ends_out_of_memory : Course → Bool
+ends_out_of_memory Stepped = false
+ends_out_of_memory KeeperFailed = false
+ends_out_of_memory OutOfMemory = true
 
 -- the keeper failed
 abbrev pub is_keeper_fault : Course → Bool
@@ -62,7 +62,7 @@ keeper_faults (e ∷ exchanges) = (if is_keeper_fault e.course then 1 else 0) + 
 abbrev pub replies_within : ℕ → List Exchange → List Reply
 replies_within left [] = []
 replies_within left (e ∷ exchanges) =
-    record { answer = e.answer; close = e.request.close || is_out_of_memory e.course || nat_eq left 1 } ∷ replies_within (left - 1) exchanges
+    record { answer = e.answer; close = e.request.close || ends_out_of_memory e.course || nat_eq left 1 } ∷ replies_within (left - 1) exchanges
 
 -- the last response before the connection ends early: why the remaining bytes are refused, or that
 -- memory ran out
@@ -80,29 +80,29 @@ abbrev pub replies_of : List Exchange → Option Answer → List Reply
 replies_of exchanges closing_answer = replies_within MAX_REQUESTS exchanges ++ closing_answer_reply closing_answer
 
 -- no reply says that the connection ends
-abbrev pub Continue : List Reply → Type 0
-Continue [] = ⊤
-Continue (reply ∷ replies) = (reply.close ≡ false) × Continue replies
+abbrev pub KeepConnection : List Reply → Type 0
+KeepConnection [] = ⊤
+KeepConnection (reply ∷ replies) = (reply.close ≡ false) × KeepConnection replies
 
 -- the last reply says that the connection ends, and no other does
 abbrev pub End : List Reply → Type 0
-End replies = (before : List Reply) × (last : Reply) × (replies ≡ before ++ (last ∷ [])) × Continue before × (last.close ≡ true)
+End replies = (before : List Reply) × (last : Reply) × (replies ≡ before ++ (last ∷ [])) × KeepConnection before × (last.close ≡ true)
 
 -- the text of the replies, one after the other
-abbrev pub AreTexts : List Reply → List ℕ → Type 0
-AreTexts [] text = text ≡ []
-AreTexts (reply ∷ replies) text =
-    (first more : List ℕ) × IsAnswerText reply.answer reply.close first × AreTexts replies more × (text ≡ first ++ more)
+abbrev pub IsTextOfReplies : List Reply → List ℕ → Type 0
+IsTextOfReplies [] text = text ≡ []
+IsTextOfReplies (reply ∷ replies) text =
+    (first more : List ℕ) × IsAnswerText reply.answer reply.close first × IsTextOfReplies replies more × (text ≡ first ++ more)
 
 -- the replies were written whole
 abbrev pub WritesReplies : List Reply → Option (List ℕ) → Option (List ℕ) → Type 0
-WritesReplies replies before now = (text : List ℕ) × AreTexts replies text × (now ≡ written_with text before)
+WritesReplies replies before now = (text : List ℕ) × IsTextOfReplies replies text × (now ≡ written_with text before)
 
 -- the replies were written whole but for the last one, of which less than all was written
 abbrev pub CutsReplies : List Reply → Option (List ℕ) → Option (List ℕ) → Type 0
 CutsReplies replies before now =
     (whole : List Reply) × (last : Reply) × (middle : Option (List ℕ)) × (text : List ℕ) × (replies ≡ whole ++ (last ∷ []))
-    × Continue whole × WritesReplies whole before middle × IsAnswerText last.answer last.close text × WritesPart text middle now
+    × KeepConnection whole × WritesReplies whole before middle × IsAnswerText last.answer last.close text × WritesPart text middle now
 
 -- the last read began before the last of these responses was due, when fewer complete requests had
 -- arrived. So each response is written before more is read. If memory is missing from the start,
@@ -118,18 +118,18 @@ IsQuiet before now = (now.read_faults ≡ before.read_faults) × (now.write_faul
 -- a connection closes by a response that says so, or at the end of the client's bytes
 abbrev pub IsClosed : LinkView → LinkView → List ℕ → List Reply → Type 0
 IsClosed before now rest replies = IsQuiet before now × WritesReplies replies before.written now.written
-    × (End replies ⊎ (Continue replies × IsFirstFrame MAX_BODY rest More rest × IsAtEnd now.left))
+    × (End replies ⊎ (KeepConnection replies × IsFirstFrame MAX_BODY rest More rest × IsAtEnd now.left))
 
 -- or a read failed, while more bytes were needed for the next request, or the write of a response
-abbrev pub IsCut : LinkView → LinkView → List ℕ → List Reply → Type 0
-IsCut before now rest replies =
-    (HasIncreased before.read_faults now.read_faults × Continue replies × IsFirstFrame MAX_BODY rest More rest × WritesReplies replies before.written now.written)
+abbrev pub IsCutConnection : LinkView → LinkView → List ℕ → List Reply → Type 0
+IsCutConnection before now rest replies =
+    (HasIncreased before.read_faults now.read_faults × KeepConnection replies × IsFirstFrame MAX_BODY rest More rest × WritesReplies replies before.written now.written)
     ⊎ (HasIncreased before.write_faults now.write_faults × CutsReplies replies before.written now.written × RepliesInTime before now replies)
 
 -- the connection ended so
-abbrev pub Ends : LinkEnd → LinkView → LinkView → List ℕ → List Exchange → Option Answer → Type 0
-Ends (Closed requests) before now rest exchanges closing_answer = IsClosed before now rest (replies_of exchanges closing_answer)
-Ends (LinkFault requests) before now rest exchanges closing_answer = IsCut before now rest (replies_of exchanges closing_answer)
+abbrev pub EndsConnection : LinkEnd → LinkView → LinkView → List ℕ → List Exchange → Option Answer → Type 0
+EndsConnection (Closed requests) before now rest exchanges closing_answer = IsClosed before now rest (replies_of exchanges closing_answer)
+EndsConnection (LinkFault requests) before now rest exchanges closing_answer = IsCutConnection before now rest (replies_of exchanges closing_answer)
 
 -- how many requests were answered, or begun to be
 abbrev pub requests_of : LinkEnd → ℕ
@@ -142,12 +142,12 @@ pub record Connection (config : Config) (before : State) (link_before link_now :
   pub taken : List ℕ
   pub rest : List ℕ
   pub closing_answer : Option Answer
-  pub takes : Takes taken link_before.left link_now.left
+  pub takes : TakesFromClient taken link_before.left link_now.left
   pub requests : BeginWith taken (map (λ e. e.request) exchanges) rest
   pub served : HasServed config before exchanges after
   pub count : requests_of end ≡ length exchanges
   pub closing_answer_is : IsClosingAnswer rest closing_answer
-  pub ends : Ends end link_before link_now rest exchanges closing_answer
+  pub ends : EndsConnection end link_before link_now rest exchanges closing_answer
 
 -- the use of the clock and the keeper: each request takes the next moment; each fault of the keeper
 -- was counted, and without one the count stays

@@ -11,8 +11,8 @@ pub record LinkView : Type 0 where
   pub write_faults : ℕ
 
 -- the view of a link, from its observable parts
-abbrev pub link_view : {L : Type 0} → (L → Option (List ℕ)) → (L → Option (List ℕ)) → (L → Option (List ℕ)) → (L → ℕ) → (L → ℕ) → L → LinkView
-link_view left began written read_faults write_faults link = record {
+abbrev pub client_view : {L : Type 0} → (L → Option (List ℕ)) → (L → Option (List ℕ)) → (L → Option (List ℕ)) → (L → ℕ) → (L → ℕ) → L → LinkView
+client_view left began written read_faults write_faults link = record {
   left = left link;
   began = began link;
   written = written link;
@@ -26,8 +26,8 @@ pub record Environment : Type 0 where
   pub faults : ℕ
 
 -- these bytes were taken from those left on the link, as far as they are observable
-abbrev pub Takes : List ℕ → Option (List ℕ) → Option (List ℕ) → Type 0
-Takes taken before now = MatchOption before (now ≡ None) (λ bytes. (left : List ℕ) × (bytes ≡ taken ++ left) × (now ≡ Some left))
+abbrev pub TakesFromClient : List ℕ → Option (List ℕ) → Option (List ℕ) → Type 0
+TakesFromClient taken before now = MatchOption before (now ≡ None) (λ bytes. (left : List ℕ) × (bytes ≡ taken ++ left) × (now ≡ Some left))
 
 -- these are the next moments of a clock, as far as they are observable, and the clock continues
 -- after them

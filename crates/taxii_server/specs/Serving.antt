@@ -32,8 +32,8 @@ HaveConnections view config before (client ∷ clients) after = (middle : State)
     × HaveConnections view config middle clients after
 
 -- the door listened once, at the port; the next links were given, and returned, in order
-abbrev pub PassThrough : {L : Type 0} → ℕ → List (Client L) → Option (DoorState L) → Option (DoorState L) → Type 0
-PassThrough port clients before now = Changes (λ state now.
+abbrev pub PassThroughDoor : {L : Type 0} → ℕ → List (Client L) → Option (DoorState L) → Option (DoorState L) → Type 0
+PassThroughDoor port clients before now = Changes (λ state now.
     (state.coming ≡ map (λ client. client.given) clients ++ now.coming)
     × (now.finished ≡ state.finished ++ map (λ client. client.finished) clients)
     × (now.opened ≡ counted state.opened)

@@ -2,7 +2,7 @@ ghost use Rattle.std.specs.Prelude.{◌≡◌, ◌≤◌, List};
 ghost use Rattle.taxii_store.specs.Agreement.{Agrees, without_rows};
 ghost use Rattle.taxii_service.specs.Exchanges.{Exchange};
 ghost use Rattle.taxii_server.specs.Connections.{Connection, Pass, requests_of};
-ghost use Rattle.taxii_server.specs.Environment.{link_view};
+ghost use Rattle.taxii_server.specs.Environment.{client_view};
 
 use crate::answering::answer;
 use crate::closing_answer::write_closing_answer;
@@ -37,8 +37,8 @@ pub fn serve_link<K: Keeper, L: Link, C: Clock>(
     // there is a list of exchanges: the bytes read are its requests, the bytes written its
     // responses, and clock and keeper were used as it says
     ensures serves { (exchanges : List Exchange) × Connection server.old.config server.old.state
-        (link_view L.left L.began L.written L.Source.faults L.Sink.faults link.old)
-        (link_view L.left L.began L.written L.Source.faults L.Sink.faults link.new)
+        (client_view L.left L.began L.written L.Source.faults L.Sink.faults link.old)
+        (client_view L.left L.began L.written L.Source.faults L.Sink.faults link.new)
         exchanges result server.new.state
         × Pass exchanges (record { moments = C.moments clock.old; faults = K.faults keeper.old })
         (record { moments = C.moments clock.new; faults = K.faults keeper.new }) }

@@ -1,12 +1,13 @@
 ghost use Rattle.std.specs.Prelude.{◌≡◌, ◌≤◌, ◌<◌, ◌⊎◌, ◌^◌, [], List, length, IfOk, IfSome, IsErr};
 ghost use Rattle.flow_edges.specs.Faults.{Counted};
-ghost use Rattle.flow_links.specs.Doors.{Stays};
+ghost use Rattle.flow_links.specs.Doors.{DoorStays};
 ghost use Rattle.taxii_store.specs.Agreement.{Agrees, without_rows};
 ghost use Rattle.taxii_server.specs.Connections.{Pass};
-ghost use Rattle.taxii_server.specs.Environment.{link_view};
+ghost use Rattle.taxii_server.specs.Environment.{client_view};
 ghost use Rattle.taxii_server.specs.declared.connection.TheConstants.{MAX_REQUESTS};
 ghost use Rattle.taxii_server.specs.inner.Serving.{ServesClient};
-ghost use Rattle.taxii_server.specs.Serving.{Client, exchanges_of, HaveConnections, PassThrough};
+ghost use Rattle.taxii_server.specs.Serving.{Client, exchanges_of, HaveConnections};
+ghost use Rattle.taxii_server.specs.Serving.{PassThroughDoor};
 ghost use Rattle.taxii_server.specs.Serving.{IsWholeOf};
 
 use crate::{Served, Server, serve_link};
@@ -33,15 +34,15 @@ pub fn serve_door<K: Keeper, D: Door, C: Clock>(
     ensures config { server.new.config ≡ server.old.config }
     // what the door, the clock and the keeper were asked, and each connection's exchanges
     ensures serves { (clients : List (Client D.Link))
-        × HaveConnections (link_view D.Link.left D.Link.began D.Link.written D.Link.Source.faults
+        × HaveConnections (client_view D.Link.left D.Link.began D.Link.written D.Link.Source.faults
         D.Link.Sink.faults)
         server.old.config server.old.state clients server.new.state
         × Pass (exchanges_of clients)
         (record { moments = C.moments clock.old; faults = K.faults keeper.old })
         (record { moments = C.moments clock.new; faults = K.faults keeper.new })
         × (length clients ≤ connections)
-        × (PassThrough port clients (D.observable door.old) (D.observable door.new)
-        ⊎ (IsErr result × (clients ≡ []) × Stays (D.observable door.old) (D.observable door.new)))
+        × (PassThroughDoor port clients (D.observable door.old) (D.observable door.new)
+        ⊎ (IsErr result × (clients ≡ []) × DoorStays (D.observable door.old) (D.observable door.new)))
         × IfOk result (IsWholeOf connections clients (D.observable door.new)) }
     // the door counts a fault exactly if the call fails; faults of links are not its own
     ensures causes { Counted (IsErr result) (D.faults door.old) (D.faults door.new) }
@@ -75,7 +76,7 @@ fn serve_client<K: Keeper, D: Door, C: Clock>(
     ensures keeper { without_rows (K.kept keeper.new) ≡ without_rows (K.kept keeper.old) }
     ensures config { server.new.config ≡ server.old.config }
     ensures serves { ServesClient
-        (link_view D.Link.left D.Link.began D.Link.written D.Link.Source.faults D.Link.Sink.faults)
+        (client_view D.Link.left D.Link.began D.Link.written D.Link.Source.faults D.Link.Sink.faults)
         server.old.config server.old.state link
         (record { moments = C.moments clock.old; faults = K.faults keeper.old })
         (record { moments = C.moments clock.new; faults = K.faults keeper.new })

@@ -3,34 +3,34 @@ use Rattle.std.proofs.Common.{◌≡◌, ℕ, ◌+◌, ◌≤◌, List, [], ◌�
 use Rattle.std.proofs.lemmas.List.Elements.{All-nil, All-cons}
 use Rattle.taxii_rows.specs.declared.stored_row.StoredRow.{StoredRow}
 use Rattle.taxii_rows.specs.declared.described.Described.{Described}
-use Rattle.taxii_rows.specs.Described.{row_of}
+use Rattle.taxii_rows.specs.Described.{stored_row_of}
 use Rattle.taxii_rows.specs.StoreState.{StoreState, dates_of, AscendFrom}
 use Rattle.taxii_rows.specs.Keeper.{with_rows}
 use Rattle.taxii_index.specs.Presence.{duplicate_of}
 use Rattle.taxii_store.specs.declared.add_outcome.AddOutcome.{AddOutcome}
 use Rattle.taxii_store.specs.declared.add_outcome.AddOutcome.TheVariants.{Added, Present}
-use Rattle.taxii_store.specs.Addition.{Adds, IsAddition, first_date, watermark_after}
-use Rattle.taxii_store.specs.History.{IsAddition as IsAdditionTo}
+use Rattle.taxii_store.specs.Addition.{AddsObjects, IsAddition, first_date, watermark_after}
+use Rattle.taxii_store.specs.History.{IsStoreAddition as IsAdditionTo}
 use Rattle.taxii_service.proofs.DatedLemmas.{ascend_from_earlier}
 
 -- the new rows ascend from the date of the first
 adds_ascend : (collection date : ℕ) (rows : List StoredRow) (objects : List Described) (outcomes : List AddOutcome) (new : List StoredRow)
-    → Adds collection date rows objects outcomes new → AscendFrom date (dates_of new)
+    → AddsObjects collection date rows objects outcomes new → AscendFrom date (dates_of new)
 adds_ascend collection date rows [] outcomes new adds = subst (λ (its : List StoredRow). AscendFrom date (dates_of its)) (sym adds.1) tt
 adds_ascend collection date rows (object ∷ objects) outcomes new adds = next (duplicate_of collection object rows) adds
     (λ others. adds_ascend collection date rows objects others new)
     (λ others more. adds_ascend collection (date + 1) (rows ++ row ∷ []) objects others more)
   where
     row : StoredRow
-    row = row_of object date collection
+    row = stored_row_of object date collection
 
     next : (found : Option StoredRow)
         → MatchOption found
         ((others : List AddOutcome) × (more : List StoredRow)
-        × (outcomes ≡ Added date ∷ others) × (new ≡ row ∷ more) × Adds collection (date + 1) (rows ++ row ∷ []) objects others more)
-        (λ held. (others : List AddOutcome) × (outcomes ≡ Present held.date ∷ others) × Adds collection date rows objects others new)
-        → ((others : List AddOutcome) → Adds collection date rows objects others new → AscendFrom date (dates_of new))
-        → ((others : List AddOutcome) (more : List StoredRow) → Adds collection (date + 1) (rows ++ row ∷ []) objects others more → AscendFrom (date + 1) (dates_of more))
+        × (outcomes ≡ Added date ∷ others) × (new ≡ row ∷ more) × AddsObjects collection (date + 1) (rows ++ row ∷ []) objects others more)
+        (λ held. (others : List AddOutcome) × (outcomes ≡ Present held.date ∷ others) × AddsObjects collection date rows objects others new)
+        → ((others : List AddOutcome) → AddsObjects collection date rows objects others new → AscendFrom date (dates_of new))
+        → ((others : List AddOutcome) (more : List StoredRow) → AddsObjects collection (date + 1) (rows ++ row ∷ []) objects others more → AscendFrom (date + 1) (dates_of more))
         → AscendFrom date (dates_of new)
     next (Some held) (others, out_is, it) again behind = again others it
     next None (others, more, out_is, new_is, it) again behind =

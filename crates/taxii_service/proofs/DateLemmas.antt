@@ -20,7 +20,7 @@ use Rattle.taxii_rows.specs.StoreState.{dates_of}
 use Rattle.taxii_rows.specs.SoundRow.{IsSoundState}
 use Rattle.taxii_store.specs.Page.{IsPage}
 use Rattle.taxii_exchange.specs.declared.config.Config.{Config}
-use Rattle.taxii_exchange.specs.AnswersToRequests.{first_of, answer_to_problem}
+use Rattle.taxii_exchange.specs.AnswersToRequests.{first_date_of, answer_to_problem}
 use Rattle.taxii_service.specs.declared.state.State.{State}
 use Rattle.taxii_service.specs.Step.{IsDone, IsAnswerTo}
 use Rattle.taxii_service.proofs.StepAnswerLemmas.{HoldsOfForms, done_holds}
@@ -28,7 +28,7 @@ use Rattle.taxii_service.proofs.StepAnswerLemmas.{HoldsOfForms, done_holds}
 abbrev IsEarly : StoredRow → Type 0
 IsEarly row = row.date ≤ MAX_DATE
 
-first_early : (rows : List StoredRow) → All IsEarly rows → IfSome (first_of (dates_of rows)) (λ micros. micros ≤ MAX_DATE)
+first_early : (rows : List StoredRow) → All IsEarly rows → IfSome (first_date_of (dates_of rows)) (λ micros. micros ≤ MAX_DATE)
 first_early [] each = tt
 first_early (row ∷ rows) each = each 0 row (omega arith)
 

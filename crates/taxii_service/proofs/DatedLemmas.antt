@@ -6,7 +6,7 @@ use Rattle.std.proofs.lemmas.List.Elements.{All-head, All-tail, All-map, All-app
 use Rattle.taxii_rows.specs.declared.stored_row.StoredRow.{StoredRow}
 use Rattle.taxii_rows.specs.StoreState.{StoreState, dates_of, AscendFrom}
 use Rattle.taxii_rows.specs.Keeper.{is_date_in, with_rows, without}
-use Rattle.taxii_store.specs.History.{IsDated, IsAddition, IsDeletion, Becomes, IsHistory}
+use Rattle.taxii_store.specs.History.{IsDated, IsStoreAddition, IsDeletion, Becomes, IsHistory}
 
 -- ---- ascending dates
 
@@ -33,7 +33,7 @@ ascend_filter least test (row ∷ rows) ascend = kept least row (filter test row
 
 -- ---- what keeps them so
 
-with_dated : (state after : StoreState) (step : IsAddition state after) → IsDated state → IsDated (with_rows step.rows after.watermark state)
+with_dated : (state after : StoreState) (step : IsStoreAddition state after) → IsDated state → IsDated (with_rows step.rows after.watermark state)
 with_dated state after step dated =
     let date = λ (row : StoredRow). row.date in
     let within : All (λ date. date ≤ state.watermark) (dates_of state.rows) = All-map (λ date. date ≤ state.watermark) date state.rows dated.marked in
@@ -54,7 +54,7 @@ without_dated state dates dated =
     }
 
 -- an addition keeps a store dated, and so does a deletion
-pub change_dated : (state after : StoreState) → IsAddition state after ⊎ IsDeletion state after → IsDated state → IsDated after
+pub change_dated : (state after : StoreState) → IsStoreAddition state after ⊎ IsDeletion state after → IsDated state → IsDated after
 change_dated state after (inl step) dated = subst IsDated (sym step.after_is) (with_dated state after step dated)
 change_dated state after (inr step) dated = subst IsDated (sym step.after_is) (without_dated state step.dates dated)
 
@@ -70,7 +70,7 @@ history_dated state after (states, becomes) dated = becomes_dated state states a
 pub no_history : (state after : StoreState) → after ≡ state → IsHistory state after
 no_history state after same = ([], same)
 
-pub one_change : (state after : StoreState) → IsAddition state after ⊎ IsDeletion state after → IsHistory state after
+pub one_change : (state after : StoreState) → IsStoreAddition state after ⊎ IsDeletion state after → IsHistory state after
 one_change state after step = (after ∷ [], (step, refl))
 
 becomes_both : (first : StoreState) (states : List StoreState) (second : StoreState) (more : List StoreState) (third : StoreState)

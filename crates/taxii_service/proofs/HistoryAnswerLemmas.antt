@@ -1,7 +1,7 @@
 -- What was answered with 200 was done, and a GET of objects that was done has a page of the store as it was there.
 use Rattle.std.proofs.Common.{◌≡◌, ◌≢◌, ◌⊎◌, inl, inr, ℕ, List, [], Option, Some, None, unwrap_or, sym, ap, subst, ◌∙◌}
 use Rattle.stix_ids.specs.declared.id.Id.{Id}
-use Rattle.stix_ids.specs.Identifier.{IsTextOf}
+use Rattle.stix_ids.specs.Identifier.{IsTextOfId}
 use Rattle.http_messages.specs.declared.method.Method.{Method}
 use Rattle.http_messages.specs.declared.method.Method.TheVariants.{Get}
 use Rattle.http_messages.specs.declared.status.Status.TheVariants.{Okay, MethodNotAllowed}
@@ -11,7 +11,7 @@ use Rattle.taxii_routes.specs.declared.query.Query.{Query}
 use Rattle.taxii_routes.specs.declared.route.Route.{Route}
 use Rattle.taxii_routes.specs.declared.route.Route.TheVariants.{Objects, Object}
 use Rattle.taxii_routes.specs.Query.{Pair, pairs_of, IsQueryOf}
-use Rattle.taxii_routes.specs.Route.{IsPathOf}
+use Rattle.taxii_routes.specs.Route.{IsRoutePath}
 use Rattle.taxii_routes.specs.Target.{IsTargetOf}
 use Rattle.taxii_rows.specs.declared.stored_row.StoredRow.{StoredRow}
 use Rattle.taxii_bodies.specs.declared.collections.CollectionInfo.{CollectionInfo}
@@ -20,18 +20,18 @@ use Rattle.taxii_bodies.specs.declared.problem.Problem.TheVariants.{BadValue, Re
 use Rattle.taxii_exchange.specs.declared.config.Config.{Config}
 use Rattle.taxii_exchange.specs.declared.refusal.Refusal.{Refusal}
 use Rattle.taxii_exchange.specs.declared.refusal.Refusal.TheVariants.{NotAllowed, Problem, NoMemory}
-use Rattle.taxii_exchange.specs.AnswersToRequests.{status_of, bare_answer, answer_to_problem}
+use Rattle.taxii_exchange.specs.AnswersToRequests.{problem_status, bare_answer, answer_to_problem}
 use Rattle.taxii_exchange.proofs.AnswersToRequestsLemmas.{told_status}
-use Rattle.taxii_service.specs.Finding.{Names}
-use Rattle.taxii_service.specs.Reading.{IsPageOf, IsEnvelope, IsReading, object_query}
+use Rattle.taxii_service.specs.Finding.{NamesCollection}
+use Rattle.taxii_service.specs.Reading.{IsPageOf, IsEnvelope, IsGetAnswer, object_query}
 use Rattle.taxii_service.specs.declared.state.State.{State}
 use Rattle.taxii_service.specs.Step.{Does, IsAnswerTo, RouteStep, Step}
-use Rattle.taxii_service.specs.Exchanges.{Course, Stepped, KeeperFailed, OutOfMemory, Exchange, Runs, IsExchange, WasDone}
+use Rattle.taxii_service.specs.Exchanges.{Course, Stepped, KeeperFailed, OutOfMemory, Exchange, RunsExchange, IsExchange, WasDone}
 use Rattle.taxii_service.specs.Visits.{AsksForAll, AsksForOne, Asks}
 
 -- ---- what isn't answered with 200
 
-problem_not_okay : (problem : AnyProblem) → status_of problem ≢ Okay
+problem_not_okay : (problem : AnyProblem) → problem_status problem ≢ Okay
 problem_not_okay (BadValue param) same = absurd (cc)
 problem_not_okay (Repeated param) same = absurd (cc)
 problem_not_okay Forbidden same = absurd (cc)
@@ -63,12 +63,12 @@ step_done config e okay step = elim step.outcome [
   | inr found ↦ either found.0 found.1 found.2
 ]
   where
-    either : (route : Route) → IsPathOf step.path route → RouteStep config e.before e.moment e.request route (unwrap_or step.query []) e.answer e.after → WasDone config e
+    either : (route : Route) → IsRoutePath step.path route → RouteStep config e.before e.moment e.request route (unwrap_or step.query []) e.answer e.after → WasDone config e
     either route route_is (inl refused) = absurd (refusal_answered e.request.method refused.0 e.answer refused.2 okay)
     either route route_is (inr done) =
         record { path = step.path; text = step.query; target_is = step.target_is; route = route; route_is = route_is; done = done }
 
-course_done : (config : Config) (e : Exchange) → e.answer.status ≡ Okay → (course : Course) → Runs course config e → WasDone config e
+course_done : (config : Config) (e : Exchange) → e.answer.status ≡ Okay → (course : Course) → RunsExchange course config e → WasDone config e
 course_done config e okay Stepped step = step_done config e okay step
 course_done config e okay KeeperFailed fails = absurd (problem_answered e.request.method StoreFault e.answer fails.answer_is okay)
 course_done config e okay OutOfMemory wants = let same = okay_too e.answer no_memory_answer wants.0 okay in absurd (cc)
@@ -82,9 +82,9 @@ was_done config e goes okay = course_done config e okay e.course goes
 pub record Laws : Type 0 where
   pub path : (target first second : List ℕ) (query other : Option (List ℕ)) → IsTargetOf target first query → IsTargetOf target second other → first ≡ second
   pub text : (target first second : List ℕ) (query other : Option (List ℕ)) → IsTargetOf target first query → IsTargetOf target second other → query ≡ other
-  pub route : (path : List ℕ) (first second : Route) → IsPathOf path first → IsPathOf path second → first ≡ second
+  pub route : (path : List ℕ) (first second : Route) → IsRoutePath path first → IsRoutePath path second → first ≡ second
   pub query : (pairs : List Pair) (first second : Query) → IsQueryOf pairs first → IsQueryOf pairs second → first ≡ second
-  pub identifier : (text : List ℕ) (first second : Id) → IsTextOf text first → IsTextOf text second → first ≡ second
+  pub identifier : (text : List ℕ) (first second : Id) → IsTextOfId text first → IsTextOfId text second → first ≡ second
 
 -- it is a page of the same collection, object and query
 page_of_same : (rows : List StoredRow) (answer : Answer) (collection other : ℕ) (only one : Option Id) (query asked : Query)
@@ -95,27 +95,27 @@ page_of_same rows answer collection other only one query asked collection_is onl
     (subst (λ (q : Query). IsPageOf rows collection only q IsEnvelope answer) query_is its))
 
 -- a text names one collection
-one_collection : (text : List ℕ) (infos : List CollectionInfo) (first second : CollectionInfo) → Names text infos first → Names text infos second → first.id ≡ second.id
+one_collection : (text : List ℕ) (infos : List CollectionInfo) (first second : CollectionInfo) → NamesCollection text infos first → NamesCollection text infos second → first.id ≡ second.id
 one_collection text infos first second names also =
     let same : Some first ≡ Some second = sym names ∙ also in let info : first ≡ second = cc in ap (λ (i : CollectionInfo). i.id) info
 
 -- a GET of what is asked for reads a page of the collection
 all_read : (config : Config) (before : State) (route : Route) (parsed : Query) (collection : ℕ) (only : Option Id) (query : Query) (answer : Answer)
-    → AsksForAll config route parsed collection only query → IsReading config before route parsed answer
+    → AsksForAll config route parsed collection only query → IsGetAnswer config before route parsed answer
     → IsPageOf before.library.rows collection only query IsEnvelope answer
 all_read config before route parsed collection only query answer (id, info, route_is, names, collection_is, only_is, query_is) reading =
-    let its : IsReading config before (Objects id) parsed answer =
-    subst (λ (r : Route). IsReading config before r parsed answer) route_is reading in
+    let its : IsGetAnswer config before (Objects id) parsed answer =
+    subst (λ (r : Route). IsGetAnswer config before r parsed answer) route_is reading in
     let same : its.0.id ≡ info.id = one_collection id config.collections its.0 info its.1 names in
     page_of_same before.library.rows answer its.0.id collection None only parsed query (same ∙ sym collection_is) (sym only_is) (sym query_is) its.2
 
 -- or of the one object
 one_read : Laws → (config : Config) (before : State) (route : Route) (parsed : Query) (collection : ℕ) (only : Option Id) (query : Query) (answer : Answer)
-    → AsksForOne config route parsed collection only query → IsReading config before route parsed answer
+    → AsksForOne config route parsed collection only query → IsGetAnswer config before route parsed answer
     → IsPageOf before.library.rows collection only query IsEnvelope answer
 one_read laws config before route parsed collection only query answer (name, text, info, id, route_is, names, text_of, collection_is, only_is, query_is) reading =
-    let its : IsReading config before (Object name text) parsed answer =
-    subst (λ (r : Route). IsReading config before r parsed answer) route_is reading in
+    let its : IsGetAnswer config before (Object name text) parsed answer =
+    subst (λ (r : Route). IsGetAnswer config before r parsed answer) route_is reading in
     let page = its.2 in
     let same : its.0.id ≡ info.id = one_collection name config.collections its.0 info its.1 names in
     let id_same : Some page.0 ≡ Some id = ap (λ (i : Id). Some i) (laws.identifier text page.0 id page.1 text_of) in
@@ -124,7 +124,7 @@ one_read laws config before route parsed collection only query answer (name, tex
 -- or of either
 read : Laws → (config : Config) (before : State) (route : Route) (parsed : Query) (collection : ℕ) (only : Option Id) (query : Query) (answer : Answer)
     → AsksForAll config route parsed collection only query ⊎ AsksForOne config route parsed collection only query
-    → IsReading config before route parsed answer
+    → IsGetAnswer config before route parsed answer
     → IsPageOf before.library.rows collection only query IsEnvelope answer
 read laws config before route parsed collection only query answer (inl asks) = all_read config before route parsed collection only query answer asks
 read laws config before route parsed collection only query answer (inr asks) = one_read laws config before route parsed collection only query answer asks
@@ -144,7 +144,7 @@ paged laws config e collection only query goes okay asks = read laws config e.be
     text_is = laws.text e.request.target was.path asks.path was.text asks.text was.target_is asks.target_is
 
     route_is : was.route ≡ asks.route
-    route_is = laws.route asks.path was.route asks.route (subst (λ (path : List ℕ). IsPathOf path was.route) path_is was.route_is) asks.route_is
+    route_is = laws.route asks.path was.route asks.route (subst (λ (path : List ℕ). IsRoutePath path was.route) path_is was.route_is) asks.route_is
 
     query_is : was.done.query ≡ asks.parsed
     query_is = laws.query (pairs_of (unwrap_or asks.text [])) was.done.query asks.parsed
@@ -153,6 +153,6 @@ paged laws config e collection only query goes okay asks = read laws config e.be
     does : Does config e.before e.moment e.request was.route was.done.query Get e.answer e.after
     does = subst (λ (method : Method). Does config e.before e.moment e.request was.route was.done.query method e.answer e.after) asks.get was.done.does
 
-    reading : IsReading config e.before asks.route asks.parsed e.answer
-    reading = subst (λ (q : Query). IsReading config e.before asks.route q e.answer) query_is
-        (subst (λ (route : Route). IsReading config e.before route was.done.query e.answer) route_is does.0)
+    reading : IsGetAnswer config e.before asks.route asks.parsed e.answer
+    reading = subst (λ (q : Query). IsGetAnswer config e.before asks.route q e.answer) query_is
+        (subst (λ (route : Route). IsGetAnswer config e.before route was.done.query e.answer) route_is does.0)

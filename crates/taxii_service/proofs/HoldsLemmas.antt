@@ -10,13 +10,13 @@ use Rattle.taxii_store.specs.Planned.{IsSound}
 use Rattle.taxii_bodies.specs.declared.details.Detail.{Detail}
 use Rattle.taxii_service.specs.declared.posted.Posted.{Posted}
 use Rattle.taxii_service.specs.declared.posted.TheConstants.{MAX_DETAILS}
-use Rattle.taxii_service.specs.Posted.{IsKept, Fails, IsDetailOf, Splits, Holds}
-use Rattle.taxii_service.specs.inner.Posting.{AddsDetail, Adds}
+use Rattle.taxii_service.specs.Posted.{IsKept, Fails, IsDetailOf, SplitsPostedEntries, HoldsEntries}
+use Rattle.taxii_service.specs.inner.Posting.{AddsDetail, AddsEntry}
 
 -- ---- one more
 
 splits_object : (entries : List Entry) (objects : List Described) (failed : List Entry) (entry : Entry) (object : Described)
-    → Splits entries objects failed → IsKept entry object → Splits (entries ++ entry ∷ []) (objects ++ object ∷ []) failed
+    → SplitsPostedEntries entries objects failed → IsKept entry object → SplitsPostedEntries (entries ++ entry ∷ []) (objects ++ object ∷ []) failed
 splits_object [] objects failed entry object (none, nothing) kept = inl (object, [], ap (λ os. os ++ object ∷ []) none, kept, (refl, nothing))
 splits_object (first ∷ entries) objects failed entry object (inl (one, others, is, its, rest)) kept =
     inl (one, others ++ object ∷ [], ap (λ os. os ++ object ∷ []) is, its, splits_object entries others failed entry object rest kept)
@@ -24,7 +24,7 @@ splits_object (first ∷ entries) objects failed entry object (inr (others, is, 
     inr (others, is, its, splits_object entries objects others entry object rest kept)
 
 splits_failure : (entries : List Entry) (objects : List Described) (failed : List Entry) (entry : Entry)
-    → Splits entries objects failed → Fails entry → Splits (entries ++ entry ∷ []) objects (failed ++ entry ∷ [])
+    → SplitsPostedEntries entries objects failed → Fails entry → SplitsPostedEntries (entries ++ entry ∷ []) objects (failed ++ entry ∷ [])
 splits_failure [] objects failed entry (none, nothing) fails = inr ([], ap (λ es. es ++ entry ∷ []) nothing, fails, (none, refl))
 splits_failure (first ∷ entries) objects failed entry (inl (one, others, is, its, rest)) fails =
     inl (one, others, is, its, splits_failure entries others failed entry rest fails)
@@ -56,24 +56,24 @@ details_added moment failed entry old new all (inr (full, is)) =
     subst (AllZip (IsDetailOf moment) (take MAX_DETAILS (failed ++ entry ∷ []))) (sym is)
     (subst (λ (fs : List Entry). AllZip (IsDetailOf moment) fs old) (sym same) all)
 
-pub holds_adds : (moment : ℕ) (entries : List Entry) (entry : Entry) (old new : Posted) → Holds moment entries old → Adds moment entry old new
-    → Holds moment (entries ++ entry ∷ []) new
+pub holds_adds : (moment : ℕ) (entries : List Entry) (entry : Entry) (old new : Posted) → HoldsEntries moment entries old → AddsEntry moment entry old new
+    → HoldsEntries moment (entries ++ entry ∷ []) new
 holds_adds moment entries entry old new holds (inl adds) = record {
   failed = holds.failed;
-  splits = subst (λ (os : List Described). Splits (entries ++ entry ∷ []) os holds.failed) (sym adds.objects)
+  splits = subst (λ (os : List Described). SplitsPostedEntries (entries ++ entry ∷ []) os holds.failed) (sym adds.objects)
       (splits_object entries old.objects.items holds.failed entry adds.object holds.splits adds.kept);
   details = subst (AllZip (IsDetailOf moment) (take MAX_DETAILS holds.failed)) (sym adds.failures) holds.details;
   count = adds.count ∙ holds.count;
 }
 holds_adds moment entries entry old new holds (inr adds) = record {
   failed = holds.failed ++ entry ∷ [];
-  splits = subst (λ (os : List Described). Splits (entries ++ entry ∷ []) os (holds.failed ++ entry ∷ [])) (sym adds.objects)
+  splits = subst (λ (os : List Described). SplitsPostedEntries (entries ++ entry ∷ []) os (holds.failed ++ entry ∷ [])) (sym adds.objects)
       (splits_failure entries old.objects.items holds.failed entry holds.splits adds.fails);
   details = details_added moment holds.failed entry old.failures new.failures holds.details adds.failures;
   count = adds.count ∙ ap (λ n. n + 1) holds.count ∙ sym (length-append holds.failed (entry ∷ []));
 }
 
-pub sound_adds : (moment : ℕ) (entry : Entry) (old new : Posted) → All IsSound old.objects.items → Adds moment entry old new → All IsSound new.objects.items
+pub sound_adds : (moment : ℕ) (entry : Entry) (old new : Posted) → All IsSound old.objects.items → AddsEntry moment entry old new → All IsSound new.objects.items
 sound_adds moment entry old new all (inl adds) =
     subst (All IsSound) (sym adds.objects)
     (All-append IsSound old.objects.items (adds.object ∷ []) all (All-cons IsSound adds.object [] adds.sound (All-nil IsSound)))
@@ -81,7 +81,7 @@ sound_adds moment entry old new all (inr adds) = subst (All IsSound) (sym adds.o
 
 -- ---- how many
 
-splits_count : (entries : List Entry) (objects : List Described) (failed : List Entry) → Splits entries objects failed
+splits_count : (entries : List Entry) (objects : List Described) (failed : List Entry) → SplitsPostedEntries entries objects failed
     → length objects + length failed ≡ length entries
 splits_count [] objects failed (none, nothing) =
     let few = ap length none in let fewer = ap length nothing in omega (arith, few, fewer)
@@ -92,7 +92,7 @@ splits_count (first ∷ entries) objects failed (inr (others, is, its, rest)) =
 
 -- the first of some entries hold no more than there are
 pub holds_within : (limit moment : ℕ) (entries done rest : List Entry) (posted : Posted) → length entries < limit → entries ≡ done ++ rest
-    → Holds moment done posted → length posted.objects.items + posted.failure_count < limit
+    → HoldsEntries moment done posted → length posted.objects.items + posted.failure_count < limit
 holds_within limit moment entries done rest posted within are holds =
     let count = splits_count done posted.objects.items holds.failed holds.splits in
     let counted = holds.count in

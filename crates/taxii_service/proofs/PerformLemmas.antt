@@ -9,7 +9,7 @@ use Rattle.flow_edges.specs.Faults.{Counted}
 use Rattle.stix_ids.specs.declared.id.Id.{Id}
 use Rattle.stix_ids.specs.declared.refusal.IdRefusal.{IdRefusal}
 use Rattle.stix_ids.specs.declared.refusal.IdRefusal.TheVariants.{BadUuid, BadKind, NoMemory as WantOfMemory}
-use Rattle.stix_ids.specs.Identifier.{IsTextOf}
+use Rattle.stix_ids.specs.Identifier.{IsTextOfId}
 use Rattle.taxii_routes.specs.declared.query.Query.{Query}
 use Rattle.taxii_rows.specs.declared.stored_row.StoredRow.{StoredRow}
 use Rattle.taxii_rows.specs.StoreState.{StoreState}
@@ -18,7 +18,7 @@ use Rattle.http_messages.specs.declared.status.Status.TheVariants.{InternalServe
 use Rattle.taxii_bodies.specs.declared.problem.Problem.{Problem as Trouble}
 use Rattle.taxii_bodies.specs.declared.problem.Problem.TheVariants.{BadValue, Repeated, Forbidden, NotFound, NotAcceptable, UnsupportedMediaType, NotJson, NotList, StoreFault, DatesUsedUp}
 use Rattle.taxii_exchange.specs.declared.answer.Answer.{Answer}
-use Rattle.taxii_exchange.specs.AnswersToRequests.{status_of}
+use Rattle.taxii_exchange.specs.AnswersToRequests.{problem_status}
 use Rattle.taxii_exchange.specs.declared.refusal.Refusal.{Refusal}
 use Rattle.taxii_exchange.specs.declared.refusal.Refusal.TheVariants.{NotAllowed, Problem, NoMemory}
 use Rattle.http_messages.specs.declared.method.Method.{Method}
@@ -32,7 +32,7 @@ if_err (Err refusal) P Q to its = to refusal its
 
 -- a text that was refused for what it is, is no identifier's
 pub no_identifier : (text : List ℕ) (e bad : IdRefusal) → e ≡ bad → bad ≢ WantOfMemory
-    → ((id : Id) → IsTextOf text id → (◌≡◌ {A = Result Id IdRefusal} (Err e) (Ok id)) ⊎ (◌≡◌ {A = Result Id IdRefusal} (Err e) (Err WantOfMemory))) → (id : Id) → ¬ IsTextOf text id
+    → ((id : Id) → IsTextOfId text id → (◌≡◌ {A = Result Id IdRefusal} (Err e) (Ok id)) ⊎ (◌≡◌ {A = Result Id IdRefusal} (Err e) (Err WantOfMemory))) → (id : Id) → ¬ IsTextOfId text id
 no_identifier text e bad same other named id is = go (named id is)
   where
     go : (◌≡◌ {A = Result Id IdRefusal} (Err e) (Ok id)) ⊎ (◌≡◌ {A = Result Id IdRefusal} (Err e) (Err WantOfMemory)) → ⊥
@@ -76,7 +76,7 @@ if_ok (Ok value) P Q to its = to value its
 if_ok (Err refusal) P Q to its = tt
 
 -- only a fault of the store is answered as an error of the server
-pub is_fault : (problem : Trouble) → status_of problem ≡ InternalServerError → problem ≡ StoreFault
+pub is_fault : (problem : Trouble) → problem_status problem ≡ InternalServerError → problem ≡ StoreFault
 is_fault (BadValue param) is = absurd (cc)
 is_fault (Repeated param) is = absurd (cc)
 is_fault Forbidden is = absurd (cc)

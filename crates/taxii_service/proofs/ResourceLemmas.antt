@@ -6,17 +6,17 @@ use Rattle.std.proofs.lemmas.List.Elements.{All-contains, All-weaker}
 use Rattle.stix_ids.specs.declared.id.Id.{Id}
 use Rattle.stix_ids.specs.declared.refusal.IdRefusal.{IdRefusal}
 use Rattle.stix_ids.specs.declared.refusal.IdRefusal.TheVariants.{BadUuid, BadKind, NoMemory}
-use Rattle.stix_ids.specs.Identifier.{IsTextOf}
+use Rattle.stix_ids.specs.Identifier.{IsTextOfId}
 use Rattle.taxii_rows.specs.declared.stored_row.StoredRow.{StoredRow}
 use Rattle.taxii_bodies.specs.declared.collections.CollectionInfo.{CollectionInfo}
 use Rattle.taxii_bodies.specs.Times.{IsWritable}
 use Rattle.taxii_exchange.specs.declared.rights.Rights.{Rights}
 use Rattle.taxii_exchange.specs.Config.{collection_named, rights_of}
-use Rattle.taxii_service.specs.Finding.{Names, NamesRowOf}
+use Rattle.taxii_service.specs.Finding.{NamesCollection, NamesRowOf}
 
 -- a text that was refused for what it is, is no identifier's
 pub no_identifier : (text : List ℕ) (e bad : IdRefusal) → e ≡ bad → bad ≢ NoMemory
-    → ((id : Id) → IsTextOf text id → (◌≡◌ {A = Result Id IdRefusal} (Err e) (Ok id)) ⊎ (◌≡◌ {A = Result Id IdRefusal} (Err e) (Err NoMemory))) → (id : Id) → ¬ IsTextOf text id
+    → ((id : Id) → IsTextOfId text id → (◌≡◌ {A = Result Id IdRefusal} (Err e) (Ok id)) ⊎ (◌≡◌ {A = Result Id IdRefusal} (Err e) (Err NoMemory))) → (id : Id) → ¬ IsTextOfId text id
 no_identifier text e bad same other named id is = go (named id is)
   where
     go : (◌≡◌ {A = Result Id IdRefusal} (Err e) (Ok id)) ⊎ (◌≡◌ {A = Result Id IdRefusal} (Err e) (Err NoMemory)) → ⊥
@@ -34,8 +34,8 @@ writable rows page all held = All-weaker (Contains rows) IsWritable (λ row ther
 
 -- a text that names no collection or is no identifier names no row of a collection
 pub no_object : (collection object : List ℕ) (infos : List CollectionInfo) (rows : List StoredRow) (rights : Rights)
-    → (collection_named collection infos ≡ None) ⊎ ((id : Id) → ¬ IsTextOf object id)
-    → ((info : CollectionInfo) × Names collection infos info × (rights ≡ rights_of info) × NamesRowOf object info.id rows) → ⊥
+    → (collection_named collection infos ≡ None) ⊎ ((id : Id) → ¬ IsTextOfId object id)
+    → ((info : CollectionInfo) × NamesCollection collection infos info × (rights ≡ rights_of info) × NamesRowOf object info.id rows) → ⊥
 no_object collection object infos rows rights (inl none) (info, named, its, any) = absurd (cc)
 no_object collection object infos rows rights (inr never) (info, named, its, any) = never any.1.id any.4.1
 

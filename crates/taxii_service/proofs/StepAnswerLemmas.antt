@@ -20,14 +20,14 @@ use Rattle.taxii_exchange.specs.declared.config.Config.{Config}
 use Rattle.taxii_exchange.specs.declared.refusal.Refusal.{Refusal}
 use Rattle.taxii_exchange.specs.declared.refusal.Refusal.TheVariants.{NotAllowed, Problem, NoMemory}
 use Rattle.taxii_exchange.specs.declared.rights.Rights.{Rights}
-use Rattle.taxii_exchange.specs.AnswersToRequests.{body_answer, bare_answer, answer_to_problem, page_answer, status_of}
+use Rattle.taxii_exchange.specs.AnswersToRequests.{body_answer, bare_answer, answer_to_problem, page_answer, problem_status}
 use Rattle.taxii_exchange.proofs.AnswersToRequestsLemmas.{told_status}
-use Rattle.taxii_exchange.specs.Checking.{IsRefusedFor}
+use Rattle.taxii_exchange.specs.Checking.{IsRefusedByCheck}
 use Rattle.taxii_service.specs.Finding.{allowed_of}
-use Rattle.taxii_service.specs.Reading.{IsPageOf, IsReading}
+use Rattle.taxii_service.specs.Reading.{IsPageOf, IsGetAnswer}
 use Rattle.taxii_service.specs.declared.state.State.{State}
 use Rattle.taxii_service.specs.Adding.{CannotAdd}
-use Rattle.taxii_service.specs.Step.{Posts, Deletes, Does, CannotPost, CannotDo, IsRefused, IsDone, IsAnswerTo, RouteStep, Step}
+use Rattle.taxii_service.specs.Step.{Posts, Deletes, Does, CannotPost, CannotDo, IsRefusedResource, IsDone, IsAnswerTo, RouteStep, Step}
 
 -- what holds of each form that an answer of a step has
 pub record HoldsOfForms (rows : List StoredRow) (P : Answer → Type 0) : Type 0 where
@@ -48,7 +48,7 @@ page_holds P rows forms collection only query Rule answer its =
     subst P (sym its.answer_is) (forms.pages collection only query its.page its.more its.body its.page_is)
 
 reading_holds : (P : Answer → Type 0) (config : Config) (before : State) → HoldsOfForms before.library.rows P → (route : Route) (query : Query) (answer : Answer)
-    → IsReading config before route query answer → P answer
+    → IsGetAnswer config before route query answer → P answer
 reading_holds P config before forms Discovery query answer its = body_holds P forms _ _ answer (λ is. absurd (cc is)) its
 reading_holds P config before forms Root query answer its = body_holds P forms _ _ answer (λ is. absurd (cc is)) its
 reading_holds P config before forms (Status id) query answer its = body_holds P forms _ _ answer (λ is. absurd (cc is)) its.2
@@ -87,7 +87,7 @@ done_holds P config before forms moment request route text answer after done =
 abbrev IsOther : Refusal → Type 0
 IsOther refusal = refusal ≢ Problem StoreFault
 
-refused_other : (its : Allow) (rights : Rights) (request : Request) (text : List ℕ) (refusal : Refusal) → IsRefusedFor its rights request text refusal → IsOther refusal
+refused_other : (its : Allow) (rights : Rights) (request : Request) (text : List ℕ) (refusal : Refusal) → IsRefusedByCheck its rights request text refusal → IsOther refusal
 refused_other its rights request text (Problem StoreFault) refused = absurd refused
 refused_other its rights request text refusal refused = λ is. absurd (cc is)
 
@@ -108,7 +108,7 @@ do_other config before moment request route Delete refusal cannot = absurd canno
 do_other config before moment request route Other refusal cannot = absurd cannot
 
 is_other : (config : Config) (before : State) (moment : ℕ) (request : Request) (route : Route) (text : List ℕ) (refusal : Refusal)
-    → IsRefused config before moment request route text refusal → IsOther refusal
+    → IsRefusedResource config before moment request route text refusal → IsOther refusal
 is_other config before moment request route text refusal (inl nothing) = λ is. absurd (cc (is, nothing.1))
 is_other config before moment request route text refusal (inr (rights, found, inl refused)) = refused_other (allowed_of route) rights request text refusal refused
 is_other config before moment request route text refusal (inr (rights, found, inr cannot)) = do_other config before moment request route request.method refusal cannot.3
@@ -125,11 +125,11 @@ no_fault rows = record {
   pages = λ collection only query page more body its is. absurd (cc is);
 }
 
-problem_no_fault : (problem : Trouble) → Problem problem ≢ Problem StoreFault → status_of problem ≢ InternalServerError
+problem_no_fault : (problem : Trouble) → Problem problem ≢ Problem StoreFault → problem_status problem ≢ InternalServerError
 problem_no_fault StoreFault other = absurd (other (cc))
 problem_no_fault problem other = λ is. absurd (cc is)
 
-told_no_fault : (method : Method) (problem : Trouble) (answer : Answer) → answer ≡ answer_to_problem method problem → status_of problem ≢ InternalServerError → IsNoFault answer
+told_no_fault : (method : Method) (problem : Trouble) (answer : Answer) → answer ≡ answer_to_problem method problem → problem_status problem ≢ InternalServerError → IsNoFault answer
 told_no_fault method problem answer is other failed = other (sym (told_status method problem) ∙ sym (ap (λ (one : Answer). one.status) is) ∙ failed)
 
 answer_no_fault : (method : Method) (refusal : Refusal) (answer : Answer) → IsOther refusal → IsAnswerTo method refusal answer → IsNoFault answer

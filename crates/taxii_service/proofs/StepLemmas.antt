@@ -12,7 +12,7 @@ use Rattle.taxii_service.specs.Adding.{with_added}
 use Rattle.taxii_service.specs.Deleting.{without_dates}
 use Rattle.taxii_service.specs.Step.{Posts, Deletes, Does, RouteStep, Step}
 use Rattle.taxii_store.specs.History.{IsHistory}
-use Rattle.taxii_service.specs.Exchanges.{Course, Stepped, KeeperFailed, OutOfMemory, Exchange, Runs, IsExchange}
+use Rattle.taxii_service.specs.Exchanges.{Course, Stepped, KeeperFailed, OutOfMemory, Exchange, RunsExchange, IsExchange}
 use Rattle.taxii_service.proofs.DatedLemmas.{no_history, one_change}
 use Rattle.taxii_service.proofs.AddedLemmas.{added}
 
@@ -53,7 +53,7 @@ stepped config before moment request answer after step = elim step.outcome [
   | inr found ↦ routed config before moment request found.0 (unwrap_or step.query []) answer after found.2
 ]
 
-runs : (config : Config) (e : Exchange) (course : Course) → Runs course config e → IsHistory e.before.library e.after.library
+runs : (config : Config) (e : Exchange) (course : Course) → RunsExchange course config e → IsHistory e.before.library e.after.library
 runs config e Stepped step = stepped config e.before e.moment e.request e.answer e.after step
 runs config e KeeperFailed fails = unchanged e.before e.after fails.unchanged
 runs config e OutOfMemory wants = unchanged e.before e.after wants.1

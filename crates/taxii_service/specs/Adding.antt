@@ -11,7 +11,7 @@ use Rattle.taxii_bodies.specs.Details.{IsSuccessOf}
 use Rattle.taxii_bodies.specs.Status.{status_id_of, IsStatus}
 use Rattle.taxii_service.specs.declared.posted.Posted.{Posted}
 use Rattle.taxii_service.specs.declared.posted.TheConstants.{MAX_DETAILS}
-use Rattle.taxii_service.specs.Posted.{IsPosted, IsUnreadable}
+use Rattle.taxii_service.specs.Posted.{IsPosted, IsUnreadableBody}
 use Rattle.taxii_exchange.specs.Statuses.{next_number, with_status}
 use Rattle.taxii_bodies.specs.declared.problem.Problem.TheVariants.{DatesUsedUp}
 use Rattle.taxii_exchange.specs.declared.refusal.Refusal.{Refusal}
@@ -23,7 +23,7 @@ abbrev pub IsSuccess : List StoredRow → AddOutcome → Detail → Type 0
 IsSuccess rows outcome detail = (row : StoredRow) × Contains rows row × (row.date ≡ date_in outcome) × IsSuccessOf row detail
 
 -- what is reported of an addition, with these rows after it
-pub record IsReport (number moment : ℕ) (posted : Posted) (outcomes : List AddOutcome) (rows : List StoredRow) (report : StatusReport) : Type 0 where
+pub record IsStatusReport (number moment : ℕ) (posted : Posted) (outcomes : List AddOutcome) (rows : List StoredRow) (report : StatusReport) : Type 0 where
   pub number_is : report.number ≡ number
   pub moment_is : report.moment ≡ moment
   pub successes : AllZip (IsSuccess rows) (take MAX_DETAILS outcomes) report.successes
@@ -39,7 +39,7 @@ pub record IsAdding (before : State) (collection moment : ℕ) (body : List ℕ)
   pub report : StatusReport
   pub posted_is : IsPosted body moment posted
   pub addition : IsAddition before.library collection moment posted.objects.items outcomes new
-  pub report_is : IsReport (next_number before.statuses) moment posted outcomes (before.library.rows ++ new) report
+  pub report_is : IsStatusReport (next_number before.statuses) moment posted outcomes (before.library.rows ++ new) report
   pub text_is : IsStatus report text
 
 -- the state with new rows, and with the text as the latest status
@@ -50,7 +50,7 @@ with_added new text before = record {
 }
 
 -- fewer dates are left than the addition has new rows
-pub record LacksDates (before : State) (collection moment : ℕ) (body : List ℕ) : Type 0 where
+pub record LacksDatesForAddition (before : State) (collection moment : ℕ) (body : List ℕ) : Type 0 where
   pub posted : Posted
   pub posted_is : IsPosted body moment posted
   pub lacks : UsesUpDates before.library collection posted.objects.items
@@ -58,4 +58,4 @@ pub record LacksDates (before : State) (collection moment : ℕ) (body : List �
 -- why nothing can be added
 abbrev pub CannotAdd : State → ℕ → ℕ → List ℕ → Refusal → Type 0
 CannotAdd before collection moment body refusal =
-    IsUnreadable body refusal ⊎ ((refusal ≡ Problem DatesUsedUp) × LacksDates before collection moment body)
+    IsUnreadableBody body refusal ⊎ ((refusal ≡ Problem DatesUsedUp) × LacksDatesForAddition before collection moment body)

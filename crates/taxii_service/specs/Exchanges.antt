@@ -5,7 +5,7 @@ use Rattle.http_messages.specs.declared.request.Request.{Request}
 use Rattle.taxii_exchange.specs.declared.answer.Answer.{Answer}
 use Rattle.taxii_exchange.specs.Answers.{no_memory_answer}
 use Rattle.taxii_routes.specs.declared.route.Route.{Route}
-use Rattle.taxii_routes.specs.Route.{IsPathOf}
+use Rattle.taxii_routes.specs.Route.{IsRoutePath}
 use Rattle.taxii_routes.specs.Target.{IsTargetOf}
 use Rattle.taxii_exchange.specs.declared.config.Config.{Config}
 use Rattle.taxii_service.specs.declared.state.State.{State}
@@ -27,14 +27,14 @@ pub record Exchange : Type 0 where
   pub after : State
 
 -- an exchange: a step, or a response that reports a failure, and then nothing has changed
-abbrev pub Runs : Course → Config → Exchange → Type 0
-Runs Stepped config e = Step config e.before e.moment e.request e.answer e.after
-Runs KeeperFailed config e = FailsToKeep config e.before e.moment e.request e.answer e.after
-Runs OutOfMemory config e = (e.answer ≡ no_memory_answer) × (e.after ≡ e.before)
+abbrev pub RunsExchange : Course → Config → Exchange → Type 0
+RunsExchange Stepped config e = Step config e.before e.moment e.request e.answer e.after
+RunsExchange KeeperFailed config e = FailsToKeep config e.before e.moment e.request e.answer e.after
+RunsExchange OutOfMemory config e = (e.answer ≡ no_memory_answer) × (e.after ≡ e.before)
 
 -- the exchange went as its course says
 abbrev pub IsExchange : Config → Exchange → Type 0
-IsExchange config e = Runs e.course config e
+IsExchange config e = RunsExchange e.course config e
 
 -- an exchange performed its request: its target has a path and perhaps a query, the path has a
 -- route, and no check failed
@@ -43,7 +43,7 @@ pub record WasDone (config : Config) (e : Exchange) : Type 0 where
   pub text : Option (List ℕ)
   pub target_is : IsTargetOf e.request.target path text
   pub route : Route
-  pub route_is : IsPathOf path route
+  pub route_is : IsRoutePath path route
   pub done : IsDone config e.before e.moment e.request route (unwrap_or text []) e.answer e.after
 
 -- each exchange begins with what the one before it left

@@ -13,7 +13,7 @@ use Rattle.taxii_rows.specs.declared.stored_row.StoredRow.{StoredRow}
 use Rattle.taxii_bodies.specs.declared.collections.CollectionInfo.{CollectionInfo}
 use Rattle.taxii_service.specs.declared.state.State.{State}
 use Rattle.taxii_service.specs.Resource.{Resource, Objects, Object}
-use Rattle.taxii_service.specs.Reading.{IsReading}
+use Rattle.taxii_service.specs.Reading.{IsGetAnswer}
 use Rattle.taxii_service.specs.Adding.{IsAdding, CannotAdd, with_added}
 use Rattle.taxii_service.specs.Deleting.{AreDeleted, without_dates}
 
@@ -47,7 +47,7 @@ pub record RemovesObject (before : State) (collection : ℕ) (id : Id) (query : 
 -- the effect of an operation
 abbrev pub Does : Config → State → ℕ → List ℕ → Query → Operation → Answer → State → Type 0
 Does config before moment body query (Read resource) answer after =
-    IsReading config before resource query answer × (after ≡ before)
+    IsGetAnswer config before resource query answer × (after ≡ before)
 Does config before moment body query (Add info) answer after =
     AddsBody before moment body info.id answer after
 Does config before moment body query (Remove info id) answer after =

@@ -5,14 +5,14 @@ use Rattle.serde_json.specs.Data.{Data}
 use Rattle.stix_json.specs.declared.entry.Entry.{Entry}
 use Rattle.stix_json.specs.declared.entry.Entry.TheVariants.{Good, Bad}
 use Rattle.stix_json.specs.DataOf.{data_of}
-use Rattle.stix_json.specs.Entries.{AreEntriesOf, HasNoList}
+use Rattle.stix_json.specs.Entries.{AreListEntriesOf, HasNoList}
 use Rattle.stix_json.specs.Reading.{HasNoValue}
 use Rattle.stix_objects.specs.declared.rule_break.Break.{Break}
 use Rattle.stix_objects.specs.Breaks.{AreBreaksOf}
 use Rattle.taxii_rows.specs.declared.described.Described.{Described}
 use Rattle.taxii_rows.specs.Described.{IsDescribed}
 use Rattle.taxii_bodies.specs.declared.details.Detail.{Detail}
-use Rattle.taxii_bodies.specs.Details.{IsFailureOf, IsRefusalOf}
+use Rattle.taxii_bodies.specs.Details.{IsFailureOf, IsRefusalDetail}
 use Rattle.taxii_service.specs.declared.posted.Posted.{Posted}
 use Rattle.taxii_service.specs.declared.posted.TheConstants.{MAX_DETAILS}
 use Rattle.taxii_bodies.specs.declared.problem.Problem.TheVariants.{NotJson, NotList}
@@ -37,28 +37,28 @@ Fails (Bad refusal) = ⊤
 -- the detail of a failed entry; for a value it names the first violation
 abbrev pub IsDetailOf : ℕ → Entry → Detail → Type 0
 IsDetailOf moment (Good value) detail = (first : Break) × BreaksFirst (data_of value) first × IsFailureOf (data_of value) first moment detail
-IsDetailOf moment (Bad refusal) detail = IsRefusalOf refusal moment detail
+IsDetailOf moment (Bad refusal) detail = IsRefusalDetail refusal moment detail
 
 -- entries in order: an object is kept of each, or it fails
-abbrev pub Splits : List Entry → List Described → List Entry → Type 0
-Splits [] objects failed = (objects ≡ []) × (failed ≡ [])
-Splits (entry ∷ entries) objects failed =
-    ((object : Described) × (others : List Described) × (objects ≡ object ∷ others) × IsKept entry object × Splits entries others failed)
-    ⊎ ((others : List Entry) × (failed ≡ entry ∷ others) × Fails entry × Splits entries objects others)
+abbrev pub SplitsPostedEntries : List Entry → List Described → List Entry → Type 0
+SplitsPostedEntries [] objects failed = (objects ≡ []) × (failed ≡ [])
+SplitsPostedEntries (entry ∷ entries) objects failed =
+    ((object : Described) × (others : List Described) × (objects ≡ object ∷ others) × IsKept entry object × SplitsPostedEntries entries others failed)
+    ⊎ ((others : List Entry) × (failed ≡ entry ∷ others) × Fails entry × SplitsPostedEntries entries objects others)
 
 -- what some entries hold, in a request of that moment: those that fail are counted, and the first
 -- of them have details
-pub record Holds (moment : ℕ) (entries : List Entry) (posted : Posted) : Type 0 where
+pub record HoldsEntries (moment : ℕ) (entries : List Entry) (posted : Posted) : Type 0 where
   pub failed : List Entry
-  pub splits : Splits entries posted.objects.items failed
+  pub splits : SplitsPostedEntries entries posted.objects.items failed
   pub details : AllZip (IsDetailOf moment) (take MAX_DETAILS failed) posted.failures
   pub count : posted.failure_count ≡ length failed
 
 -- what the body of a request of that moment holds
 pub record IsPosted (body : List ℕ) (moment : ℕ) (posted : Posted) : Type 0 where
   pub entries : List Entry
-  pub entries_are : AreEntriesOf body (codes "objects") entries
-  pub holds : Holds moment entries posted
+  pub entries_are : AreListEntriesOf body (codes "objects") entries
+  pub holds : HoldsEntries moment entries posted
 
 -- the body is not UTF-8, is no JSON, or nests more than 127 levels
 abbrev pub IsNotJson : List ℕ → Type 0
@@ -69,6 +69,6 @@ abbrev pub HasNoObjects : List ℕ → Type 0
 HasNoObjects body = HasNoList body (codes "objects")
 
 -- why the body has no list of objects
-abbrev pub IsUnreadable : List ℕ → Refusal → Type 0
-IsUnreadable body refusal =
+abbrev pub IsUnreadableBody : List ℕ → Refusal → Type 0
+IsUnreadableBody body refusal =
     ((refusal ≡ Problem NotJson) × IsNotJson body) ⊎ ((refusal ≡ Problem NotList) × HasNoObjects body)

@@ -14,7 +14,7 @@ use Rattle.taxii_bodies.specs.Collections.{collection_data, collections_data}
 use Rattle.taxii_bodies.specs.Envelope.{envelope_text}
 use Rattle.taxii_bodies.specs.Manifest.{IsManifest}
 use Rattle.taxii_bodies.specs.Versions.{AreVersions}
-use Rattle.taxii_exchange.specs.Statuses.{body_of}
+use Rattle.taxii_exchange.specs.Statuses.{kept_status_body}
 use Rattle.taxii_service.specs.declared.state.State.{State}
 use Rattle.taxii_exchange.specs.declared.config.Config.{Config}
 use Rattle.taxii_exchange.specs.AnswersToRequests.{body_answer, page_answer}
@@ -62,18 +62,18 @@ versions_query query = record {
 }
 
 -- the answer to a GET of a resource, whose query asks for this
-abbrev pub IsReading : Config → State → Resource → Query → Answer → Type 0
-IsReading config state Discovery query answer = HasBody (compact_text (discovery_data config.base)) answer
-IsReading config state Root query answer = HasBody (compact_text root_data) answer
-IsReading config state (Status id) query answer =
-    (body : List ℕ) × (body_of id state.statuses ≡ Some body) × HasBody body answer
-IsReading config state Collections query answer = HasBody (compact_text (collections_data config.collections)) answer
-IsReading config state (Collection info) query answer = HasBody (compact_text (collection_data info)) answer
-IsReading config state (Manifest info) query answer =
+abbrev pub IsGetAnswer : Config → State → Resource → Query → Answer → Type 0
+IsGetAnswer config state Discovery query answer = HasBody (compact_text (discovery_data config.base)) answer
+IsGetAnswer config state Root query answer = HasBody (compact_text root_data) answer
+IsGetAnswer config state (Status id) query answer =
+    (body : List ℕ) × (kept_status_body id state.statuses ≡ Some body) × HasBody body answer
+IsGetAnswer config state Collections query answer = HasBody (compact_text (collections_data config.collections)) answer
+IsGetAnswer config state (Collection info) query answer = HasBody (compact_text (collection_data info)) answer
+IsGetAnswer config state (Manifest info) query answer =
     IsPageOf state.library.rows info.id None query IsManifest answer
-IsReading config state (Objects info) query answer =
+IsGetAnswer config state (Objects info) query answer =
     IsPageOf state.library.rows info.id None query IsEnvelope answer
-IsReading config state (Object info id) query answer =
+IsGetAnswer config state (Object info id) query answer =
     IsPageOf state.library.rows info.id (Some id) (object_query query) IsEnvelope answer
-IsReading config state (Versions info id) query answer =
+IsGetAnswer config state (Versions info id) query answer =
     IsPageOf state.library.rows info.id (Some id) (versions_query query) AreVersions answer

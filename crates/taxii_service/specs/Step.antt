@@ -8,14 +8,14 @@ use Rattle.taxii_exchange.specs.declared.answer.Answer.{Answer}
 use Rattle.taxii_routes.specs.declared.query.Query.{Query}
 use Rattle.taxii_routes.specs.declared.route.Route.{Route}
 use Rattle.taxii_routes.specs.Query.{pairs_of, IsQueryOf}
-use Rattle.taxii_routes.specs.Route.{IsPathOf}
+use Rattle.taxii_routes.specs.Route.{IsRoutePath}
 use Rattle.taxii_routes.specs.Target.{IsTargetOf}
 use Rattle.taxii_bodies.specs.declared.problem.Problem.TheVariants.{NotFound, StoreFault}
 use Rattle.taxii_exchange.specs.declared.config.Config.{Config}
 use Rattle.taxii_exchange.specs.declared.refusal.Refusal.{Refusal}
 use Rattle.taxii_exchange.specs.declared.refusal.Refusal.TheVariants.{NotAllowed, Problem, NoMemory}
 use Rattle.taxii_exchange.specs.AnswersToRequests.{bare_answer, answer_to_problem}
-use Rattle.taxii_exchange.specs.Checking.{IsFit, IsRefusedFor}
+use Rattle.taxii_exchange.specs.Checking.{IsFit, IsRefusedByCheck}
 use Rattle.taxii_service.specs.Resource.{Resource, allowed, rights_to}
 use Rattle.taxii_service.specs.Finding.{IsResource, HasNoResource}
 use Rattle.taxii_service.specs.Operation.{Operation, IsOperation, Does, CannotDo}
@@ -31,11 +31,11 @@ pub record IsUndone (before : State) (moment : ℕ) (request : Request) (resourc
   pub cannot : CannotDo before moment request.body operation refusal
 
 -- why a request to the resource of a route is refused
-abbrev pub IsRefused : Config → State → ℕ → Request → Route → List ℕ → Refusal → Type 0
-IsRefused config before moment request route text refusal =
+abbrev pub IsRefusedResource : Config → State → ℕ → Request → Route → List ℕ → Refusal → Type 0
+IsRefusedResource config before moment request route text refusal =
     (HasNoResource config.collections before route × (refusal ≡ Problem NotFound))
     ⊎ ((resource : Resource) × IsResource config.collections before route resource
-    × (IsRefusedFor (allowed resource) (rights_to resource) request text refusal
+    × (IsRefusedByCheck (allowed resource) (rights_to resource) request text refusal
     ⊎ IsUndone before moment request resource text refusal))
 
 -- the request is done
@@ -58,7 +58,7 @@ IsAnswerTo method NoMemory answer = ⊥
 -- a request to the resource of a route is refused or done
 abbrev pub RouteStep : Config → State → ℕ → Request → Route → List ℕ → Answer → State → Type 0
 RouteStep config before moment request route text answer after =
-    ((refusal : Refusal) × IsRefused config before moment request route text refusal × IsAnswerTo request.method refusal answer × (after ≡ before))
+    ((refusal : Refusal) × IsRefusedResource config before moment request route text refusal × IsAnswerTo request.method refusal answer × (after ≡ before))
     ⊎ IsDone config before moment request route text answer after
 
 -- one step: a path without a route is not found
@@ -67,8 +67,8 @@ pub record Step (config : Config) (before : State) (moment : ℕ) (request : Req
   pub query : Option (List ℕ)
   pub target_is : IsTargetOf request.target path query
   pub outcome :
-      (((route : Route) → ¬ IsPathOf path route) × (answer ≡ answer_to_problem request.method NotFound) × (after ≡ before))
-      ⊎ ((route : Route) × IsPathOf path route × RouteStep config before moment request route (unwrap_or query []) answer after)
+      (((route : Route) → ¬ IsRoutePath path route) × (answer ≡ answer_to_problem request.method NotFound) × (after ≡ before))
+      ⊎ ((route : Route) × IsRoutePath path route × RouteStep config before moment request route (unwrap_or query []) answer after)
 
 -- the keeper failed in a request whose step changes rows; nothing has changed
 pub record FailsToKeep (config : Config) (before : State) (moment : ℕ) (request : Request) (answer : Answer) (after : State) : Type 0 where

@@ -4,7 +4,7 @@
 use Rattle.std.specs.Prelude.{◌≡◌, ◌⊎◌, ⊤, ℕ, List, [], ◌∷◌, All, map, true, false, Option, Some, None, unwrap_or}
 use Rattle.std.specs.List.{Contains}
 use Rattle.stix_ids.specs.declared.id.Id.{Id}
-use Rattle.stix_ids.specs.Identifier.{IsTextOf}
+use Rattle.stix_ids.specs.Identifier.{IsTextOfId}
 use Rattle.http_messages.specs.declared.method.Method.TheVariants.{Get}
 use Rattle.http_messages.specs.declared.request.Request.{Request}
 use Rattle.http_messages.specs.declared.status.Status.TheVariants.{Okay}
@@ -13,7 +13,7 @@ use Rattle.taxii_routes.specs.declared.query.Query.{Query}
 use Rattle.taxii_routes.specs.declared.route.Route.{Route}
 use Rattle.taxii_routes.specs.declared.route.Route.TheVariants.{Objects, Object}
 use Rattle.taxii_routes.specs.Query.{pairs_of, IsQueryOf}
-use Rattle.taxii_routes.specs.Route.{IsPathOf}
+use Rattle.taxii_routes.specs.Route.{IsRoutePath}
 use Rattle.taxii_routes.specs.Target.{IsTargetOf}
 use Rattle.taxii_rows.specs.declared.stored_row.StoredRow.{StoredRow}
 use Rattle.taxii_rows.specs.StoreState.{dates_of, AscendFrom}
@@ -21,7 +21,7 @@ use Rattle.taxii_bodies.specs.declared.collections.CollectionInfo.{CollectionInf
 use Rattle.taxii_bodies.specs.Envelope.{envelope_text}
 use Rattle.taxii_exchange.specs.declared.config.Config.{Config}
 use Rattle.taxii_exchange.specs.AnswersToRequests.{page_answer}
-use Rattle.taxii_service.specs.Finding.{Names}
+use Rattle.taxii_service.specs.Finding.{NamesCollection}
 use Rattle.taxii_service.specs.Reading.{object_query}
 use Rattle.taxii_store.specs.Page.{IsPage}
 use Rattle.taxii_store.specs.Walk.{Stop, Wanted, AsksAlike, IsWanted, last_date, rows_given, last_state}
@@ -30,15 +30,15 @@ use Rattle.taxii_service.specs.Exchanges.{Exchange}
 -- all objects of a collection are requested
 abbrev pub AsksForAll : Config → Route → Query → ℕ → Option Id → Query → Type 0
 AsksForAll config route parsed collection only query =
-    (id : List ℕ) × (info : CollectionInfo) × (route ≡ Objects id) × Names id config.collections info
+    (id : List ℕ) × (info : CollectionInfo) × (route ≡ Objects id) × NamesCollection id config.collections info
     × (collection ≡ info.id) × (only ≡ None) × (query ≡ parsed)
 
 -- one object of a collection is requested, and then its type and its identifier are not requested
 -- again
 abbrev pub AsksForOne : Config → Route → Query → ℕ → Option Id → Query → Type 0
 AsksForOne config route parsed collection only query =
-    (name text : List ℕ) × (info : CollectionInfo) × (id : Id) × (route ≡ Object name text) × Names name config.collections info
-    × IsTextOf text id × (collection ≡ info.id) × (only ≡ Some id) × (query ≡ object_query parsed)
+    (name text : List ℕ) × (info : CollectionInfo) × (id : Id) × (route ≡ Object name text) × NamesCollection name config.collections info
+    × IsTextOfId text id × (collection ≡ info.id) × (only ≡ Some id) × (query ≡ object_query parsed)
 
 -- a GET of objects, with what its query asks for
 pub record Asks (config : Config) (request : Request) (collection : ℕ) (only : Option Id) (query : Query) : Type 0 where
@@ -48,7 +48,7 @@ pub record Asks (config : Config) (request : Request) (collection : ℕ) (only :
   pub parsed : Query
   pub get : request.method ≡ Get
   pub target_is : IsTargetOf request.target path text
-  pub route_is : IsPathOf path route
+  pub route_is : IsRoutePath path route
   pub query_is : IsQueryOf (pairs_of (unwrap_or text [])) parsed
   pub asks : AsksForAll config route parsed collection only query ⊎ AsksForOne config route parsed collection only query
 

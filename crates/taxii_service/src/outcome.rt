@@ -3,7 +3,7 @@ ghost use Rattle.flow_edges.specs.Faults.{Counted};
 ghost use Rattle.taxii_bodies.specs.declared.problem.Problem.TheVariants as Trouble;
 ghost use Rattle.taxii_exchange.specs.declared.refusal.Refusal.TheVariants as Refused;
 ghost use Rattle.taxii_store.specs.Agreement.{Agrees, without_rows};
-ghost use Rattle.taxii_service.specs.Step.{IsRefused, IsDone};
+ghost use Rattle.taxii_service.specs.Step.{IsRefusedResource, IsDone};
 ghost use Rattle.taxii_service.specs.inner.Performing.{RouteChanges};
 
 use crate::operation::Operation;
@@ -33,7 +33,7 @@ pub(crate) fn outcome<K: Keeper>(
         answer state.new) }
     // the reason holds: a check refused the request, or the keeper failed on a change
     ensures err { IfErr result (λ refusal. (refusal ≡ Refused.NoMemory)
-        ⊎ (IsRefused config.now state.old moment request.now route.now query.now refusal
+        ⊎ (IsRefusedResource config.now state.old moment request.now route.now query.now refusal
         ⊎ ((refusal ≡ Refused.Problem Trouble.StoreFault)
         × RouteChanges config.now state.old moment request.now route.now query.now))) }
     ensures unchanged { OnErr result (state.new ≡ state.old) }

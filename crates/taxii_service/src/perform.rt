@@ -5,7 +5,7 @@ ghost use Rattle.taxii_exchange.specs.declared.refusal.Refusal.TheVariants as Re
 ghost use Rattle.taxii_store.specs.Agreement.{Agrees, without_rows};
 ghost use Rattle.taxii_service.specs.Operation.{Read, Does, CannotDo};
 ghost use Rattle.taxii_service.specs.Resource.{Resource};
-ghost use Rattle.taxii_service.specs.inner.Performing.{operation_of, HasStatus, Changes};
+ghost use Rattle.taxii_service.specs.inner.Performing.{operation_of, HasStatus, MethodChanges};
 
 use crate::operation::Operation;
 use crate::reading::read;
@@ -35,7 +35,7 @@ pub(crate) fn perform<K: Keeper>(
     ensures err { IfErr result (λ refusal. (refusal ≡ Refused.NoMemory)
         ⊎ (CannotDo state.old moment body.now (operation_of operation) refusal
         ⊎ ((refusal ≡ Refused.Problem Trouble.StoreFault)
-        × Changes config.now state.old moment body.now query (operation_of operation)))) }
+        × MethodChanges config.now state.old moment body.now query (operation_of operation)))) }
     ensures unchanged { OnErr result (state.new ≡ state.old) }
     ensures causes { Counted (result ≡ Err (Refused.Problem Trouble.StoreFault))
         (K.faults keeper.old) (K.faults keeper.new) }

@@ -1,9 +1,10 @@
-ghost use Rattle.std.specs.Prelude.{◌≡◌, ◌⊎◌, ◌+◌, ◌<◌, ◌^◌, ℕ, List, All, IfOk, IfErr, length, codes};
+ghost use Rattle.std.specs.Prelude.{◌≡◌, ◌⊎◌, ◌+◌, ◌<◌, ◌^◌, ℕ, List, All, IfOk, IfErr, length};
+ghost use Rattle.std.specs.Prelude.{codes};
 ghost use Rattle.stix_json.specs.Entries.{HasNoEntriesAs};
 ghost use Rattle.taxii_exchange.specs.declared.refusal.Refusal.TheVariants as Refused;
 ghost use Rattle.taxii_store.specs.Planned.{IsSound};
-ghost use Rattle.taxii_service.specs.Posted.{Holds, IsPosted, IsUnreadable};
-ghost use Rattle.taxii_service.specs.inner.Posting.{IsTaken};
+ghost use Rattle.taxii_service.specs.Posted.{HoldsEntries, IsPosted, IsUnreadableBody};
+ghost use Rattle.taxii_service.specs.inner.Posting.{IsTakenEntry};
 
 use crate::Posted;
 use flow_values::NoMemory;
@@ -22,7 +23,7 @@ pub fn read_posted(alloc: Global, body: &[u8], moment: u64) -> Result<Posted, Re
     ensures few { IfOk result
         (λ posted. length posted.objects.items + posted.failure_count < 2 ^ 63) }
     ensures err { IfErr result (λ refusal. (refusal ≡ Refused.NoMemory)
-        ⊎ IsUnreadable body.now refusal) }
+        ⊎ IsUnreadableBody body.now refusal) }
 {
     match read_entries(alloc, body, "objects") {
         Ok(entries) => Ok(check_entries(alloc, entries.into_vec(), moment)?),
@@ -33,7 +34,7 @@ pub fn read_posted(alloc: Global, body: &[u8], moment: u64) -> Result<Posted, Re
 /// The reader's refusal of a body as that of the request.
 fn refusal_of_body(refusal: JsonRefusal) -> Refusal
     ensures { (body : List ℕ) → HasNoEntriesAs body (codes "objects") refusal
-        → (result ≡ Refused.NoMemory) ⊎ IsUnreadable body result }
+        → (result ≡ Refused.NoMemory) ⊎ IsUnreadableBody body result }
 {
     match refusal {
         JsonRefusal::NotList => Refusal::Problem(Problem::NotList),
@@ -50,8 +51,8 @@ fn refusal_of_body(refusal: JsonRefusal) -> Refusal
 /// Checks the entries. Each is dropped after its check, so the memory of the parsed entries shrinks
 /// as that of the objects grows.
 fn check_entries(alloc: Global, entries: Vec<Entry>, moment: u64) -> Result<Posted, NoMemory>
-    requires { All IsTaken entries.items }
-    ensures holds { IfOk result (Holds moment entries.items) }
+    requires { All IsTakenEntry entries.items }
+    ensures holds { IfOk result (HoldsEntries moment entries.items) }
     ensures sound { IfOk result (λ posted. All IsSound posted.objects.items) }
     ensures few { IfOk result
         (λ posted. length posted.objects.items + posted.failure_count < 2 ^ 63) }

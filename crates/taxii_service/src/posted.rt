@@ -3,7 +3,8 @@ ghost use Rattle.stix_json.specs.DataOf.{data_of};
 ghost use Rattle.stix_json.specs.declared.entry.Entry.TheVariants.{Good, Bad};
 ghost use Rattle.stix_objects.specs.Breaks.{AreBreaksOf};
 ghost use Rattle.taxii_service.specs.Posted.{BreaksFirst};
-ghost use Rattle.taxii_service.specs.inner.Posting.{IsTaken, Adds, AddsObject, AddsFailure};
+ghost use Rattle.taxii_service.specs.inner.Posting.{IsTakenEntry, AddsEntry, AddsObject};
+ghost use Rattle.taxii_service.specs.inner.Posting.{AddsFailure};
 
 use flow_values::{Items, NoMemory};
 use std::alloc::Global;
@@ -43,9 +44,9 @@ impl Posted {
 
     /// Adds an entry of a request that arrived at `moment`.
     pub(crate) fn add(&mut self, alloc: Global, entry: Entry, moment: u64) -> Result<(), NoMemory>
-        requires taken { IsTaken entry }
+        requires taken { IsTakenEntry entry }
         requires room { self.old.failure_count < 2 ^ 63 }
-        ensures { OnOk result (Adds moment entry self.old self.new) }
+        ensures { OnOk result (AddsEntry moment entry self.old self.new) }
     {
         match entry {
             Entry::Good(value) => self.add_value(alloc, &value, moment),
@@ -57,9 +58,9 @@ impl Posted {
     /// have details, values without an identifier are counted without checking the rules: untrusted
     /// clients may send millions of them.
     fn add_value(&mut self, alloc: Global, value: &Json, moment: u64) -> Result<(), NoMemory>
-        requires taken { IsTaken (Good value.now) }
+        requires taken { IsTakenEntry (Good value.now) }
         requires room { self.old.failure_count < 2 ^ 63 }
-        ensures { OnOk result (Adds moment (Good value.now) self.old self.new) }
+        ensures { OnOk result (AddsEntry moment (Good value.now) self.old self.new) }
     {
         if self.failures.len() >= MAX_DETAILS && has_no_id(value) {
             self.failure_count += 1;
@@ -74,7 +75,7 @@ impl Posted {
 
     /// Adds an object.
     fn add_object(&mut self, alloc: Global, object: &Json) -> Result<(), NoMemory>
-        requires taken { IsTaken (Good object.now) }
+        requires taken { IsTakenEntry (Good object.now) }
         requires unbroken { AreBreaksOf (data_of object.now) [] }
         ensures { OnOk result (AddsObject (Good object.now) self.old self.new) }
     {

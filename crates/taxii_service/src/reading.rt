@@ -3,11 +3,11 @@ ghost use Rattle.stix_ids.specs.declared.pick.Pick.TheVariants.{All as PickAll};
 ghost use Rattle.stix_ids.specs.PartsOf.{id_of};
 ghost use Rattle.taxii_bodies.specs.Discovery.{discovery_data};
 ghost use Rattle.taxii_bodies.specs.Versions.{AreVersions};
-ghost use Rattle.taxii_exchange.specs.Statuses.{body_of};
+ghost use Rattle.taxii_exchange.specs.Statuses.{kept_status_body};
 ghost use Rattle.serde_json.specs.Written.{compact_text};
 ghost use Rattle.taxii_service.specs.Resource.{resource_of};
 ghost use Rattle.taxii_service.specs.Reading.{HasBody, IsPageOf, IsEnvelope};
-ghost use Rattle.taxii_service.specs.Reading.{object_query, versions_query, IsReading};
+ghost use Rattle.taxii_service.specs.Reading.{object_query, versions_query, IsGetAnswer};
 ghost use Rattle.taxii_service.specs.inner.Performing.{HasStatus};
 
 use crate::listing::{list_manifest, list_objects, list_versions};
@@ -29,7 +29,7 @@ pub(crate) fn read(
     query: Query,
 ) -> Result<Answer, NoMemory>
     requires status { HasStatus state.now (resource_of resource) }
-    ensures { IfOk result (IsReading config.now state.now (resource_of resource) query) }
+    ensures { IfOk result (IsGetAnswer config.now state.now (resource_of resource) query) }
 {
     let alloc = config.alloc;
     let library = &state.library;
@@ -64,8 +64,8 @@ fn read_discovery(config: &Config) -> Result<Answer, NoMemory>
 }
 
 fn read_status(alloc: Global, statuses: &Statuses, id: &str) -> Result<Answer, NoMemory>
-    requires { body_of id.now statuses.now ≢ None }
-    ensures { IfOk result (λ answer. (body : List ℕ) × (body_of id.now statuses.now ≡ Some body)
+    requires { kept_status_body id.now statuses.now ≢ None }
+    ensures { IfOk result (λ answer. (body : List ℕ) × (kept_status_body id.now statuses.now ≡ Some body)
         × HasBody body answer) }
 {
     match statuses.find(id) {

@@ -88,7 +88,7 @@ module _ {S : Type 0} (shown : Held S → State) where
   abbrev Stays : (Held S → Held S → Type 0) → Type 0
   Stays Run = (before after : Held S) → Run before after → IsTrue (shown after).is_open → IsTrue (shown before).is_open
 
-  runs_stay : (text : List ℕ) (values : Row) → Stays (asked.Runs shown text values)
+  runs_stay : (text : List ℕ) (values : Row) → Stays (asked.RunsStatement shown text values)
   runs_stay text values before after ran still = executed_open (shown before) (shown after) text values ran.0 ran.1 still
 
   in_turn_stay : {X : Type 0} (step : X → Held S → Held S → Type 0) → ((x : X) → Stays (step x)) → (xs : List X) → Stays (asked.InTurn step xs)
@@ -99,20 +99,20 @@ module _ {S : Type 0} (shown : Held S → State) where
   set_stays true watermark before after same still = subst (λ (h : Held S). IsTrue (shown h).is_open) same still
   set_stays false watermark before after marked still = runs_stay _ _ before after marked still
 
-  adds_stay : (rows : List StoredRow) (watermark : ℕ) → Stays (asked.Adds shown rows watermark)
+  adds_stay : (rows : List StoredRow) (watermark : ℕ) → Stays (asked.InsertsRows shown rows watermark)
   adds_stay rows watermark before after (between, rows_in, marked) still =
       in_turn_stay (asked.Inserts shown) (λ row one two added. runs_stay _ added.0 one two added.2) rows before between rows_in
       (set_stays (asked.ends_at rows watermark) watermark between after marked still)
 
   deletes_stay : (dates : List ℕ) → Stays (asked.DeletesAll shown dates)
   deletes_stay dates before after (between, marked, gone) still =
-      runs_stay _ _ before between marked (in_turn_stay (asked.Deletes shown) (λ date. runs_stay _ _) dates between after gone still)
+      runs_stay _ _ before between marked (in_turn_stay (asked.DeletesRow shown) (λ date. runs_stay _ _) dates between after gone still)
 
   transacted_open : (Run : Held S → Held S → Type 0) → Stays Run → (before after : Held S) → asked.Transacts shown Run before after → IsTrue (shown (asked.begun before)).is_open
   transacted_open Run stays before after did = stays (asked.begun before) did.last did.run did.commits.0.was_open
 
-  pub appended_open : (rows : List StoredRow) (watermark : ℕ) (before after : Held S) → asked.Transacts shown (asked.Adds shown rows watermark) before after → IsTrue (shown (asked.begun before)).is_open
-  appended_open rows watermark = transacted_open (asked.Adds shown rows watermark) (adds_stay rows watermark)
+  pub appended_open : (rows : List StoredRow) (watermark : ℕ) (before after : Held S) → asked.Transacts shown (asked.InsertsRows shown rows watermark) before after → IsTrue (shown (asked.begun before)).is_open
+  appended_open rows watermark = transacted_open (asked.InsertsRows shown rows watermark) (adds_stay rows watermark)
 
   pub removed_open : (dates : List ℕ) (before after : Held S) → asked.Transacts shown (asked.DeletesAll shown dates) before after → IsTrue (shown (asked.begun before)).is_open
   removed_open dates = transacted_open (asked.DeletesAll shown dates) (deletes_stay dates)

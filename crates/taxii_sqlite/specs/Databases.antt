@@ -11,8 +11,8 @@ use Rattle.sqlite.specs.Closing.{IsCopied}
 use Rattle.sqlite.specs.Files.{file_state, IsOpened}
 use Rattle.sqlite.specs.Held.{IsNew}
 use Rattle.taxii_rows.specs.declared.stored_row.StoredRow.{StoredRow}
-use Rattle.taxii_sqlite.specs.Statements.{AnswersNext, AnswersWatermark, Transacts, Adds, DeletesAll}
-use Rattle.taxii_sqlite.specs.Forms.{IsReady}
+use Rattle.taxii_sqlite.specs.Statements.{AnswersNextRow, AnswersWatermark, Transacts, InsertsRows, DeletesAll}
+use Rattle.taxii_sqlite.specs.Forms.{IsReadyStore}
 use Rattle.taxii_sqlite.specs.Transactions.{IsUntouched}
 use Rattle.taxii_sqlite.specs.declared.connection.Database.{Database}
 use Rattle.taxii_sqlite.specs.declared.connection.Database.TheVariants.{Closed, InMemory, Disk}
@@ -25,7 +25,7 @@ module _ {D : Type 0} {disk : Ghosts D} where
 
   -- the first row that is later than the date
   abbrev pub FindsNext : ℕ → Database D disk → Database D disk → Option StoredRow → Type 0
-  FindsNext date (Disk before) (Disk after) found = HasCleanDisk (file_state after.value) → AnswersNext date (file_state before.value) (file_state after.value) found
+  FindsNext date (Disk before) (Disk after) found = HasCleanDisk (file_state after.value) → AnswersNextRow date (file_state before.value) (file_state after.value) found
   FindsNext date InMemory InMemory found = found ≡ None
   FindsNext date _ _ found = ⊥
 
@@ -37,7 +37,7 @@ module _ {D : Type 0} {disk : Ghosts D} where
 
   -- the rows were added, and the date became the watermark
   abbrev pub Appends : List StoredRow → ℕ → Database D disk → Database D disk → Type 0
-  Appends rows watermark (Disk before) (Disk after) = HasCleanDisk (file_state after.value) → Transacts file_state (Adds file_state rows watermark) before.value after.value
+  Appends rows watermark (Disk before) (Disk after) = HasCleanDisk (file_state after.value) → Transacts file_state (InsertsRows file_state rows watermark) before.value after.value
   Appends rows watermark InMemory InMemory = ⊤
   Appends rows watermark _ _ = ⊥
 
@@ -81,13 +81,13 @@ module _ {D : Type 0} {disk : Ghosts D} where
   IsOpenAt files path InMemory = path ≡ []
   IsOpenAt files path (Disk after) =
       (path ≢ [])
-      × (HasCleanDisk (file_state after.value) → (before : _) × IsNew before × IsOpened before × FindsIn files (file_state before) × IsReady file_state before after.value)
+      × (HasCleanDisk (file_state after.value) → (before : _) × IsNew before × IsOpened before × FindsIn files (file_state before) × IsReadyStore file_state before after.value)
   IsOpenAt files path Closed = ⊥
 
   -- what an end leaves: of a file, both of its files, of which the database alone holds what was
   -- committed last, also after a crash; else nothing
-  abbrev pub Leaves : Database D disk → Option (Files D) → Type 0
-  Leaves (Disk held) (Some files) = AreClean disk files.log files.db → IsCopied held.value files
-  Leaves (Disk held) None = ⊥
-  Leaves InMemory left = left ≡ None
-  Leaves Closed left = left ≡ None
+  abbrev pub LeavesFiles : Database D disk → Option (Files D) → Type 0
+  LeavesFiles (Disk held) (Some files) = AreClean disk files.log files.db → IsCopied held.value files
+  LeavesFiles (Disk held) None = ⊥
+  LeavesFiles InMemory left = left ≡ None
+  LeavesFiles Closed left = left ≡ None

@@ -5,7 +5,7 @@ use Rattle.sqlite_value.specs.declared.value.Value.TheVariants.{Int, Text}
 use Rattle.sqlite_value.specs.Order.{column}
 use Rattle.sqlite.specs.State.{State, QueriesRow}
 use Rattle.sqlite.specs.Held.{Held}
-use Rattle.taxii_sqlite.specs.Statements.{AnswersWatermark, AnswersCount, Runs, Transacts}
+use Rattle.taxii_sqlite.specs.Statements.{AnswersWatermark, AnswersCount, RunsStatement, Transacts}
 use Rattle.taxii_sqlite.specs.declared.layout.Layout.{Layout}
 use Rattle.taxii_sqlite.specs.declared.layout.Layout.TheVariants.{Blank, Unnamed, Named, Other}
 use Rattle.taxii_sqlite.specs.declared.schema.TheConstants.{VERSION, VERSION_BEFORE, ROW_TABLE, WATERMARK_TABLE, LAYOUT_TABLE, FIRST_WATERMARK, NAME_LAYOUT, COUNT_TABLES, READ_VERSION}
@@ -41,13 +41,13 @@ module _ {S : Type 0} (shown : Held S → State) where
   pub record MakesRows (before after : Held S) : Type 0 where
     pub with_rows : Held S
     pub with_watermark : Held S
-    pub rows : Runs shown ROW_TABLE.now [] before with_rows
-    pub watermark : Runs shown WATERMARK_TABLE.now [] with_rows with_watermark
-    pub first : Runs shown FIRST_WATERMARK.now [] with_watermark after
+    pub rows : RunsStatement shown ROW_TABLE.now [] before with_rows
+    pub watermark : RunsStatement shown WATERMARK_TABLE.now [] with_rows with_watermark
+    pub first : RunsStatement shown FIRST_WATERMARK.now [] with_watermark after
 
   -- the layout version was recorded
   abbrev pub NamesLayout : Held S → Held S → Type 0
-  NamesLayout before after = (made : Held S) × Runs shown LAYOUT_TABLE.now [] before made × Runs shown NAME_LAYOUT.now [] made after
+  NamesLayout before after = (made : Held S) × RunsStatement shown LAYOUT_TABLE.now [] before made × RunsStatement shown NAME_LAYOUT.now [] made after
 
   -- all tables were made
   abbrev pub MakesTables : Held S → Held S → Type 0
@@ -55,14 +55,14 @@ module _ {S : Type 0} (shown : Held S → State) where
 
   -- this version was written over another one
   abbrev pub WritesVersion : Held S → Held S → Type 0
-  WritesVersion = Runs shown NAME_LAYOUT.now []
+  WritesVersion = RunsStatement shown NAME_LAYOUT.now []
 
   -- a database of this layout got the tables that it lacked, and nothing else
-  abbrev pub Completes : Layout → Held S → Held S → Type 0
-  Completes Blank before after = Transacts shown MakesTables before after
-  Completes Unnamed before after = Transacts shown NamesLayout before after
-  Completes Named before after = after ≡ before
-  Completes Other before after = ⊥
+  abbrev pub CompletesLayout : Layout → Held S → Held S → Type 0
+  CompletesLayout Blank before after = Transacts shown MakesTables before after
+  CompletesLayout Unnamed before after = Transacts shown NamesLayout before after
+  CompletesLayout Named before after = after ≡ before
+  CompletesLayout Other before after = ⊥
 
   -- a store of this version stayed as it was, one of the version before got this one, and nothing
   -- else
@@ -72,23 +72,23 @@ module _ {S : Type 0} (shown : Held S → State) where
 
   -- the layout was read, the database got the tables that it lacked, and its version is this one,
   -- or was the previous one and was migrated
-  pub record IsTaken (before after : Held S) : Type 0 where
+  pub record IsAcceptedStore (before after : Held S) : Type 0 where
     pub layout : Layout
     pub listed : Held S
     pub complete : Held S
     pub version : ℤ
     pub read : Held S
     pub has_layout : AnswersLayout (shown before) (shown listed) layout
-    pub completes : Completes layout listed complete
+    pub completes : CompletesLayout layout listed complete
     pub has_version : AnswersVersion (shown complete) (shown read) version
     pub migrates : Migrates version read after
 
   -- it was accepted as a store, then a watermark was read, and then no row with a date up to 0 was
   -- found
-  pub record IsReady (before after : Held S) : Type 0 where
+  pub record IsReadyStore (before after : Held S) : Type 0 where
     pub taken : Held S
     pub marked : Held S
     pub watermark : ℕ
-    pub takes : IsTaken before taken
+    pub takes : IsAcceptedStore before taken
     pub has_watermark : AnswersWatermark (shown taken) (shown marked) watermark
     pub has_none_early : AnswersCount (shown marked) (shown after) (pos 0)

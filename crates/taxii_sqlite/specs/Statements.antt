@@ -13,9 +13,9 @@ use Rattle.taxii_sqlite.specs.declared.schema.TheConstants.{COUNT_EARLY_ROWS, NE
 
 -- the first row that is later than the date: the columns that `NEXT_ROW` answers hold it, or it
 -- answers no row
-abbrev pub AnswersNext : ℕ → State → State → Option StoredRow → Type 0
-AnswersNext date before after None = QueriesRow NEXT_ROW.now (date_value date ∷ []) before after (Err QueryReturnedNoRows)
-AnswersNext date before after (Some row) =
+abbrev pub AnswersNextRow : ℕ → State → State → Option StoredRow → Type 0
+AnswersNextRow date before after None = QueriesRow NEXT_ROW.now (date_value date ∷ []) before after (Err QueryReturnedNoRows)
+AnswersNextRow date before after (Some row) =
     (columns : List Value) × HoldsRow columns row × QueriesRow NEXT_ROW.now (date_value date ∷ []) before after (Ok columns)
 
 -- the watermark: the value of the column that `READ_WATERMARK` returns
@@ -56,20 +56,20 @@ module _ {S : Type 0} (shown : Held S → State) where
     pub commits : Commits (shown last) (shown after)
 
   -- a statement was run with these values
-  abbrev pub Runs : List ℕ → List Value → Held S → Held S → Type 0
-  Runs text values before after = (count : ℕ) × Executes text values (shown before) (shown after) (Ok count)
+  abbrev pub RunsStatement : List ℕ → List Value → Held S → Held S → Type 0
+  RunsStatement text values before after = (count : ℕ) × Executes text values (shown before) (shown after) (Ok count)
 
   -- the row was added: the columns that `INSERT_ROW` was given hold it
   abbrev pub Inserts : StoredRow → Held S → Held S → Type 0
-  Inserts row before after = (columns : List Value) × HoldsRow columns row × Runs INSERT_ROW.now columns before after
+  Inserts row before after = (columns : List Value) × HoldsRow columns row × RunsStatement INSERT_ROW.now columns before after
 
   -- the row of the date was removed
-  abbrev pub Deletes : ℕ → Held S → Held S → Type 0
-  Deletes date = Runs DELETE_ROW.now (date_value date ∷ [])
+  abbrev pub DeletesRow : ℕ → Held S → Held S → Type 0
+  DeletesRow date = RunsStatement DELETE_ROW.now (date_value date ∷ [])
 
   -- the date was stored as the watermark
   abbrev pub WritesWatermark : ℕ → Held S → Held S → Type 0
-  WritesWatermark watermark = Runs WRITE_WATERMARK.now (date_value watermark ∷ [])
+  WritesWatermark watermark = RunsStatement WRITE_WATERMARK.now (date_value watermark ∷ [])
 
   -- the date became the watermark: if it is the last row's date, nothing was written; otherwise it
   -- was stored
@@ -77,10 +77,10 @@ module _ {S : Type 0} (shown : Held S → State) where
   SetsWatermark rows watermark before after = MatchBool (ends_at rows watermark) (after ≡ before) (WritesWatermark watermark before after)
 
   -- the rows were inserted in order, and then the date became the watermark
-  abbrev pub Adds : List StoredRow → ℕ → Held S → Held S → Type 0
-  Adds rows watermark before after = (with_rows : Held S) × InTurn Inserts rows before with_rows × SetsWatermark rows watermark with_rows after
+  abbrev pub InsertsRows : List StoredRow → ℕ → Held S → Held S → Type 0
+  InsertsRows rows watermark before after = (with_rows : Held S) × InTurn Inserts rows before with_rows × SetsWatermark rows watermark with_rows after
 
   -- the watermark was stored as it is read, so that it survives the last row, and then the rows of
   -- the dates were removed in order
   abbrev pub DeletesAll : List ℕ → Held S → Held S → Type 0
-  DeletesAll dates before after = (marked : Held S) × Runs KEEP_WATERMARK.now [] before marked × InTurn Deletes dates marked after
+  DeletesAll dates before after = (marked : Held S) × RunsStatement KEEP_WATERMARK.now [] before marked × InTurn DeletesRow dates marked after

@@ -15,8 +15,8 @@ abbrev pub IsUntouched : State → State → Type 0
 IsUntouched before after = IsTrue after.is_open → (after.now ≡ before.now) × (after.committed ≡ before.committed)
 
 -- a step inside a transaction commits nothing
-abbrev pub Continues : State → State → Type 0
-Continues before after = HasCleanDisk after → HasCleanDisk before × KeepsCommit before after
+abbrev pub ContinuesTransaction : State → State → Type 0
+ContinuesTransaction before after = HasCleanDisk after → HasCleanDisk before × KeepsCommit before after
 
 -- and does not end it
 abbrev pub StaysUnended : State → State → Type 0
@@ -27,6 +27,6 @@ StaysUnended before after = HasCleanDisk after → after.in_transaction ≡ befo
 -- `shown` is what a connection shows
 pub record IsStep {S : Type 0} (shown : Held S → State) (Run : Held S → Held S → Type 0) (before after : MutBor (Held S)) (result : Result (Unit {0}) Failure) : Type 0 where
   pub same_reference : after.ghost_name ≡ before.ghost_name
-  pub inside : Continues (shown before.now) (shown after.now)
+  pub inside : ContinuesTransaction (shown before.now) (shown after.now)
   pub unended : OnOk result (StaysUnended (shown before.now) (shown after.now))
   pub runs : HasCleanDisk (shown after.now) → OnOk result (Run before.now after.now)

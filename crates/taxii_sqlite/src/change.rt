@@ -3,7 +3,7 @@
 ghost use Rattle.std.specs.Prelude.{◌≡◌, OnOk, OnErr};
 ghost use Rattle.sqlite.specs.Held.{state};
 ghost use Rattle.sqlite.specs.State.{HasCleanDisk};
-ghost use Rattle.taxii_sqlite.specs.Changes.{Does};
+ghost use Rattle.taxii_sqlite.specs.Changes.{DoesChange};
 ghost use Rattle.taxii_sqlite.specs.Statements.{Transacts};
 ghost use Rattle.taxii_sqlite.specs.Transactions.{IsUntouched, IsSettled, IsStep};
 
@@ -44,7 +44,7 @@ impl Change<'_> {
         // exactly this change, alone in a committed transaction
         ensures does { HasCleanDisk (state S.Store connection.new)
             → OnOk result (Transacts (state S.Store)
-            (Does (state S.Store) self.entry) connection.old connection.new) }
+            (DoesChange (state S.Store) self.entry) connection.old connection.new) }
         ensures clean { HasCleanDisk (state S.Store connection.new)
             → HasCleanDisk (state S.Store connection.old) }
     {
@@ -60,7 +60,7 @@ impl Change<'_> {
     /// Performs the change inside a transaction, without ending it.
     fn perform<S: Alter>(self, transaction: &mut Transaction<'_, S>) -> Result<(), Failure>
         ensures { IsStep (state S.Store)
-            (Does (state S.Store) self.entry) transaction.old.conn transaction.new.conn result }
+            (DoesChange (state S.Store) self.entry) transaction.old.conn transaction.new.conn result }
     {
         match self {
             Change::MakeTables => layout::make_tables(transaction),

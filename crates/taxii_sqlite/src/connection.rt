@@ -5,7 +5,7 @@ ghost use Rattle.sqlite.specs.Closing.{IsCopied};
 ghost use Rattle.taxii_rows.specs.StoreState.{AscendFrom};
 ghost use Rattle.taxii_sqlite.specs.Databases.{is_open, FindsNext, FindsWatermark, Appends};
 ghost use Rattle.taxii_sqlite.specs.Databases.{Removes, HasFile, CanFail, StaysAs, IsOpenAt};
-ghost use Rattle.taxii_sqlite.specs.Databases.{Leaves};
+ghost use Rattle.taxii_sqlite.specs.Databases.{LeavesFiles};
 
 use crate::change::Change;
 use crate::failure::Failure;
@@ -33,7 +33,7 @@ impl<D: Disk + Drop> Database<D> {
     /// the whole store, and both are returned. If that fails, file and log together are still the
     /// store. Without a file this cannot fail.
     pub(crate) fn close(self) -> Result<Option<Files<D>>, Failure>
-        ensures leaves { IfOk result (Leaves self) }
+        ensures leaves { IfOk result (LeavesFiles self) }
         ensures fails { OnErr result (HasFile self) }
     {
         match self {

@@ -4,7 +4,7 @@ ghost use Rattle.sqlite_wal.specs.Files.{image_at};
 ghost use Rattle.taxii_rows.specs.StoreState.{AscendFrom};
 ghost use Rattle.taxii_sqlite.specs.Databases.{is_open, FindsNext, FindsWatermark, Appends};
 ghost use Rattle.taxii_sqlite.specs.Databases.{Removes, HasFile, CanFail, StaysAs, IsOpenAt};
-ghost use Rattle.taxii_sqlite.specs.Databases.{Leaves};
+ghost use Rattle.taxii_sqlite.specs.Databases.{LeavesFiles};
 ghost use Rattle.taxii_sqlite.specs.declared.connection.Database.TheVariants.{Closed};
 
 use crate::connection::{self, Database};
@@ -47,7 +47,7 @@ impl<S: Start> SqliteKeeper<FileFrom<S>, S> {
     /// alone is the whole store, and both are returned. A failure loses nothing, since file and log
     /// together are the store. Without a file this cannot fail.
     pub fn close(self) -> Result<Option<Files<FileFrom<S>>>, KeeperRefusal>
-        ensures leaves { IfOk result (Leaves self.database) }
+        ensures leaves { IfOk result (LeavesFiles self.database) }
         ensures fails { OnErr result (HasFile self.database) }
     {
         let mut faults = self.faults;

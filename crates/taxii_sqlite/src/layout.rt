@@ -4,8 +4,9 @@ ghost use Rattle.std.specs.Prelude.{◌≡◌, ◌<ℤ◌, Err, IfOk, OnOk};
 ghost use Rattle.sqlite.specs.Held.{state};
 ghost use Rattle.sqlite.specs.State.{HasCleanDisk};
 ghost use Rattle.taxii_sqlite.specs.Forms.{IsLayoutOf, AnswersLayout, AnswersVersion, MakesRows};
-ghost use Rattle.taxii_sqlite.specs.Forms.{NamesLayout, MakesTables, WritesVersion, Completes};
-ghost use Rattle.taxii_sqlite.specs.Forms.{Migrates, IsTaken};
+ghost use Rattle.taxii_sqlite.specs.Forms.{NamesLayout, MakesTables, WritesVersion};
+ghost use Rattle.taxii_sqlite.specs.Forms.{CompletesLayout};
+ghost use Rattle.taxii_sqlite.specs.Forms.{Migrates, IsAcceptedStore};
 ghost use Rattle.taxii_sqlite.specs.Transactions.{IsStep};
 
 use crate::change::Change;
@@ -36,7 +37,7 @@ pub(crate) enum Layout {
 /// written to any other database.
 pub(crate) fn take<S: Alter>(connection: &mut Connection<S>) -> Result<(), Failure>
     ensures taken { HasCleanDisk (state S.Store connection.new)
-        → OnOk result (IsTaken (state S.Store) connection.old connection.new) }
+        → OnOk result (IsAcceptedStore (state S.Store) connection.old connection.new) }
     ensures clean { HasCleanDisk (state S.Store connection.new)
         → HasCleanDisk (state S.Store connection.old) }
 {
@@ -83,7 +84,7 @@ impl Layout {
 /// Creates the tables that a store of this layout lacks.
 fn complete<S: Alter>(connection: &mut Connection<S>, layout: Layout) -> Result<(), Failure>
     ensures completes { HasCleanDisk (state S.Store connection.new)
-        → OnOk result (Completes (state S.Store) layout connection.old connection.new) }
+        → OnOk result (CompletesLayout (state S.Store) layout connection.old connection.new) }
     ensures other { layout ≡ Layout.Other
         → (result ≡ Err (Failure.Fault FaultCause.OtherLayout))
         × (connection.new ≡ connection.old) }

@@ -4,10 +4,11 @@ ghost use Rattle.std.specs.Prelude.{◌≡◌, IfOk, OnOk};
 ghost use Rattle.sqlite.specs.Held.{state};
 ghost use Rattle.sqlite.specs.State.{HasCleanDisk};
 ghost use Rattle.sqlite.specs.Values.{bound};
-ghost use Rattle.taxii_sqlite.specs.Forms.{IsReady};
-ghost use Rattle.taxii_sqlite.specs.Statements.{AnswersNext, AnswersWatermark, AnswersCount, Runs};
-ghost use Rattle.taxii_sqlite.specs.Statements.{Inserts, Deletes, WritesWatermark, ends_at};
-ghost use Rattle.taxii_sqlite.specs.Statements.{SetsWatermark, InTurn, Adds, DeletesAll};
+ghost use Rattle.taxii_sqlite.specs.Forms.{IsReadyStore};
+ghost use Rattle.taxii_sqlite.specs.Statements.{AnswersNextRow, AnswersWatermark, AnswersCount};
+ghost use Rattle.taxii_sqlite.specs.Statements.{RunsStatement};
+ghost use Rattle.taxii_sqlite.specs.Statements.{Inserts, DeletesRow, WritesWatermark, ends_at};
+ghost use Rattle.taxii_sqlite.specs.Statements.{SetsWatermark, InTurn, InsertsRows, DeletesAll};
 ghost use Rattle.taxii_sqlite.specs.Transactions.{IsStep};
 
 use crate::failure::Failure;
@@ -26,7 +27,7 @@ use taxii_rows::{FaultCause, StoredRow};
 /// that `next_after` would never return.
 pub(crate) fn make_ready<S: Alter>(connection: &mut Connection<S>) -> Result<(), Failure>
     ensures ready { HasCleanDisk (state S.Store connection.new)
-        → OnOk result (IsReady (state S.Store) connection.old connection.new) }
+        → OnOk result (IsReadyStore (state S.Store) connection.old connection.new) }
     ensures clean { HasCleanDisk (state S.Store connection.new)
         → HasCleanDisk (state S.Store connection.old) }
 {
@@ -46,7 +47,7 @@ pub(crate) fn next_after<S: Alter>(
     date: u64,
 ) -> Result<Option<StoredRow>, Failure>
     ensures asks { HasCleanDisk (state S.Store connection.new)
-        → IfOk result (AnswersNext date (state S.Store connection.old)
+        → IfOk result (AnswersNextRow date (state S.Store connection.old)
         (state S.Store connection.new)) }
 {
     let date = integer_of(date)?;
@@ -87,7 +88,7 @@ pub(crate) fn append<S: Alter>(
     watermark: u64,
 ) -> Result<(), Failure>
     ensures { IsStep (state S.Store)
-        (Adds (state S.Store) rows.now watermark) transaction.old.conn transaction.new.conn result }
+        (InsertsRows (state S.Store) rows.now watermark) transaction.old.conn transaction.new.conn result }
 {
     insert_rows(transaction, rows)?;
     set_watermark(transaction, rows, watermark)?;
@@ -138,7 +139,7 @@ fn insert_row<S: Alter>(
 
 fn delete_rows<S: Alter>(transaction: &mut Transaction<'_, S>, dates: &[u64]) -> Result<(), Failure>
     ensures { IsStep (state S.Store)
-        (InTurn (Deletes (state S.Store)) dates.now) transaction.old.conn transaction.new.conn
+        (InTurn (DeletesRow (state S.Store)) dates.now) transaction.old.conn transaction.new.conn
         result }
 {
     for date in dates {
@@ -149,7 +150,7 @@ fn delete_rows<S: Alter>(transaction: &mut Transaction<'_, S>, dates: &[u64]) ->
 
 fn delete_row<S: Alter>(transaction: &mut Transaction<'_, S>, date: u64) -> Result<(), Failure>
     ensures { IsStep (state S.Store)
-        (Deletes (state S.Store) date) transaction.old.conn transaction.new.conn result }
+        (DeletesRow (state S.Store) date) transaction.old.conn transaction.new.conn result }
 {
     let date = integer_of(date)?;
     execute(transaction, DELETE_ROW, params![date])
@@ -201,7 +202,7 @@ pub(crate) fn execute<S: Alter>(
     columns: &[ValueRef<'_>],
 ) -> Result<(), Failure>
     ensures { IsStep (state S.Store)
-        (Runs (state S.Store) statement.now
+        (RunsStatement (state S.Store) statement.now
         (bound columns.now)) transaction.old.conn transaction.new.conn result }
 {
     transaction.execute(statement, columns)?;

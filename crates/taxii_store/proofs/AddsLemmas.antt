@@ -10,75 +10,75 @@ use Rattle.std.proofs.lemmas.List.Elements.{All-head, All-tail, All-append, All-
 use Rattle.std.proofs.lemmas.List.Folds.{find-append}
 use Rattle.taxii_rows.specs.declared.stored_row.StoredRow.{StoredRow}
 use Rattle.taxii_rows.specs.declared.described.Described.{Described}
-use Rattle.taxii_rows.specs.Described.{row_of}
+use Rattle.taxii_rows.specs.Described.{stored_row_of}
 use Rattle.taxii_rows.specs.Identity.{is_row_of}
 use Rattle.taxii_rows.specs.StoreState.{StoreState}
 use Rattle.taxii_index.specs.Presence.{agrees, is_duplicate, duplicate_of}
 use Rattle.taxii_store.specs.declared.add_outcome.AddOutcome.{AddOutcome}
 use Rattle.taxii_store.specs.declared.add_outcome.AddOutcome.TheVariants.{Added, Present}
-use Rattle.taxii_store.specs.Addition.{Adds, UsesUpDates, date_in}
-use Rattle.taxii_store.specs.inner.Moving.{shifted, shifted_date, shifted_outcome, next_date, Places, LacksDate}
+use Rattle.taxii_store.specs.Addition.{AddsObjects, UsesUpDates, date_in}
+use Rattle.taxii_store.specs.inner.Moving.{shifted, shifted_date, shifted_outcome, next_date, PlacesObject, LacksDate}
 
 -- what the first object makes of an addition, where that row makes it present
 abbrev pub AddsNext : ℕ → ℕ → List StoredRow → Described → List Described → List AddOutcome → List StoredRow → Option StoredRow → Type 0
 AddsNext collection date rows object objects outcomes new found = MatchOption found
     ((others : List AddOutcome) × (more : List StoredRow)
-    × (outcomes ≡ Added date ∷ others) × (new ≡ row_of object date collection ∷ more)
-    × Adds collection (date + 1) (rows ++ row_of object date collection ∷ []) objects others more)
-    (λ row. (others : List AddOutcome) × (outcomes ≡ Present row.date ∷ others) × Adds collection date rows objects others new)
+    × (outcomes ≡ Added date ∷ others) × (new ≡ stored_row_of object date collection ∷ more)
+    × AddsObjects collection (date + 1) (rows ++ stored_row_of object date collection ∷ []) objects others more)
+    (λ row. (others : List AddOutcome) × (outcomes ≡ Present row.date ∷ others) × AddsObjects collection date rows objects others new)
 
 -- ---- there is one
 
 abbrev Some_addition : ℕ → ℕ → List StoredRow → List Described → Type 0
-Some_addition collection date rows objects = (outcomes : List AddOutcome) × (new : List StoredRow) × Adds collection date rows objects outcomes new
+Some_addition collection date rows objects = (outcomes : List AddOutcome) × (new : List StoredRow) × AddsObjects collection date rows objects outcomes new
 
 pub adds_total : (collection date : ℕ) (rows : List StoredRow) (objects : List Described) → Some_addition collection date rows objects
 adds_total collection date rows [] = ([], [], (refl, refl))
 adds_total collection date rows (object ∷ objects) = next (duplicate_of collection object rows)
     (adds_total collection date rows objects)
-    (adds_total collection (date + 1) (rows ++ row_of object date collection ∷ []) objects)
+    (adds_total collection (date + 1) (rows ++ stored_row_of object date collection ∷ []) objects)
   where
     next : (found : Option StoredRow) → Some_addition collection date rows objects
-        → Some_addition collection (date + 1) (rows ++ row_of object date collection ∷ []) objects
+        → Some_addition collection (date + 1) (rows ++ stored_row_of object date collection ∷ []) objects
         → (outcomes : List AddOutcome) × (new : List StoredRow) × AddsNext collection date rows object objects outcomes new found
     next (Some row) rest behind = (Present row.date ∷ rest.0, rest.1, (rest.0, refl, rest.2))
-    next None rest behind = (Added date ∷ behind.0, row_of object date collection ∷ behind.1, (behind.0, behind.1, refl, refl, behind.2))
+    next None rest behind = (Added date ∷ behind.0, stored_row_of object date collection ∷ behind.1, (behind.0, behind.1, refl, refl, behind.2))
 
 -- ---- object by object
 
 -- what the objects of a draft were made, with an addition of the others after it, is an addition of all
 abbrev pub Continues : StoreState → ℕ → List Described → List AddOutcome → List StoredRow → List Described → Type 0
 Continues state collection objects outcomes new rest = (others : List AddOutcome) (more : List StoredRow)
-    → Adds collection (next_date state.watermark new) (state.rows ++ new) rest others more
-    → Adds collection (state.watermark + 1) state.rows objects (outcomes ++ others) (new ++ more)
+    → AddsObjects collection (next_date state.watermark new) (state.rows ++ new) rest others more
+    → AddsObjects collection (state.watermark + 1) state.rows objects (outcomes ++ others) (new ++ more)
 
 pub continues_last : (state : StoreState) (collection : ℕ) (objects : List Described) (outcomes : List AddOutcome) (new : List StoredRow)
-    → Continues state collection objects outcomes new [] → Adds collection (state.watermark + 1) state.rows objects outcomes new
+    → Continues state collection objects outcomes new [] → AddsObjects collection (state.watermark + 1) state.rows objects outcomes new
 continues_last state collection objects outcomes new goes =
-    subst (λ (out : List AddOutcome). Adds collection (state.watermark + 1) state.rows objects out new) (append-nil outcomes)
-    (subst (λ (rows : List StoredRow). Adds collection (state.watermark + 1) state.rows objects (outcomes ++ []) rows) (append-nil new) (goes [] [] (refl, refl)))
+    subst (λ (out : List AddOutcome). AddsObjects collection (state.watermark + 1) state.rows objects out new) (append-nil outcomes)
+    (subst (λ (rows : List StoredRow). AddsObjects collection (state.watermark + 1) state.rows objects (outcomes ++ []) rows) (append-nil new) (goes [] [] (refl, refl)))
 
 pub continues_next : (state : StoreState) (collection : ℕ) (objects : List Described) (outcomes outcomes_now : List AddOutcome) (new new_now : List StoredRow)
     (object : Described) (rest : List Described) → Continues state collection objects outcomes new (object ∷ rest)
-    → Places state collection object outcomes new outcomes_now new_now → Continues state collection objects outcomes_now new_now rest
+    → PlacesObject state collection object outcomes new outcomes_now new_now → Continues state collection objects outcomes_now new_now rest
 continues_next state collection objects outcomes outcomes_now new new_now object rest goes places others more adds =
     let (out, rows, first, out_is, rows_is) = next (duplicate_of collection object (state.rows ++ new)) places in
-    subst (λ (o : List AddOutcome). Adds collection (state.watermark + 1) state.rows objects o (new_now ++ more)) out_is
-    (subst (λ (r : List StoredRow). Adds collection (state.watermark + 1) state.rows objects (outcomes ++ out) r) rows_is (goes out rows first))
+    subst (λ (o : List AddOutcome). AddsObjects collection (state.watermark + 1) state.rows objects o (new_now ++ more)) out_is
+    (subst (λ (r : List StoredRow). AddsObjects collection (state.watermark + 1) state.rows objects (outcomes ++ out) r) rows_is (goes out rows first))
   where
     date : ℕ
     date = next_date state.watermark new
 
     row : StoredRow
-    row = row_of object date collection
+    row = stored_row_of object date collection
 
-    behind : new_now ≡ new ++ row ∷ [] → Adds collection (date + 1) ((state.rows ++ new) ++ row ∷ []) rest others more
+    behind : new_now ≡ new ++ row ∷ [] → AddsObjects collection (date + 1) ((state.rows ++ new) ++ row ∷ []) rest others more
     behind new_is =
-        let here = subst (λ (rs : List StoredRow). Adds collection (next_date state.watermark rs) (state.rows ++ rs) rest others more) new_is adds in
-        let one = subst (λ (rs : List StoredRow). Adds collection (next_date state.watermark (new ++ row ∷ [])) rs rest others more) (sym (append_assoc state.rows new (row ∷ []))) here in
+        let here = subst (λ (rs : List StoredRow). AddsObjects collection (next_date state.watermark rs) (state.rows ++ rs) rest others more) new_is adds in
+        let one = subst (λ (rs : List StoredRow). AddsObjects collection (next_date state.watermark (new ++ row ∷ [])) rs rest others more) (sym (append_assoc state.rows new (row ∷ []))) here in
         let count = length-append new (row ∷ []) in
         let len : next_date state.watermark (new ++ row ∷ []) ≡ date + 1 = omega (arith, count) in
-        subst (λ (n : ℕ). Adds collection n ((state.rows ++ new) ++ row ∷ []) rest others more) len one
+        subst (λ (n : ℕ). AddsObjects collection n ((state.rows ++ new) ++ row ∷ []) rest others more) len one
 
     next : (found : Option StoredRow)
         → MatchOption found ((outcomes_now ≡ outcomes ++ Added date ∷ []) × (new_now ≡ new ++ row ∷ []))
@@ -88,7 +88,7 @@ continues_next state collection objects outcomes outcomes_now new new_now object
     next (Some held) (out_is, new_is) = (
       Present held.date ∷ others,
       more,
-      (others, refl, subst (λ (rs : List StoredRow). Adds collection (next_date state.watermark rs) (state.rows ++ rs) rest others more) new_is adds),
+      (others, refl, subst (λ (rs : List StoredRow). AddsObjects collection (next_date state.watermark rs) (state.rows ++ rs) rest others more) new_is adds),
       sym (ap (λ (o : List AddOutcome). o ++ others) out_is ∙ append_assoc outcomes (Present held.date ∷ []) others),
       sym (ap (λ (rs : List StoredRow). rs ++ more) new_is),
     )
@@ -106,9 +106,9 @@ pub lacks_dates : (state : StoreState) (collection : ℕ) (objects : List Descri
     → LacksDate state collection object new → UsesUpDates state collection objects
 lacks_dates state collection objects outcomes new object rest goes (none, late) =
     let date = next_date state.watermark new in
-    let row = row_of object date collection in
+    let row = stored_row_of object date collection in
     let behind = adds_total collection (date + 1) ((state.rows ++ new) ++ row ∷ []) rest in
-    let first : Adds collection date (state.rows ++ new) (object ∷ rest) (Added date ∷ behind.0) (row ∷ behind.1) =
+    let first : AddsObjects collection date (state.rows ++ new) (object ∷ rest) (Added date ∷ behind.0) (row ∷ behind.1) =
     subst (λ (found : Option StoredRow). AddsNext collection date (state.rows ++ new) object rest (Added date ∷ behind.0) (row ∷ behind.1) found) (sym none)
     (behind.0, behind.1, refl, refl, behind.2) in
     let count = length-append new (row ∷ behind.1) in
@@ -156,7 +156,7 @@ version_shifted : (version : Option ℤ) (date later : ℕ) → cond (is_some ve
 version_shifted (Some v) date later = refl
 version_shifted None date later = refl
 
-row_shifted : (shift date collection : ℕ) (object : Described) → shifted shift (row_of object date collection) ≡ row_of object (date + shift) collection
+row_shifted : (shift date collection : ℕ) (object : Described) → shifted shift (stored_row_of object date collection) ≡ stored_row_of object (date + shift) collection
 row_shifted shift date collection object = ap (λ (v : ℤ). record {
   date = date + shift;
   collection = collection;
@@ -175,8 +175,8 @@ moves watermark shift date new = ap (λ (b : Bool). cond b (date + shift) date) 
 -- an addition after some rows stands as well where the new rows are later
 pub adds_shifted : (watermark shift collection date : ℕ) (rows fresh : List StoredRow) (objects : List Described) (outcomes : List AddOutcome) (new : List StoredRow)
     → All (λ row. row.date ≤ watermark) rows → All (λ row. watermark < row.date) fresh → watermark < date
-    → Adds collection date (rows ++ fresh) objects outcomes new
-    → Adds collection (date + shift) (rows ++ map (shifted shift) fresh) objects (map (shifted_outcome watermark shift) outcomes) (map (shifted shift) new)
+    → AddsObjects collection date (rows ++ fresh) objects outcomes new
+    → AddsObjects collection (date + shift) (rows ++ map (shifted shift) fresh) objects (map (shifted_outcome watermark shift) outcomes) (map (shifted shift) new)
 adds_shifted watermark shift collection date rows fresh [] outcomes new held behind past adds =
     (ap (map (shifted_outcome watermark shift)) adds.0, ap (map (shifted shift)) adds.1)
 adds_shifted watermark shift collection date rows fresh (object ∷ objects) outcomes new held behind past adds =
@@ -189,7 +189,7 @@ adds_shifted watermark shift collection date rows fresh (object ∷ objects) out
     (All-append (λ row. watermark < row.date) fresh (row ∷ []) behind (All-cons (λ row. watermark < row.date) row [] past (All-nil (λ row. watermark < row.date)))) (omega arith)))
   where
     row : StoredRow
-    row = row_of object date collection
+    row = stored_row_of object date collection
 
     Goal : Option StoredRow → Type 0
     Goal = AddsNext collection (date + shift) (rows ++ map (shifted shift) fresh) object objects (map (shifted_outcome watermark shift) outcomes) (map (shifted shift) new)
@@ -203,22 +203,22 @@ adds_shifted watermark shift collection date rows fresh (object ∷ objects) out
         ∙ ap (option_or (duplicate_of collection object rows)) (find_shifted shift collection object fresh)
 
     behind_row : (others : List AddOutcome) (more : List StoredRow)
-        → Adds collection (date + 1 + shift) (rows ++ map (shifted shift) (fresh ++ row ∷ [])) objects (map (shifted_outcome watermark shift) others) (map (shifted shift) more)
-        → Adds collection (date + shift + 1) ((rows ++ map (shifted shift) fresh) ++ row_of object (date + shift) collection ∷ []) objects (map (shifted_outcome watermark shift) others) (map (shifted shift) more)
+        → AddsObjects collection (date + 1 + shift) (rows ++ map (shifted shift) (fresh ++ row ∷ [])) objects (map (shifted_outcome watermark shift) others) (map (shifted shift) more)
+        → AddsObjects collection (date + shift + 1) ((rows ++ map (shifted shift) fresh) ++ stored_row_of object (date + shift) collection ∷ []) objects (map (shifted_outcome watermark shift) others) (map (shifted shift) more)
     behind_row others more it =
-        let one = subst (λ (rs : List StoredRow). Adds collection (date + 1 + shift) (rows ++ rs) objects (map (shifted_outcome watermark shift) others) (map (shifted shift) more))
+        let one = subst (λ (rs : List StoredRow). AddsObjects collection (date + 1 + shift) (rows ++ rs) objects (map (shifted_outcome watermark shift) others) (map (shifted shift) more))
         (map-append (shifted shift) fresh (row ∷ []) ∙ ap (λ (r : StoredRow). map (shifted shift) fresh ++ r ∷ []) (row_shifted shift date collection object)) it in
-        let two = subst (λ (rs : List StoredRow). Adds collection (date + 1 + shift) rs objects (map (shifted_outcome watermark shift) others) (map (shifted shift) more))
-        (sym (append_assoc rows (map (shifted shift) fresh) (row_of object (date + shift) collection ∷ []))) one in
+        let two = subst (λ (rs : List StoredRow). AddsObjects collection (date + 1 + shift) rs objects (map (shifted_outcome watermark shift) others) (map (shifted shift) more))
+        (sym (append_assoc rows (map (shifted shift) fresh) (stored_row_of object (date + shift) collection ∷ []))) one in
         let same : date + 1 + shift ≡ date + shift + 1 = omega arith in
-        subst (λ (n : ℕ). Adds collection n ((rows ++ map (shifted shift) fresh) ++ row_of object (date + shift) collection ∷ []) objects (map (shifted_outcome watermark shift) others) (map (shifted shift) more)) same two
+        subst (λ (n : ℕ). AddsObjects collection n ((rows ++ map (shifted shift) fresh) ++ stored_row_of object (date + shift) collection ∷ []) objects (map (shifted_outcome watermark shift) others) (map (shifted shift) more)) same two
 
     next : (first second : Option StoredRow) → IfSome first (λ row. row.date ≤ watermark) → IfSome second (λ row. watermark < row.date)
         → AddsNext collection date (rows ++ fresh) object objects outcomes new (option_or first second)
-        → ((others : List AddOutcome) → Adds collection date (rows ++ fresh) objects others new
-        → Adds collection (date + shift) (rows ++ map (shifted shift) fresh) objects (map (shifted_outcome watermark shift) others) (map (shifted shift) new))
-        → ((others : List AddOutcome) (more : List StoredRow) → Adds collection (date + 1) (rows ++ (fresh ++ row ∷ [])) objects others more
-        → Adds collection (date + 1 + shift) (rows ++ map (shifted shift) (fresh ++ row ∷ [])) objects (map (shifted_outcome watermark shift) others) (map (shifted shift) more))
+        → ((others : List AddOutcome) → AddsObjects collection date (rows ++ fresh) objects others new
+        → AddsObjects collection (date + shift) (rows ++ map (shifted shift) fresh) objects (map (shifted_outcome watermark shift) others) (map (shifted shift) new))
+        → ((others : List AddOutcome) (more : List StoredRow) → AddsObjects collection (date + 1) (rows ++ (fresh ++ row ∷ [])) objects others more
+        → AddsObjects collection (date + 1 + shift) (rows ++ map (shifted shift) (fresh ++ row ∷ [])) objects (map (shifted_outcome watermark shift) others) (map (shifted shift) more))
         → Goal (option_or first (option_map (shifted shift) second))
     next (Some r) second low high (others, out_is, it) again more_rows = (
       map (shifted_outcome watermark shift) others,
@@ -235,7 +235,7 @@ adds_shifted watermark shift collection date rows fresh (object ∷ objects) out
       map (shifted shift) more,
       ap (map (shifted_outcome watermark shift)) out_is ∙ ap (λ (d : ℕ). Added d ∷ map (shifted_outcome watermark shift) others) (moves watermark shift date past),
       ap (map (shifted shift)) new_is ∙ ap (λ (r : StoredRow). r ∷ map (shifted shift) more) (row_shifted shift date collection object),
-      behind_row others more (more_rows others more (subst (λ (rs : List StoredRow). Adds collection (date + 1) rs objects others more) (append_assoc rows fresh (row ∷ [])) it)),
+      behind_row others more (more_rows others more (subst (λ (rs : List StoredRow). AddsObjects collection (date + 1) rs objects others more) (append_assoc rows fresh (row ∷ [])) it)),
     )
 
 -- ---- outcomes and rows
@@ -245,7 +245,7 @@ HasRow rows outcome = (row : StoredRow) × Contains rows row × (row.date ≡ da
 
 -- each outcome has its row after an addition
 pub outcomes_have : (collection date : ℕ) (rows : List StoredRow) (objects : List Described) (outcomes : List AddOutcome) (new : List StoredRow)
-    → Adds collection date rows objects outcomes new → All (HasRow (rows ++ new)) outcomes
+    → AddsObjects collection date rows objects outcomes new → All (HasRow (rows ++ new)) outcomes
 outcomes_have collection date rows [] outcomes new adds = subst (All (HasRow (rows ++ new))) (sym adds.0) (All-nil (HasRow (rows ++ new)))
 outcomes_have collection date rows (object ∷ objects) outcomes new adds = next (duplicate_of collection object rows)
     (find_among (is_duplicate collection object) (Contains rows) rows (All-contains_itself rows)) adds
@@ -253,11 +253,11 @@ outcomes_have collection date rows (object ∷ objects) outcomes new adds = next
     (λ others more it. outcomes_have collection (date + 1) (rows ++ row ∷ []) objects others more it)
   where
     row : StoredRow
-    row = row_of object date collection
+    row = stored_row_of object date collection
 
     next : (found : Option StoredRow) → IfSome found (Contains rows) → AddsNext collection date rows object objects outcomes new found
-        → ((others : List AddOutcome) → Adds collection date rows objects others new → All (HasRow (rows ++ new)) others)
-        → ((others : List AddOutcome) (more : List StoredRow) → Adds collection (date + 1) (rows ++ row ∷ []) objects others more → All (HasRow ((rows ++ row ∷ []) ++ more)) others)
+        → ((others : List AddOutcome) → AddsObjects collection date rows objects others new → All (HasRow (rows ++ new)) others)
+        → ((others : List AddOutcome) (more : List StoredRow) → AddsObjects collection (date + 1) (rows ++ row ∷ []) objects others more → All (HasRow ((rows ++ row ∷ []) ++ more)) others)
         → All (HasRow (rows ++ new)) outcomes
     next (Some held) among (others, out_is, it) again behind = subst (All (HasRow (rows ++ new))) (sym out_is)
         (All-cons (HasRow (rows ++ new)) (Present held.date) others (held, Contains-append_left rows new held among, refl) (again others it))

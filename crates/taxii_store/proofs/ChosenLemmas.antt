@@ -9,13 +9,13 @@ use Rattle.taxii_rows.specs.declared.stored_row.StoredRow.{StoredRow}
 use Rattle.taxii_rows.specs.StoreState.{dates_of, AscendFrom}
 use Rattle.taxii_rows.specs.Identity.{is_row_of}
 use Rattle.taxii_routes.specs.declared.query.Query.{Query}
-use Rattle.taxii_store.specs.Meeting.{Meets}
+use Rattle.taxii_store.specs.Meeting.{MeetsQuery}
 use Rattle.taxii_index.specs.Index.{AreRowsOf}
-use Rattle.taxii_store.specs.inner.Candidates.{IsAfter, CanMeet, AreCandidates, AreChosen}
+use Rattle.taxii_store.specs.inner.Candidates.{IsAddedAfter, CanMeet, AreCandidateRows, AreChosen}
 use Rattle.taxii_store.proofs.CutLemmas.{at_least}
 use Rattle.taxii_store.proofs.PageLemmas.{from_earlier}
 
-can_meet : (rows : List StoredRow) (collection : ℕ) (only : Option Id) (query : Query) (row : StoredRow) → Meets rows collection only query row → CanMeet query row
+can_meet : (rows : List StoredRow) (collection : ℕ) (only : Option Id) (query : Query) (row : StoredRow) → MeetsQuery rows collection only query row → CanMeet query row
 can_meet rows collection only query row meets = record {
   behind = record { added = meets.asked.added; next = meets.asked.next };
   specs = meets.asked.specs;
@@ -27,7 +27,7 @@ ascend_behind (row ∷ passed) later least ascend = from_earlier least (row.date
 
 -- after the rows that can't meet it
 pub chosen_behind : (rows : List StoredRow) (collection : ℕ) (only : Option Id) (query : Query) (candidates : List StoredRow) → AscendFrom 1 (dates_of rows)
-    → AreCandidates query rows candidates → AreChosen rows collection only query candidates
+    → AreCandidateRows query rows candidates → AreChosen rows collection only query candidates
 chosen_behind rows collection only query candidates ascend are = record {
   ascend = ascend_behind are.passed candidates 1 (subst (λ (all : List StoredRow). AscendFrom 1 (dates_of all)) are.all ascend);
   own = λ row here. subst (λ (all : List StoredRow). Contains all row) (sym are.all) (Contains-append_right are.passed candidates row here);
@@ -67,13 +67,13 @@ dated rows i row ascend within is =
     let least = at_least 1 rows i row ascend within in subst (λ (r : StoredRow). 0 < r.date) (sym is) (omega (arith, least))
 
 -- a candidate can
-pub candidate_can : (query : Query) (rows candidates : List StoredRow) (i : ℕ) (row : StoredRow) → AreCandidates query rows candidates
+pub candidate_can : (query : Query) (rows candidates : List StoredRow) (i : ℕ) (row : StoredRow) → AreCandidateRows query rows candidates
     → i < length candidates → row ≡ get_or candidates i row → CanMeet query row
 candidate_can query rows candidates i row are within is = All-contains (CanMeet query) candidates row are.each (i, within, sym is)
 
 -- of an object's rows those can that were added after where the query begins
 pub own_can : (query : Query) (after : ℕ) (rows : List StoredRow) (i : ℕ) (row : StoredRow) → AscendFrom 1 (dates_of rows) → i < length rows → row ≡ get_or rows i row
-    → ((date : ℕ) → 0 < date → (after < date) ↔ IsAfter query date) → IfSome query.specs (λ specs. Contains specs (codes "2.1")) → after < row.date → CanMeet query row
+    → ((date : ℕ) → 0 < date → (after < date) ↔ IsAddedAfter query date) → IfSome query.specs (λ specs. Contains specs (codes "2.1")) → after < row.date → CanMeet query row
 own_can query after rows i row ascend within is begins version later = record {
   behind = (begins row.date (dated rows i row ascend within is)).0 later;
   specs = version;
@@ -81,7 +81,7 @@ own_can query after rows i row ascend within is begins version later = record {
 
 -- and no other meets it
 pub own_never : (store : List StoredRow) (collection : ℕ) (only : Option Id) (query : Query) (after : ℕ) (rows : List StoredRow) (i : ℕ) (row : StoredRow)
-    → AscendFrom 1 (dates_of rows) → i < length rows → row ≡ get_or rows i row → ((date : ℕ) → 0 < date → (after < date) ↔ IsAfter query date)
-    → row.date ≤ after → ¬ Meets store collection only query row
+    → AscendFrom 1 (dates_of rows) → i < length rows → row ≡ get_or rows i row → ((date : ℕ) → 0 < date → (after < date) ↔ IsAddedAfter query date)
+    → row.date ≤ after → ¬ MeetsQuery store collection only query row
 own_never store collection only query after rows i row ascend within is begins early meets =
     let later = (begins row.date (dated rows i row ascend within is)).1 (can_meet store collection only query row meets).behind in omega (arith, early, later)

@@ -7,7 +7,7 @@ use Rattle.std.proofs.lemmas.List.Elements.{All-nil, All-cons, All-weaker, All-c
 use Rattle.taxii_rows.specs.declared.stored_row.StoredRow.{StoredRow}
 use Rattle.taxii_rows.specs.StoreState.{dates_of, AscendFrom}
 use Rattle.taxii_routes.specs.declared.query.Query.{Query}
-use Rattle.taxii_store.specs.inner.Candidates.{IsAfter, CanMeet, AreCandidates, IsCutAt}
+use Rattle.taxii_store.specs.inner.Candidates.{IsAddedAfter, CanMeet, AreCandidateRows, IsCutAt}
 
 pub at_least : (least : ℕ) (rows : List StoredRow) (j : ℕ) (d : StoredRow) → AscendFrom least (dates_of rows) → j < length rows → least ≤ (get_or rows j d).date
 at_least least [] j d ascend within = absurd (omega (arith, within))
@@ -62,10 +62,10 @@ all_of P rows each = All-weaker (Contains rows) P each rows (All-contains_itself
 
 -- what the date after which the rows of a query were added tells
 abbrev Begins : Query → ℕ → Type 0
-Begins query after = (date : ℕ) → 0 < date → (after < date) ↔ IsAfter query date
+Begins query after = (date : ℕ) → 0 < date → (after < date) ↔ IsAddedAfter query date
 
 pub candidates_behind : (query : Query) (rows candidates : List StoredRow) (after : ℕ) → AscendFrom 1 (dates_of rows) → IsCutAt after rows candidates
-    → Begins query after → IfSome query.specs (λ specs. Contains specs (codes "2.1")) → AreCandidates query rows candidates
+    → Begins query after → IfSome query.specs (λ specs. Contains specs (codes "2.1")) → AreCandidateRows query rows candidates
 candidates_behind query rows candidates after ascend cut begins version = record {
   passed = cut.upto;
   all = cut.all;
@@ -90,10 +90,10 @@ candidates_behind query rows candidates after ascend cut begins version = record
         }
 
 pub none_of_another : (query : Query) (rows slice : List StoredRow) → slice ≡ rows → ¬ IfSome query.specs (λ specs. Contains specs (codes "2.1"))
-    → AreCandidates query rows (take (length slice - length slice) (drop (length slice) slice))
+    → AreCandidateRows query rows (take (length slice - length slice) (drop (length slice) slice))
 none_of_another query rows slice same never =
     let nothing = rest_from slice (length slice) ∙ drop_of_length-le slice {i = length slice} (omega arith) in
-    subst (AreCandidates query rows) (sym nothing) (record {
+    subst (AreCandidateRows query rows) (sym nothing) (record {
       passed = rows;
       all = sym (append-nil rows);
       before = all_of (λ row. ¬ CanMeet query row) rows (λ row here can. never can.specs);

@@ -8,13 +8,13 @@ use Rattle.stix_ids.specs.declared.pick.Pick.{Pick}
 use Rattle.taxii_rows.specs.declared.stored_row.StoredRow.{StoredRow}
 use Rattle.taxii_rows.specs.StoreState.{dates_of, AscendFrom}
 use Rattle.taxii_index.specs.Index.{AreRowsOf}
-use Rattle.taxii_store.specs.Deleting.{IsTaken, AreDatesTaken}
+use Rattle.taxii_store.specs.Deleting.{IsDeletedRow, AreDatesTaken}
 
 -- of these rows of a store, these are the dates of those that are taken
 pub record AreTakenFrom (rows : List StoredRow) (collection : ℕ) (id : Id) (picks : List Pick) (first : List StoredRow) (dates : List ℕ) : Type 0 where
   pub ascend : AscendFrom 1 dates
-  pub before : (date : ℕ) → Contains dates date → (row : StoredRow) × Contains first row × IsTaken rows collection id picks row × (row.date ≡ date)
-  pub all : (row : StoredRow) → Contains first row → IsTaken rows collection id picks row → Contains dates row.date
+  pub before : (date : ℕ) → Contains dates date → (row : StoredRow) × Contains first row × IsDeletedRow rows collection id picks row × (row.date ≡ date)
+  pub all : (row : StoredRow) → Contains first row → IsDeletedRow rows collection id picks row → Contains dates row.date
 
 pub none_taken : (rows : List StoredRow) (collection : ℕ) (id : Id) (picks : List Pick) (dates : List ℕ) → dates ≡ [] → AreTakenFrom rows collection id picks [] dates
 none_taken rows collection id picks dates empty = subst (AreTakenFrom rows collection id picks []) (sym empty) (record {
@@ -64,7 +64,7 @@ all_from P dates each = All-weaker (Contains dates) P each dates (All-contains_i
 
 pub taken_more : (rows walked : List StoredRow) (collection : ℕ) (id : Id) (picks : List Pick) (i : ℕ) (row : StoredRow) (dates : List ℕ)
     → AscendFrom 1 (dates_of walked) → i < length walked → row ≡ get_or walked i row → AreTakenFrom rows collection id picks (take i walked) dates
-    → IsTaken rows collection id picks row → AreTakenFrom rows collection id picks (take (suc i) walked) (dates ++ row.date ∷ [])
+    → IsDeletedRow rows collection id picks row → AreTakenFrom rows collection id picks (take (suc i) walked) (dates ++ row.date ∷ [])
 taken_more rows walked collection id picks i row dates ascend within its taken here =
     let more = take-suc walked i row within ∙ ap (λ (r : StoredRow). take i walked ++ r ∷ []) (sym its) in
     let earlier = λ (date : ℕ) (there : Contains dates date).
@@ -87,7 +87,7 @@ taken_more rows walked collection id picks i row dates ascend within its taken h
 
 pub taken_same : (rows walked : List StoredRow) (collection : ℕ) (id : Id) (picks : List Pick) (i : ℕ) (row : StoredRow) (dates : List ℕ)
     → i < length walked → row ≡ get_or walked i row → AreTakenFrom rows collection id picks (take i walked) dates
-    → ¬ IsTaken rows collection id picks row → AreTakenFrom rows collection id picks (take (suc i) walked) dates
+    → ¬ IsDeletedRow rows collection id picks row → AreTakenFrom rows collection id picks (take (suc i) walked) dates
 taken_same rows walked collection id picks i row dates within its taken never =
     let more = take-suc walked i row within ∙ ap (λ (r : StoredRow). take i walked ++ r ∷ []) (sym its) in record {
       ascend = taken.ascend;
@@ -96,7 +96,7 @@ taken_same rows walked collection id picks i row dates within its taken never =
           (one, subst (λ (rs : List StoredRow). Contains rs one) (sym more) (Contains-append_left (take i walked) (row ∷ []) one among), its_taken, is);
       all = λ one there its_taken. elim (Contains-push_cases (take i walked) row one (subst (λ (rs : List StoredRow). Contains rs one) more there)) [
         | inl held ↦ taken.all one held its_taken
-        | inr same ↦ absurd (never (subst (IsTaken rows collection id picks) (sym same) its_taken))
+        | inr same ↦ absurd (never (subst (IsDeletedRow rows collection id picks) (sym same) its_taken))
       ];
     }
 

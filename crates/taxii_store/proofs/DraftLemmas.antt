@@ -5,11 +5,11 @@ use Rattle.std.proofs.lemmas.List.Elements.{All-append, All-cons, All-nil, All-w
 use Rattle.taxii_rows.specs.declared.stored_row.StoredRow.{StoredRow}
 use Rattle.taxii_rows.specs.declared.stored_row.TheConstants.{LAST_DATE}
 use Rattle.taxii_rows.specs.declared.described.Described.{Described}
-use Rattle.taxii_rows.specs.Described.{row_of}
+use Rattle.taxii_rows.specs.Described.{stored_row_of}
 use Rattle.taxii_rows.specs.SoundRow.{IsSoundRow}
 use Rattle.taxii_rows.specs.StoreState.{StoreState}
 use Rattle.taxii_store.specs.declared.add_outcome.AddOutcome.{AddOutcome}
-use Rattle.taxii_store.specs.Addition.{Adds, IsAddition, date_in, first_date}
+use Rattle.taxii_store.specs.Addition.{AddsObjects, IsAddition, date_in, first_date}
 use Rattle.taxii_store.specs.Planned.{IsSound, IsSoundPlan}
 use Rattle.taxii_store.specs.inner.Moving.{CountUp, IsDraft, shifted, shifted_outcome, next_date, shift_at, plan_of}
 use Rattle.taxii_store.proofs.CountLemmas.{count_pushed, counts_ascend, counts_last, counts_within, counts_shifted, all_sound_shifted}
@@ -59,28 +59,28 @@ plan_sound watermark moment outcomes new draft =
     }
 
 pub object_pushed : (watermark : ℕ) (outcomes : List AddOutcome) (new : List StoredRow) (object : Described) (date collection : ℕ) (row : StoredRow)
-    → IsDraft watermark outcomes new → IsSound object → row ≡ row_of object date collection → date ≡ next_date watermark new → date ≤ LAST_DATE
+    → IsDraft watermark outcomes new → IsSound object → row ≡ stored_row_of object date collection → date ≡ next_date watermark new → date ≤ LAST_DATE
     → IsDraft watermark outcomes (new ++ row ∷ [])
 object_pushed watermark outcomes new object date collection row draft sound its next within =
     subst (λ (r : StoredRow). IsDraft watermark outcomes (new ++ r ∷ [])) (sym its)
-    (row_pushed watermark outcomes new (row_of object date collection) draft next within (sound date collection))
+    (row_pushed watermark outcomes new (stored_row_of object date collection) draft next within (sound date collection))
 
 -- the addition that a draft is, at a moment
 pub plan_adds : (state : StoreState) (collection moment : ℕ) (objects : List Described) (outcomes : List AddOutcome) (new : List StoredRow)
     → All (λ row. row.date ≤ state.watermark) state.rows → IsDraft state.watermark outcomes new
-    → Adds collection (state.watermark + 1) state.rows objects outcomes new
+    → AddsObjects collection (state.watermark + 1) state.rows objects outcomes new
     → IsAddition state collection moment objects (plan_of state.watermark moment outcomes new).outcomes (plan_of state.watermark moment outcomes new).rows
 plan_adds state collection moment objects outcomes new held draft adds =
     let shift = shift_at state.watermark moment new in
     let rows = map (shifted shift) new in
     let count : length rows ≡ length new = length-map new (shifted shift) in
     let (begins, ends) = shift_is state.watermark moment new draft.room in
-    let fresh : Adds collection (state.watermark + 1) (state.rows ++ []) objects outcomes new =
-    subst (λ (rs : List StoredRow). Adds collection (state.watermark + 1) rs objects outcomes new) (sym (append-nil state.rows)) adds in
+    let fresh : AddsObjects collection (state.watermark + 1) (state.rows ++ []) objects outcomes new =
+    subst (λ (rs : List StoredRow). AddsObjects collection (state.watermark + 1) rs objects outcomes new) (sym (append-nil state.rows)) adds in
     let later = adds_shifted state.watermark shift collection (state.watermark + 1) state.rows [] objects outcomes new held (All-nil (λ (row : StoredRow). state.watermark < row.date)) (omega arith) fresh in
-    let own = subst (λ (rs : List StoredRow). Adds collection (state.watermark + 1 + shift) rs objects (map (shifted_outcome state.watermark shift) outcomes) rows) (append-nil state.rows) later in
-    let first = subst (λ (date : ℕ). Adds collection date state.rows objects (map (shifted_outcome state.watermark shift) outcomes) rows) begins own in record {
-      adds = subst (λ (n : ℕ). Adds collection (first_date state.watermark moment n) state.rows objects (map (shifted_outcome state.watermark shift) outcomes) rows) (sym count) first;
+    let own = subst (λ (rs : List StoredRow). AddsObjects collection (state.watermark + 1 + shift) rs objects (map (shifted_outcome state.watermark shift) outcomes) rows) (append-nil state.rows) later in
+    let first = subst (λ (date : ℕ). AddsObjects collection date state.rows objects (map (shifted_outcome state.watermark shift) outcomes) rows) begins own in record {
+      adds = subst (λ (n : ℕ). AddsObjects collection (first_date state.watermark moment n) state.rows objects (map (shifted_outcome state.watermark shift) outcomes) rows) (sym count) first;
       room = omega (arith, count, draft.room);
     }
 

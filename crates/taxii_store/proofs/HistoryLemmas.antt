@@ -6,7 +6,7 @@ use Rattle.std.proofs.lemmas.List.Elements.{All-filter, All-contains, All-contai
 use Rattle.taxii_rows.specs.declared.stored_row.StoredRow.{StoredRow}
 use Rattle.taxii_rows.specs.StoreState.{StoreState}
 use Rattle.taxii_rows.specs.Keeper.{without, is_date_in}
-use Rattle.taxii_store.specs.History.{IsAddition, IsDeletion, Becomes, IsHistory}
+use Rattle.taxii_store.specs.History.{IsStoreAddition, IsDeletion, Becomes, IsHistory}
 use Rattle.taxii_store.proofs.RowsLemmas.{least}
 
 -- the watermark doesn't fall, and each row is one of those before or is past their watermark
@@ -26,7 +26,7 @@ later_both a b c first second = record {
   ];
 }
 
-added : (state after : StoreState) → IsAddition state after → Later state after
+added : (state after : StoreState) → IsStoreAddition state after → Later state after
 added state after step = record { watermark = step.watermark; rows = rows }
   where
     rows : (r : StoredRow) → Contains after.rows r → Contains state.rows r ⊎ (state.watermark < r.date)
@@ -50,7 +50,7 @@ becomes : (state : StoreState) (states : List StoreState) (after : StoreState) �
 becomes state [] after h = subst (λ (s : StoreState). Later state s) (sym h) (later_itself state)
 becomes state (next ∷ states) after h = later_both state next after (one h.0) (becomes next states after h.1)
   where
-    one : IsAddition state next ⊎ IsDeletion state next → Later state next
+    one : IsStoreAddition state next ⊎ IsDeletion state next → Later state next
     one (inl step) = added state next step
     one (inr step) = deleted state next step
 

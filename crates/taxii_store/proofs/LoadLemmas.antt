@@ -13,14 +13,14 @@ use Rattle.taxii_rows.specs.StoreState.{StoreState, dates_of, AscendFrom}
 use Rattle.taxii_rows.specs.Keeper.{row_after}
 use Rattle.taxii_store.specs.declared.load_refusal.LoadRefusal.{LoadRefusal}
 use Rattle.taxii_store.specs.declared.load_refusal.LoadRefusal.TheVariants.{KeeperFault, BadRow, NoMemory as OutOfMemory}
-use Rattle.taxii_store.specs.Loading.{IsFit, IsBadAfter}
+use Rattle.taxii_store.specs.Loading.{IsFitRow, IsBadAfter}
 use Rattle.taxii_store.specs.inner.Reading.{IsBadNext}
 
 -- rows that were read, up to that date
 pub record AreGood (watermark after : ℕ) (rows : List StoredRow) : Type 0 where
   pub ascend : AscendFrom 1 (dates_of rows)
   pub upto : All (λ row. row.date ≤ after) rows
-  pub fit : All (IsFit watermark) rows
+  pub fit : All (IsFitRow watermark) rows
   pub last : after ≤ LAST_DATE
   pub ends : (after ≡ 0) ⊎ ((row : StoredRow) × Contains rows row × (row.date ≡ after))
 
@@ -37,7 +37,7 @@ ascend_pushed least after (first ∷ rows) row from ascend upto later =
     let here = All-head (λ one. one.date ≤ after) first rows upto in
     (ascend.0, ascend_pushed (first.date + 1) after rows row (omega (arith, here)) ascend.1 (All-tail (λ one. one.date ≤ after) first rows upto) later)
 
-pub good_pushed : (watermark after : ℕ) (rows : List StoredRow) (row : StoredRow) → AreGood watermark after rows → after < row.date → IsFit watermark row
+pub good_pushed : (watermark after : ℕ) (rows : List StoredRow) (row : StoredRow) → AreGood watermark after rows → after < row.date → IsFitRow watermark row
     → AreGood watermark row.date (rows ++ row ∷ [])
 good_pushed watermark after rows row good later fit =
     let Upto = λ (one : StoredRow). one.date ≤ row.date in record {
@@ -45,7 +45,7 @@ good_pushed watermark after rows row good later fit =
       upto = All-append Upto rows (row ∷ [])
           (All-weaker (λ one. one.date ≤ after) Upto (λ one within. omega (arith, within, later)) rows good.upto)
           (All-cons Upto row [] (omega arith) (All-nil Upto));
-      fit = All-append (IsFit watermark) rows (row ∷ []) good.fit (All-cons (IsFit watermark) row [] fit (All-nil (IsFit watermark)));
+      fit = All-append (IsFitRow watermark) rows (row ∷ []) good.fit (All-cons (IsFitRow watermark) row [] fit (All-nil (IsFitRow watermark)));
       last = fit.last;
       ends = inr (row, Contains-push rows row, refl);
     }
@@ -110,7 +110,7 @@ pub bad_after : (state : StoreState) (after : ℕ) (rows : List StoredRow) → A
 bad_after state after rows good read bad = record {
   before = record {
     fit = λ row there upto. elim (Contains-append_cases rows read.rest row (subst (λ (all : List StoredRow). Contains all row) read.split there)) [
-      | inl held ↦ All-contains (IsFit state.watermark) rows row good.fit held
+      | inl held ↦ All-contains (IsFitRow state.watermark) rows row good.fit held
       | inr behind ↦ absurd (omega (arith, upto, later_than (after + 1) read.rest row read.behind behind))
     ];
     ends = elim good.ends [
@@ -132,15 +132,15 @@ passes test (row ∷ rows) = go (test row) refl (passes test rows)
     go false is rest = rest
 
 pub bad_next : (state : StoreState) (after watermark : ℕ) (found : Option StoredRow) → state.watermark ≡ watermark → found ≡ row_after after state.rows
-    → ¬ MatchOption found (watermark ≤ LAST_DATE) (λ row. (after < row.date) × IsFit watermark row) → IsBadNext state after
+    → ¬ MatchOption found (watermark ≤ LAST_DATE) (λ row. (after < row.date) × IsFitRow watermark row) → IsBadNext state after
 bad_next state after watermark found same is unfit =
     go (row_after after state.rows) (passes (λ row. nat_lt after row.date) state.rows)
-    (subst (λ (m : ℕ). ¬ MatchOption (row_after after state.rows) (m ≤ LAST_DATE) (λ row. (after < row.date) × IsFit m row)) (sym same)
-    (subst (λ (f : Option StoredRow). ¬ MatchOption f (watermark ≤ LAST_DATE) (λ row. (after < row.date) × IsFit watermark row)) is unfit))
+    (subst (λ (m : ℕ). ¬ MatchOption (row_after after state.rows) (m ≤ LAST_DATE) (λ row. (after < row.date) × IsFitRow m row)) (sym same)
+    (subst (λ (f : Option StoredRow). ¬ MatchOption f (watermark ≤ LAST_DATE) (λ row. (after < row.date) × IsFitRow watermark row)) is unfit))
   where
     go : (f : Option StoredRow) → IfSome f (λ row. nat_lt after row.date ≡ true)
-        → ¬ MatchOption f (state.watermark ≤ LAST_DATE) (λ row. (after < row.date) × IsFit state.watermark row)
-        → MatchOption f (LAST_DATE < state.watermark) (λ row. ¬ IsFit state.watermark row)
+        → ¬ MatchOption f (state.watermark ≤ LAST_DATE) (λ row. (after < row.date) × IsFitRow state.watermark row)
+        → MatchOption f (LAST_DATE < state.watermark) (λ row. ¬ IsFitRow state.watermark row)
     go (Some row) later never = λ fit. never (ltb-true after row.date later, fit)
     go None later never = either (nat_lt LAST_DATE state.watermark) refl
       where

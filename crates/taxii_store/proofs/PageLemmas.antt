@@ -10,7 +10,7 @@ use Rattle.taxii_rows.specs.declared.stored_row.StoredRow.{StoredRow}
 use Rattle.taxii_rows.specs.StoreState.{StoreState, dates_of, AscendFrom}
 use Rattle.taxii_rows.specs.SoundRow.{IsSoundRow, IsSoundState}
 use Rattle.taxii_routes.specs.declared.query.Query.{Query}
-use Rattle.taxii_store.specs.Meeting.{Meets}
+use Rattle.taxii_store.specs.Meeting.{MeetsQuery}
 use Rattle.taxii_store.specs.Page.{page_size, AreAllWhere, IsPage}
 use Rattle.taxii_store.specs.inner.Candidates.{AreChosen}
 use Rattle.taxii_store.proofs.SettledLemmas.{Settled, settled_meets, cons_cases}
@@ -130,13 +130,13 @@ module _ (rows : List StoredRow) (collection : ℕ) (only : Option Id) (query : 
   unfolding meeting
   meeting_none = refl
 
-  pub meeting_more : (later : List StoredRow) (i : ℕ) (row : StoredRow) → i < length later → row ≡ get_or later i row → Meets rows collection only query row
+  pub meeting_more : (later : List StoredRow) (i : ℕ) (row : StoredRow) → i < length later → row ≡ get_or later i row → MeetsQuery rows collection only query row
       → meeting rows collection only query (take (i + 1) later) ≡ meeting rows collection only query (take i later) ++ row ∷ []
   unfolding meeting
   meeting_more later i row within is meets =
       one_more (meets_test rows collection only query) later i row within is (yes_is (settled_meets rows collection only query row) meets)
 
-  pub meeting_same : (later : List StoredRow) (i : ℕ) (row : StoredRow) → i < length later → row ≡ get_or later i row → ¬ Meets rows collection only query row
+  pub meeting_same : (later : List StoredRow) (i : ℕ) (row : StoredRow) → i < length later → row ≡ get_or later i row → ¬ MeetsQuery rows collection only query row
       → meeting rows collection only query (take (i + 1) later) ≡ meeting rows collection only query (take i later)
   unfolding meeting
   meeting_same later i row within is never =
@@ -144,7 +144,7 @@ module _ (rows : List StoredRow) (collection : ℕ) (only : Option Id) (query : 
 
   -- those among the chosen ones are all that meet it
   meeting_all : (chosen : List StoredRow) → AreChosen rows collection only query chosen
-      → AreAllWhere (Meets rows collection only query) rows (meeting rows collection only query chosen)
+      → AreAllWhere (MeetsQuery rows collection only query) rows (meeting rows collection only query chosen)
   unfolding meeting
   meeting_all chosen are = record {
     ascend = ascend_kept 1 (meets_test rows collection only query) chosen are.ascend;
@@ -173,7 +173,7 @@ module _ (rows : List StoredRow) (collection : ℕ) (only : Option Id) (query : 
 
   -- at one more than it can have, it has the first of them
   pub page_full : (chosen page : List StoredRow) (i : ℕ) (row : StoredRow) → AreChosen rows collection only query chosen
-      → i < length chosen → row ≡ get_or chosen i row → Meets rows collection only query row
+      → i < length chosen → row ≡ get_or chosen i row → MeetsQuery rows collection only query row
       → page ≡ meeting rows collection only query (take i chosen) → length page ≡ page_size query → IsPage rows collection only query page true
   page_full chosen page i row are within is meets found full = record {
     meeting = meeting rows collection only query chosen;

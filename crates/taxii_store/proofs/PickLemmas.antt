@@ -14,7 +14,7 @@ use Rattle.stix_ids.specs.declared.pick.Pick.TheVariants.{Last, First, All, At}
 use Rattle.taxii_rows.specs.declared.stored_row.StoredRow.{StoredRow}
 use Rattle.taxii_rows.specs.Picking.{IsPicked, IsPickedBy}
 use Rattle.taxii_store.specs.declared.pick_set.PickSet.{PickSet}
-use Rattle.taxii_store.specs.Picks.{HasPicks, Selects}
+use Rattle.taxii_store.specs.Picks.{HasPicks, SelectsRow}
 
 equal : (order : Ordering) → is_eq order ≡ true → order ≡ Equal
 equal Less holds = absurd (false≢true holds)
@@ -103,14 +103,14 @@ with_version picks version set versions has updates = record {
 pub by_pick : (picks : List Pick) (pick : Pick) (rows : List StoredRow) (row : StoredRow) → Contains picks pick → IsPickedBy pick rows row → IsPicked picks rows row
 by_pick picks pick rows row here picked = (here.0, pick, here.1, here.2, picked)
 
-case_of : (picks : List Pick) (set : PickSet) (rows : List StoredRow) (row : StoredRow) (pick : Pick) → HasPicks picks set → Contains picks pick → IsPickedBy pick rows row → Selects set rows row
+case_of : (picks : List Pick) (set : PickSet) (rows : List StoredRow) (row : StoredRow) (pick : Pick) → HasPicks picks set → Contains picks pick → IsPickedBy pick rows row → SelectsRow set rows row
 case_of picks set rows row All has here picked = inl (has.all.1 here)
 case_of picks set rows row (At version) has here picked = inr (inl ((has.versions row.version).1 (subst (λ (v : ℤ). Contains picks (At v)) (sym picked) here)))
 case_of picks set rows row Last has here picked = inr (inr (inl (has.last.1 here, picked)))
 case_of picks set rows row First has here picked = inr (inr (inr (has.first.1 here, picked)))
 
 -- a set selects the rows that its picks do
-pub selected : (picks : List Pick) (set : PickSet) (rows : List StoredRow) (row : StoredRow) → HasPicks picks set → Selects set rows row ↔ IsPicked picks rows row
+pub selected : (picks : List Pick) (set : PickSet) (rows : List StoredRow) (row : StoredRow) → HasPicks picks set → SelectsRow set rows row ↔ IsPicked picks rows row
 selected picks set rows row has = (
   λ selects. elim selects [
     | inl all ↦ by_pick picks All rows row (has.all.0 all) tt

@@ -20,7 +20,7 @@ use Rattle.std.proofs.lemmas.List.Kept.{IsStrictlySortedBy-dedup, Any-dedup, Con
 use Rattle.std.proofs.lemmas.List.Sorted.{searchable_from_sorted, Contains-permutation, IsPermutation-map, IsPermutation-sym}
 use Rattle.stix_ids.specs.declared.id.Id.{Id}
 use native.Mathlib.Numerals.{unary_clauses}
-use Rattle.taxii_store.specs.inner.Sets.{Key, key_cmp, parts_of, AreKeysOf, measured, HasTexts, numbered, HasIds}
+use Rattle.taxii_store.specs.inner.Sets.{NumberedTextKey, draft_key_cmp, key_parts, AreKeysOf, measured, HasTexts, number_and_kind, HasIds}
 
 -- ---- what stands in a list after a map
 
@@ -82,88 +82,88 @@ then_equal Greater other is = absurd (cc)
 then_both : (one other : Ordering) → one ≡ Equal → other ≡ Equal → ordering_then one other ≡ Equal
 then_both one other first second = ap (λ (o : Ordering). ordering_then o other) first ∙ second
 
-key_exact : (x y : Key) → key_cmp x y ≡ Equal → parts_of x ≡ parts_of y
+key_exact : (x y : NumberedTextKey) → draft_key_cmp x y ≡ Equal → key_parts x ≡ key_parts y
 key_exact x y same =
     let both = then_equal (nat_cmp x.0 y.0) (slice_cmp nat_cmp x.1.now y.1.now) same in
     ap (λ (number : ℕ). let parts : ℕ × List ℕ = (number, x.1.now) in parts) (exact_unsigned x.0 y.0 both.0)
     ∙ ap (λ (text : List ℕ). let parts : ℕ × List ℕ = (y.0, text) in parts) (exact_bytes x.1.now y.1.now both.1)
 
-key_tied : (x y : Key) → parts_of x ≡ parts_of y → key_cmp x y ≡ Equal
+key_tied : (x y : NumberedTextKey) → key_parts x ≡ key_parts y → draft_key_cmp x y ≡ Equal
 key_tied x y same = then_both (nat_cmp x.0 y.0) (slice_cmp nat_cmp x.1.now y.1.now)
     (subst (λ (number : ℕ). nat_cmp x.0 number ≡ Equal) (ap (λ (parts : ℕ × List ℕ). parts.0) same) (tied_itself nat_cmp_total x.0))
     (subst (λ (text : List ℕ). slice_cmp nat_cmp x.1.now text ≡ Equal) (ap (λ (parts : ℕ × List ℕ). parts.1) same) (tied_itself nat_list_cmp_total x.1.now))
 
-key_total : IsTotalOrder key_cmp
-key_total = then_total (on_total (λ (key : Key). key.0) nat_cmp_total) (on_total (λ (key : Key). key.1.now) nat_list_cmp_total)
+key_total : IsTotalOrder draft_key_cmp
+key_total = then_total (on_total (λ (key : NumberedTextKey). key.0) nat_cmp_total) (on_total (λ (key : NumberedTextKey). key.1.now) nat_list_cmp_total)
 
-abbrev pub key_eq : Key → Key → Bool
+abbrev pub key_eq : NumberedTextKey → NumberedTextKey → Bool
 key_eq x y = nat_eq x.0 y.0 && bytes_eq x.1.now y.1.now
 
 key_equiv : IsEquivalence key_eq
-key_equiv = and_equiv (on_equiv (λ (key : Key). key.0) nat_eq_equiv) (on_equiv (λ (key : Key). key.1.now) nat_list_eq_equiv)
+key_equiv = and_equiv (on_equiv (λ (key : NumberedTextKey). key.0) nat_eq_equiv) (on_equiv (λ (key : NumberedTextKey). key.1.now) nat_list_eq_equiv)
 
-key_ties : (x y : Key) → key_eq x y ≡ eq_by_cmp key_cmp x y
+key_ties : (x y : NumberedTextKey) → key_eq x y ≡ eq_by_cmp draft_key_cmp x y
 key_ties x y = both_tied _ _ (nat_cmp x.0 y.0) (slice_cmp nat_cmp x.1.now y.1.now) (unsigned_ties x.0 y.0) (lists_ties nat_cmp unsigned_ties x.1.now y.1.now)
 
 -- ---- keys of a list
 
-sorted_keys : (items : List (ℕ × List ℕ)) (keys sorted : List Key) → map parts_of keys ≡ items → IsPermutation keys sorted → IsSorted key_cmp sorted → AreKeysOf items sorted
+sorted_keys : (items : List (ℕ × List ℕ)) (keys sorted : List NumberedTextKey) → map key_parts keys ≡ items → IsPermutation keys sorted → IsSorted draft_key_cmp sorted → AreKeysOf items sorted
 sorted_keys items keys sorted is shifted ordered = record {
   ordered = ordered;
   same = λ item. (
-    λ here. subst (λ (all : List (ℕ × List ℕ)). Contains all item) is (Contains-permutation _ _ item (IsPermutation-sym _ _ (IsPermutation-map parts_of _ _ shifted)) here),
-    λ here. Contains-permutation _ _ item (IsPermutation-map parts_of _ _ shifted) (subst (λ (all : List (ℕ × List ℕ)). Contains all item) (sym is) here),
+    λ here. subst (λ (all : List (ℕ × List ℕ)). Contains all item) is (Contains-permutation _ _ item (IsPermutation-sym _ _ (IsPermutation-map key_parts _ _ shifted)) here),
+    λ here. Contains-permutation _ _ item (IsPermutation-map key_parts _ _ shifted) (subst (λ (all : List (ℕ × List ℕ)). Contains all item) (sym is) here),
   );
 }
 
 -- without those that come twice
-keys_once : (items : List (ℕ × List ℕ)) (keys once : List Key) → AreKeysOf items keys → IsFiltered (DiffersFromLast key_eq) [] keys once → AreKeysOf items once
+keys_once : (items : List (ℕ × List ℕ)) (keys once : List NumberedTextKey) → AreKeysOf items keys → IsFiltered (DiffersFromLast key_eq) [] keys once → AreKeysOf items once
 keys_once items keys once are filtered = subst (AreKeysOf items) (sym (dedup_is key_eq keys once filtered)) (record {
-  ordered = strict_sorted key_cmp key_total (dedup key_eq keys) (IsStrictlySortedBy-dedup key_total key_ties keys are.ordered);
+  ordered = strict_sorted draft_key_cmp key_total (dedup key_eq keys) (IsStrictlySortedBy-dedup key_total key_ties keys are.ordered);
   same = λ item. (
-    λ here. let own = unmapped parts_of (dedup key_eq keys) item here in
-        (are.same item).0 (subst (Contains (map parts_of keys)) own.2 (mapped parts_of keys own.0 (Contains-from_dedup key_eq keys own.0 own.1))),
+    λ here. let own = unmapped key_parts (dedup key_eq keys) item here in
+        (are.same item).0 (subst (Contains (map key_parts keys)) own.2 (mapped key_parts keys own.0 (Contains-from_dedup key_eq keys own.0 own.1))),
     λ here.
-        let own = unmapped parts_of keys item ((are.same item).1 here) in
+        let own = unmapped key_parts keys item ((are.same item).1 here) in
         let kept = Any-dedup key_equiv keys own.0 own.1 in
-        let same : parts_of kept.1 ≡ item = sym (key_exact own.0 kept.1 (equal (key_cmp own.0 kept.1) (sym (key_ties own.0 kept.1) ∙ kept.4))) ∙ own.2 in
-        subst (Contains (map parts_of (dedup key_eq keys))) same (mapped parts_of (dedup key_eq keys) kept.1 (kept.0, kept.2, kept.3)),
+        let same : key_parts kept.1 ≡ item = sym (key_exact own.0 kept.1 (equal (draft_key_cmp own.0 kept.1) (sym (key_ties own.0 kept.1) ∙ kept.4))) ∙ own.2 in
+        subst (Contains (map key_parts (dedup key_eq keys))) same (mapped key_parts (dedup key_eq keys) kept.1 (kept.0, kept.2, kept.3)),
   );
 })
 
 -- keys that are sorted, and then those that come twice dropped
-pub keys_of : (items : List (ℕ × List ℕ)) (row sorted once : List Key) → map parts_of row ≡ items → IsPermutation row sorted → IsSorted key_cmp sorted
+pub keys_of : (items : List (ℕ × List ℕ)) (row sorted once : List NumberedTextKey) → map key_parts row ≡ items → IsPermutation row sorted → IsSorted draft_key_cmp sorted
     → IsFiltered (DiffersFromLast key_eq) [] sorted once → AreKeysOf items once
 keys_of items row sorted once is shifted ordered filtered = keys_once items sorted once (sorted_keys items row sorted is shifted ordered) filtered
 
 -- ---- what a look-up finds
 
-searched : (keys : List Key) (key : Key) (answer : Result ℕ ℕ) → IsSorted key_cmp keys → IsSearchInRange answer (length keys) → IsBinarySearchResult (λ one. key_cmp one key) keys answer
-    → IsTrue (is_ok answer) ↔ Contains (map parts_of keys) (parts_of key)
+searched : (keys : List NumberedTextKey) (key : NumberedTextKey) (answer : Result ℕ ℕ) → IsSorted draft_key_cmp keys → IsSearchInRange answer (length keys) → IsBinarySearchResult (λ one. draft_key_cmp one key) keys answer
+    → IsTrue (is_ok answer) ↔ Contains (map key_parts keys) (key_parts key)
 searched keys key (Ok at) ordered within found = (
-  λ _. subst (Contains (map parts_of keys)) (key_exact (get_or keys at key) key (found key)) (mapped parts_of keys (get_or keys at key) (Contains-get_or keys at key within)),
+  λ _. subst (Contains (map key_parts keys)) (key_exact (get_or keys at key) key (found key)) (mapped key_parts keys (get_or keys at key) (Contains-get_or keys at key within)),
   λ _. refl,
 )
 searched keys key (Err at) ordered within point = (
   λ holds. absurd (false≢true holds),
   λ here.
-      let own = unmapped parts_of keys (parts_of key) here in
+      let own = unmapped key_parts keys (key_parts key) here in
       let there = own.1 in
       let apart = point (searchable_from_sorted key_total (λ one. one) keys key ordered) in
-      let same : key_cmp (get_or keys there.0 own.0) key ≡ Equal = key_tied (get_or keys there.0 own.0) key (ap parts_of there.2 ∙ own.2) in
+      let same : draft_key_cmp (get_or keys there.0 own.0) key ≡ Equal = key_tied (get_or keys there.0 own.0) key (ap key_parts there.2 ∙ own.2) in
       absurd (elim (cases_lt there.0 at) [
-        | inl below ↦ never_tied (key_cmp (get_or keys there.0 own.0) key) (inl (apart.0 there.0 own.0 (omega arith) below)) same
-        | inr above ↦ never_tied (key_cmp (get_or keys there.0 own.0) key) (inr (apart.1 there.0 own.0 above there.1)) same
+        | inl below ↦ never_tied (draft_key_cmp (get_or keys there.0 own.0) key) (inl (apart.0 there.0 own.0 (omega arith) below)) same
+        | inr above ↦ never_tied (draft_key_cmp (get_or keys there.0 own.0) key) (inr (apart.1 there.0 own.0 above there.1)) same
       ]),
 )
 
 -- a key is found where the item that it is of stands in the list
-found_key : {X : Type 0} (f : X → ℕ × List ℕ) → ((x y : X) → f x ≡ f y → x ≡ y) → (xs : List X) (lent keys : List Key) (key : Key) (x : X) (answer : Result ℕ ℕ) (found : Bool)
-    → lent ≡ keys → found ≡ is_ok answer → parts_of key ≡ f x → AreKeysOf (map f xs) keys → IsSearchInRange answer (length lent) → IsBinarySearchResult (λ one. key_cmp one key) lent answer
+found_key : {X : Type 0} (f : X → ℕ × List ℕ) → ((x y : X) → f x ≡ f y → x ≡ y) → (xs : List X) (lent keys : List NumberedTextKey) (key : NumberedTextKey) (x : X) (answer : Result ℕ ℕ) (found : Bool)
+    → lent ≡ keys → found ≡ is_ok answer → key_parts key ≡ f x → AreKeysOf (map f xs) keys → IsSearchInRange answer (length lent) → IsBinarySearchResult (λ one. draft_key_cmp one key) lent answer
     → IsTrue found ↔ Contains xs x
 found_key f back xs lent keys key x answer found same is own are within position =
-    let observable = subst (λ (item : ℕ × List ℕ). IsTrue (is_ok answer) ↔ Contains (map parts_of keys) item) own
-    (subst (λ (all : List Key). IsTrue (is_ok answer) ↔ Contains (map parts_of all) (parts_of key)) same (searched lent key answer (subst (IsSorted key_cmp) (sym same) are.ordered) within position)) in
+    let observable = subst (λ (item : ℕ × List ℕ). IsTrue (is_ok answer) ↔ Contains (map key_parts keys) item) own
+    (subst (λ (all : List NumberedTextKey). IsTrue (is_ok answer) ↔ Contains (map key_parts all) (key_parts key)) same (searched lent key answer (subst (IsSorted draft_key_cmp) (sym same) are.ordered) within position)) in
     let kept = are.same (f x) in (
       λ holds. let there = unmapped f xs (f x) (kept.0 (observable.0 (sym is ∙ holds))) in subst (Contains xs) (back there.0 x there.2) there.1,
       λ here. is ∙ observable.1 (kept.1 (mapped f xs x here)),
@@ -171,21 +171,21 @@ found_key f back xs lent keys key x answer found same is own are within position
 
 -- ---- texts and identifiers
 
-pub found_text : (texts : List (List ℕ)) (lent set : List Key) (text : Bor (List ℕ)) (answer : Result ℕ ℕ) (found : Bool) → lent ≡ set → found ≡ is_ok answer → HasTexts texts set
-    → IsSearchInRange answer (length lent) → IsBinarySearchResult (λ one. key_cmp one (length text.now, text)) lent answer → IsTrue found ↔ Contains texts text.now
+pub found_text : (texts : List (List ℕ)) (lent set : List NumberedTextKey) (text : Bor (List ℕ)) (answer : Result ℕ ℕ) (found : Bool) → lent ≡ set → found ≡ is_ok answer → HasTexts texts set
+    → IsSearchInRange answer (length lent) → IsBinarySearchResult (λ one. draft_key_cmp one (length text.now, text)) lent answer → IsTrue found ↔ Contains texts text.now
 unfolding HasTexts
 found_text texts lent set text answer found same is =
     found_key measured (λ x y same. ap (λ (parts : ℕ × List ℕ). parts.1) same) texts lent set (length text.now, text) text.now answer found same is refl
 
-pub found_id : (ids : List Id) (lent set : List Key) (key : Key) (id : Id) (answer : Result ℕ ℕ) (found : Bool) → lent ≡ set → found ≡ is_ok answer → parts_of key ≡ numbered id
-    → HasIds ids set → IsSearchInRange answer (length lent) → IsBinarySearchResult (λ one. key_cmp one key) lent answer → IsTrue found ↔ Contains ids id
+pub found_id : (ids : List Id) (lent set : List NumberedTextKey) (key : NumberedTextKey) (id : Id) (answer : Result ℕ ℕ) (found : Bool) → lent ≡ set → found ≡ is_ok answer → key_parts key ≡ number_and_kind id
+    → HasIds ids set → IsSearchInRange answer (length lent) → IsBinarySearchResult (λ one. draft_key_cmp one key) lent answer → IsTrue found ↔ Contains ids id
 unfolding HasIds
-found_id = found_key numbered (λ x y same. ap (λ (parts : ℕ × List ℕ). let id : Id = record { kind = parts.1; number = parts.0 } in id) same)
+found_id = found_key number_and_kind (λ x y same. ap (λ (parts : ℕ × List ℕ). let id : Id = record { kind = parts.1; number = parts.0 } in id) same)
 
 -- one more key after those of the first identifiers
-pub next_id : (ids : List Id) (row : List Key) (i : ℕ) (key : Key) (id : Id) → i < length ids → id ≡ get_or ids i id → parts_of key ≡ numbered id
-    → map parts_of row ≡ map numbered (take i ids) → map parts_of (row ++ key ∷ []) ≡ map numbered (take (i + 1) ids)
+pub next_id : (ids : List Id) (row : List NumberedTextKey) (i : ℕ) (key : NumberedTextKey) (id : Id) → i < length ids → id ≡ get_or ids i id → key_parts key ≡ number_and_kind id
+    → map key_parts row ≡ map number_and_kind (take i ids) → map key_parts (row ++ key ∷ []) ≡ map number_and_kind (take (i + 1) ids)
 next_id ids row i key id within is own so_far =
-    map-append parts_of row (key ∷ []) ∙ ap (λ (front : List (ℕ × List ℕ)). front ++ parts_of key ∷ []) so_far
-    ∙ ap (λ (one : ℕ × List ℕ). map numbered (take i ids) ++ one ∷ []) (own ∙ ap numbered is)
-    ∙ sym (ap (map numbered) (take_more ids i id within) ∙ map-append numbered (take i ids) (get_or ids i id ∷ []))
+    map-append key_parts row (key ∷ []) ∙ ap (λ (front : List (ℕ × List ℕ)). front ++ key_parts key ∷ []) so_far
+    ∙ ap (λ (one : ℕ × List ℕ). map number_and_kind (take i ids) ++ one ∷ []) (own ∙ ap number_and_kind is)
+    ∙ sym (ap (map number_and_kind) (take_more ids i id within) ∙ map-append number_and_kind (take i ids) (get_or ids i id ∷ []))

@@ -13,7 +13,7 @@ use Rattle.taxii_rows.specs.declared.stored_row.StoredRow.{StoredRow}
 use Rattle.taxii_rows.specs.Identity.{is_row_of}
 use Rattle.taxii_rows.specs.Picking.{IsNotBefore, ForItsRows, IsPickedBy}
 use Rattle.taxii_routes.specs.declared.query.Query.{Query}
-use Rattle.taxii_store.specs.Meeting.{Meets, IsAskedFor, picks_of}
+use Rattle.taxii_store.specs.Meeting.{MeetsQuery, IsAskedFor, picks_of}
 
 abbrev pub Settled : Type 0 → Type 0
 Settled P = P ⊎ ¬ P
@@ -144,7 +144,7 @@ asked_for collection only query row = alike
     (both (if_some (λ kinds. Contains kinds row.id.kind) (λ kinds. in_list same_bytes kinds row.id.kind) query.kinds)
     (if_some (λ specs. Contains specs (codes "2.1")) (λ specs. in_list same_bytes specs (codes "2.1")) query.specs)))))))
 
-pub settled_meets : (rows : List StoredRow) (collection : ℕ) (only : Option Id) (query : Query) (row : StoredRow) → Settled (Meets rows collection only query row)
+pub settled_meets : (rows : List StoredRow) (collection : ℕ) (only : Option Id) (query : Query) (row : StoredRow) → Settled (MeetsQuery rows collection only query row)
 settled_meets rows collection only query row = alike
     (λ h. record { asked = h.0; picked = h.1 }) (λ meets. (meets.asked, meets.picked))
     (both (asked_for collection only query row) (some_of (λ pick. IsPickedBy pick rows row) (picked_by rows row) (picks_of query)))

@@ -4,7 +4,7 @@ use Rattle.std.specs.Prelude.{◌≡◌, ℕ, ◌+◌, ◌-◌, ◌≤◌, ◌<�
 use Rattle.taxii_rows.specs.declared.stored_row.StoredRow.{StoredRow}
 use Rattle.taxii_rows.specs.declared.stored_row.TheConstants.{LAST_DATE}
 use Rattle.taxii_rows.specs.declared.described.Described.{Described}
-use Rattle.taxii_rows.specs.Described.{row_of}
+use Rattle.taxii_rows.specs.Described.{stored_row_of}
 use Rattle.taxii_rows.specs.StoreState.{StoreState}
 use Rattle.taxii_index.specs.Presence.{duplicate_of}
 use Rattle.taxii_store.specs.declared.add_outcome.AddOutcome.{AddOutcome}
@@ -18,13 +18,13 @@ date_in (Present date) = date
 -- objects are added in order after these rows, the first new one with this date. An object made
 -- present by a row has the date of the first such row. Any other one becomes a row with the next
 -- date, after the rows before
-abbrev pub Adds : ℕ → ℕ → List StoredRow → List Described → List AddOutcome → List StoredRow → Type 0
-Adds collection date rows [] outcomes new = (outcomes ≡ []) × (new ≡ [])
-Adds collection date rows (object ∷ objects) outcomes new = MatchOption (duplicate_of collection object rows)
+abbrev pub AddsObjects : ℕ → ℕ → List StoredRow → List Described → List AddOutcome → List StoredRow → Type 0
+AddsObjects collection date rows [] outcomes new = (outcomes ≡ []) × (new ≡ [])
+AddsObjects collection date rows (object ∷ objects) outcomes new = MatchOption (duplicate_of collection object rows)
     ((others : List AddOutcome) × (more : List StoredRow)
-    × (outcomes ≡ Added date ∷ others) × (new ≡ row_of object date collection ∷ more)
-    × Adds collection (date + 1) (rows ++ row_of object date collection ∷ []) objects others more)
-    (λ row. (others : List AddOutcome) × (outcomes ≡ Present row.date ∷ others) × Adds collection date rows objects others new)
+    × (outcomes ≡ Added date ∷ others) × (new ≡ stored_row_of object date collection ∷ more)
+    × AddsObjects collection (date + 1) (rows ++ stored_row_of object date collection ∷ []) objects others more)
+    (λ row. (others : List AddOutcome) × (outcomes ≡ Present row.date ∷ others) × AddsObjects collection date rows objects others new)
 
 -- the date of the first of `count` new rows: the moment, but after every date given, and early
 -- enough that the others have valid dates
@@ -33,14 +33,14 @@ first_date watermark moment count = max (watermark + 1) (min moment (LAST_DATE +
 
 -- an addition at a moment: what becomes of each object, and the new rows by date
 pub record IsAddition (state : StoreState) (collection moment : ℕ) (objects : List Described) (outcomes : List AddOutcome) (new : List StoredRow) : Type 0 where
-  pub adds : Adds collection (first_date state.watermark moment (length new)) state.rows objects outcomes new
+  pub adds : AddsObjects collection (first_date state.watermark moment (length new)) state.rows objects outcomes new
   pub room : state.watermark + length new ≤ LAST_DATE
 
 -- fewer dates are left than the addition has new rows
 pub record UsesUpDates (state : StoreState) (collection : ℕ) (objects : List Described) : Type 0 where
   pub outcomes : List AddOutcome
   pub new : List StoredRow
-  pub adds : Adds collection (state.watermark + 1) state.rows objects outcomes new
+  pub adds : AddsObjects collection (state.watermark + 1) state.rows objects outcomes new
   pub lacks : LAST_DATE < state.watermark + length new
 
 -- the last date given after some new rows

@@ -11,7 +11,7 @@ pub record IsDated (state : StoreState) : Type 0 where
 
 -- an addition: rows follow the others, each later than every date given before, and the last date
 -- given is the watermark
-pub record IsAddition (state after : StoreState) : Type 0 where
+pub record IsStoreAddition (state after : StoreState) : Type 0 where
   pub rows : List StoredRow
   pub ascend : AscendFrom (state.watermark + 1) (dates_of rows)
   pub marked : All (λ row. row.date ≤ after.watermark) rows
@@ -26,7 +26,7 @@ pub record IsDeletion (state after : StoreState) : Type 0 where
 -- additions and deletions, with these states between them, make the second of the first
 abbrev pub Becomes : StoreState → List StoreState → StoreState → Type 0
 Becomes state [] after = after ≡ state
-Becomes state (next ∷ states) after = (IsAddition state next ⊎ IsDeletion state next) × Becomes next states after
+Becomes state (next ∷ states) after = (IsStoreAddition state next ⊎ IsDeletion state next) × Becomes next states after
 
 -- some additions and deletions do
 abbrev pub IsHistory : StoreState → StoreState → Type 0

@@ -18,21 +18,21 @@ load_refusal Fault = KeeperFault
 load_refusal KeeperWants = OutOfMemory
 
 -- the row is sound, and neither after the watermark nor after the last valid date
-pub record IsFit (watermark : ℕ) (row : StoredRow) : Type 0 where
+pub record IsFitRow (watermark : ℕ) (row : StoredRow) : Type 0 where
   pub marked : row.date ≤ watermark
   pub last : row.date ≤ LAST_DATE
   pub sound : IsSoundRow row
 
 -- the rows up to that date are fit, of which it is the last, or there is none
 pub record AreFitUpTo (state : StoreState) (after : ℕ) : Type 0 where
-  pub fit : (row : StoredRow) → Contains state.rows row → row.date ≤ after → IsFit state.watermark row
+  pub fit : (row : StoredRow) → Contains state.rows row → row.date ≤ after → IsFitRow state.watermark row
   pub ends : (after ≡ 0) ⊎ ((row : StoredRow) × Contains state.rows row × (row.date ≡ after))
 
 -- the first row that is not acceptable is the one after this date; or no row follows it, and the
 -- watermark is after the last valid date
 pub record IsBadAfter (state : StoreState) (after : ℕ) : Type 0 where
   pub before : AreFitUpTo state after
-  pub bad : MatchOption (row_after after state.rows) (LAST_DATE < state.watermark) (λ row. ¬ IsFit state.watermark row)
+  pub bad : MatchOption (row_after after state.rows) (LAST_DATE < state.watermark) (λ row. ¬ IsFitRow state.watermark row)
 
 -- a library was loaded from the rows that a keeper has under a name
 pub record IsLoaded (name : List ℕ) (kept : Kept) (library : StoreState) : Type 0 where

@@ -24,6 +24,6 @@ pub record IsAskedFor (collection : ℕ) (only : Option Id) (query : Query) (row
   pub specs : IfSome query.specs (λ specs. Contains specs (codes "2.1"))
 
 -- the row is requested, and it is picked among the rows of its object
-pub record Meets (rows : List StoredRow) (collection : ℕ) (only : Option Id) (query : Query) (row : StoredRow) : Type 0 where
+pub record MeetsQuery (rows : List StoredRow) (collection : ℕ) (only : Option Id) (query : Query) (row : StoredRow) : Type 0 where
   pub asked : IsAskedFor collection only query row
   pub picked : IsPicked (picks_of query) rows row

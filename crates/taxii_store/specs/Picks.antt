@@ -21,5 +21,5 @@ abbrev pub SelectsEnd : PickSet → List StoredRow → StoredRow → Type 0
 SelectsEnd set rows row = (IsTrue set.last × IsPickedBy Last rows row) ⊎ (IsTrue set.first × IsPickedBy First rows row)
 
 -- one of the set's picks selects the row among these
-abbrev pub Selects : PickSet → List StoredRow → StoredRow → Type 0
-Selects set rows row = IsTrue set.all ⊎ (IsTrue (contains int_cmp set.versions row.version) ⊎ SelectsEnd set rows row)
+abbrev pub SelectsRow : PickSet → List StoredRow → StoredRow → Type 0
+SelectsRow set rows row = IsTrue set.all ⊎ (IsTrue (contains int_cmp set.versions row.version) ⊎ SelectsEnd set rows row)

@@ -3,7 +3,7 @@ use Rattle.std.specs.Prelude.{ℕ, ◌+◌, ◌≤◌, List, All}
 use Rattle.taxii_rows.specs.declared.stored_row.StoredRow.{StoredRow}
 use Rattle.taxii_rows.specs.declared.stored_row.TheConstants.{LAST_DATE}
 use Rattle.taxii_rows.specs.declared.described.Described.{Described}
-use Rattle.taxii_rows.specs.Described.{row_of}
+use Rattle.taxii_rows.specs.Described.{stored_row_of}
 use Rattle.taxii_rows.specs.SoundRow.{IsSoundRow}
 use Rattle.taxii_rows.specs.StoreState.{dates_of, AscendFrom}
 use Rattle.taxii_store.specs.declared.add_outcome.AddOutcome.{AddOutcome}
@@ -18,7 +18,7 @@ pub record PlannedState : Type 0 where
 
 -- each row of the object is sound
 abbrev pub IsSound : Described → Type 0
-IsSound object = (date collection : ℕ) → IsSoundRow (row_of object date collection)
+IsSound object = (date collection : ℕ) → IsSoundRow (stored_row_of object date collection)
 
 -- the new rows may be added to a sound store with this watermark, which stays sound with their last
 -- date as its watermark

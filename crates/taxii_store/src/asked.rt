@@ -2,10 +2,10 @@ ghost use Rattle.std.specs.Prelude.{◌≡◌, ◌↔◌, IsTrue, IfOk, option_m
 ghost use Rattle.std.specs.List.{Contains};
 ghost use Rattle.stix_ids.specs.declared.id.Id.{Id as Identifier};
 ghost use Rattle.taxii_routes.specs.declared.query.Query.{Query as Wanted};
-ghost use Rattle.taxii_store.specs.Meeting.{Meets, IsAskedFor, picks_of};
+ghost use Rattle.taxii_store.specs.Meeting.{MeetsQuery, IsAskedFor, picks_of};
 ghost use Rattle.taxii_store.specs.inner.Candidates.{CanMeet};
 ghost use Rattle.taxii_store.specs.Picks.{HasPicks};
-ghost use Rattle.taxii_store.specs.inner.Asking.{HasTextsWhere, HasIdsWhere, Asks};
+ghost use Rattle.taxii_store.specs.inner.Asking.{HasTextsWhere, HasIdsWhere, AsksOfCollection};
 
 use crate::id_set::IdSet;
 use crate::text_set::TextSet;
@@ -34,7 +34,7 @@ impl<'a> RowFilter<'a> {
         only: Option<&'a Id>,
         query: &'a Query,
     ) -> Result<RowFilter<'a>, NoMemory>
-        ensures { IfOk result (Asks collection (option_map (λ id. id.now) only.entry) query.now) }
+        ensures { IfOk result (AsksOfCollection collection (option_map (λ id. id.now) only.entry) query.now) }
     {
         let kinds = kind_set(alloc, &query.kinds)?;
         let ids = id_set(alloc, &query.ids)?;
@@ -54,12 +54,12 @@ impl<'a> RowFilter<'a> {
         requires there { Contains library.now.rows row.now }
         // the date and the spec version (`CanMeet`) are tested by the caller
         ensures meets { (collection : ℕ) (only : Option Identifier) (query : Wanted)
-            → Asks collection only query self.old
+            → AsksOfCollection collection only query self.old
             → CanMeet query row.now
-            → IsTrue result ↔ Meets library.now.rows collection only query row.now }
+            → IsTrue result ↔ MeetsQuery library.now.rows collection only query row.now }
         ensures same { (collection : ℕ) (only : Option Identifier) (query : Wanted)
-            → Asks collection only query self.old
-            → Asks collection only query self.new }
+            → AsksOfCollection collection only query self.old
+            → AsksOfCollection collection only query self.new }
     {
         self.picks.may_select(library, place, row) && self.is_match(library, row)
     }
@@ -67,12 +67,12 @@ impl<'a> RowFilter<'a> {
     fn is_match(&mut self, library: &Library, row: &'a StoredRow) -> bool
         requires there { Contains library.now.rows row.now }
         ensures meets { (collection : ℕ) (only : Option Identifier) (query : Wanted)
-            → Asks collection only query self.old
+            → AsksOfCollection collection only query self.old
             → CanMeet query row.now
-            → IsTrue result ↔ Meets library.now.rows collection only query row.now }
+            → IsTrue result ↔ MeetsQuery library.now.rows collection only query row.now }
         ensures same { (collection : ℕ) (only : Option Identifier) (query : Wanted)
-            → Asks collection only query self.old
-            → Asks collection only query self.new }
+            → AsksOfCollection collection only query self.old
+            → AsksOfCollection collection only query self.new }
     {
         self.asks_for(row) && self.picks.selects(library, row)
     }
@@ -80,11 +80,11 @@ impl<'a> RowFilter<'a> {
     /// Whether the row matches all conditions that need no other row.
     fn asks_for(&mut self, row: &'a StoredRow) -> bool
         ensures asked { (collection : ℕ) (only : Option Identifier) (query : Wanted)
-            → Asks collection only query self.old
+            → AsksOfCollection collection only query self.old
             → CanMeet query row.now → IsTrue result ↔ IsAskedFor collection only query row.now }
         ensures same { (collection : ℕ) (only : Option Identifier) (query : Wanted)
-            → Asks collection only query self.old
-            → Asks collection only query self.new }
+            → AsksOfCollection collection only query self.old
+            → AsksOfCollection collection only query self.new }
     {
         row.collection == self.collection
             && is_object(self.only, &row.id)

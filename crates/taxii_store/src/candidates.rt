@@ -1,7 +1,7 @@
 ghost use Rattle.std.specs.Prelude.{◌↔◌, IsTrue, IfSome, codes};
 ghost use Rattle.std.specs.List.{Contains};
 ghost use Rattle.taxii_rows.specs.StoreState.{dates_of, AscendFrom};
-ghost use Rattle.taxii_store.specs.inner.Candidates.{AreCandidates, IsCutAt};
+ghost use Rattle.taxii_store.specs.inner.Candidates.{AreCandidateRows, IsCutAt};
 
 use crate::Library;
 use crate::cursor::cursor;
@@ -13,7 +13,7 @@ use taxii_rows::StoredRow;
 /// excludes 2.1, the version of all rows.
 pub(crate) fn candidates<'a>(library: &'a Library, query: &Query) -> &'a [StoredRow]
     ensures ascend { AscendFrom 1 (dates_of library.now.rows) }
-    ensures candidates { AreCandidates query.now library.now.rows result.now }
+    ensures candidates { AreCandidateRows query.now library.now.rows result.now }
 {
     let rows = library.rows();
     if asks_for_version(query) {

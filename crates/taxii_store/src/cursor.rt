@@ -1,5 +1,5 @@
 ghost use Rattle.std.specs.Prelude.{ℕ, ◌*◌, ◌<◌, ◌↔◌, pos, ◌<ℤ◌};
-ghost use Rattle.taxii_store.specs.inner.Candidates.{IsAfter};
+ghost use Rattle.taxii_store.specs.inner.Candidates.{IsAddedAfter};
 
 use stix_times::{Instant, nanos};
 use taxii_routes::Query;
@@ -7,7 +7,7 @@ use taxii_routes::Query;
 /// The cursor of a query: the later of `added_after` and `next`, in microseconds since 1970. A row
 /// matches only if it was added after it.
 pub(crate) fn cursor(query: &Query) -> u64
-    ensures { (date : ℕ) → 0 < date → (result < date) ↔ IsAfter query.now date }
+    ensures { (date : ℕ) → 0 < date → (result < date) ↔ IsAddedAfter query.now date }
 {
     let added = match query.added_after {
         Some(instant) => micros(instant),

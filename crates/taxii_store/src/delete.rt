@@ -7,7 +7,7 @@ ghost use Rattle.taxii_store.specs.Agreement.{Agrees, without_rows};
 ghost use Rattle.stix_ids.specs.declared.pick.Pick.{Pick as Picked};
 ghost use Rattle.taxii_rows.specs.Picking.{IsPicked};
 ghost use Rattle.taxii_store.specs.Picks.{HasPicks};
-ghost use Rattle.taxii_store.specs.Deleting.{IsTaken, AreDatesTaken};
+ghost use Rattle.taxii_store.specs.Deleting.{IsDeletedRow, AreDatesTaken};
 
 use crate::{Library, PickSet};
 use flow_values::{Items, NoMemory};

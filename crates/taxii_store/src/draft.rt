@@ -1,12 +1,12 @@
 ghost use Rattle.std.specs.Prelude.{◌≡◌, ◌+◌, ◌≤◌, ◌<◌, ◌++◌, ◌∷◌, [], None, Ok, All, IfOk, IfErr};
 ghost use Rattle.std.specs.Prelude.{IfSome, OnOk, OnErr, option_map, length};
 ghost use Rattle.taxii_rows.specs.declared.stored_row.TheConstants.{LAST_DATE as last_date};
-ghost use Rattle.taxii_rows.specs.Described.{row_of};
+ghost use Rattle.taxii_rows.specs.Described.{stored_row_of};
 ghost use Rattle.taxii_index.specs.Presence.{duplicate_of};
 ghost use Rattle.taxii_store.specs.declared.plan_refusal.PlanRefusal.TheVariants.{DatesUsedUp as UsedUp};
-ghost use Rattle.taxii_store.specs.Addition.{Adds, UsesUpDates, date_in};
+ghost use Rattle.taxii_store.specs.Addition.{AddsObjects, UsesUpDates, date_in};
 ghost use Rattle.taxii_store.specs.Planned.{IsSound};
-ghost use Rattle.taxii_store.specs.inner.Moving.{IsDraft, Places, LacksDate, plan_of};
+ghost use Rattle.taxii_store.specs.inner.Moving.{IsDraft, PlacesObject, LacksDate, plan_of};
 
 use crate::shifted::{first_date, last_of, shift_outcomes, shift_rows};
 use crate::{AddOutcome, Library, PlanRefusal, Planned};
@@ -32,7 +32,7 @@ impl Draft {
     ) -> Result<Draft, PlanRefusal>
         requires { All IsSound objects.items }
         ensures ok { IfOk result
-            (λ draft. Adds collection
+            (λ draft. AddsObjects collection
             (library.now.watermark + 1) library.now.rows objects.items draft.outcomes draft.added) }
         ensures draft { IfOk result
             (λ draft. IsDraft library.now.watermark draft.outcomes draft.added) }
@@ -88,7 +88,7 @@ impl Draft {
         requires draft { IsDraft library.now.watermark self.old.outcomes self.old.added }
         requires sound { IsSound object }
         ensures ok { OnOk result
-            (Places library.now collection object self.old.outcomes self.old.added
+            (PlacesObject library.now collection object self.old.outcomes self.old.added
             self.new.outcomes self.new.added) }
         ensures draft { OnOk result
             (IsDraft library.now.watermark self.new.outcomes self.new.added) }
@@ -137,7 +137,7 @@ impl Draft {
         ensures known { IfOk result (λ outcome. date_in outcome ≤ last_date) }
         ensures row { OnOk result
             (self.new.added ≡ self.old.added
-            ++ row_of object (watermark + 1 + length self.old.added) collection ∷ []) }
+            ++ stored_row_of object (watermark + 1 + length self.old.added) collection ∷ []) }
         ensures draft { OnOk result (IsDraft watermark self.new.outcomes self.new.added) }
         ensures outcomes { self.new.outcomes ≡ self.old.outcomes }
         ensures err { IfErr result (λ refusal. refusal ≡ UsedUp

@@ -7,7 +7,7 @@ ghost use Rattle.flow_edges.specs.Faults.{Counted};
 ghost use Rattle.taxii_rows.specs.Picking.{IsPicked, IsPickedBy};
 ghost use Rattle.stix_ids.specs.declared.pick.Pick.TheVariants.{Last as LastOne, First as FirstOne};
 ghost use Rattle.taxii_rows.specs.SoundRow.{IsSoundState};
-ghost use Rattle.taxii_index.specs.Names.{id_of};
+ghost use Rattle.taxii_index.specs.Names.{id_of_number};
 ghost use Rattle.taxii_index.specs.Index.{HasRowOf, AreRowsOf};
 ghost use Rattle.taxii_store.specs.Addition.{watermark_after};
 ghost use Rattle.taxii_store.specs.Agreement.{Agrees, without_rows};
@@ -67,7 +67,7 @@ impl Library {
 
     /// Whether the collection has a row of the object with this UUID and type.
     pub fn has_object(&self, collection: u128, number: u128, kind: &str) -> bool
-        ensures { IsTrue result ↔ HasRowOf self.now.rows collection (id_of number kind.now) }
+        ensures { IsTrue result ↔ HasRowOf self.now.rows collection (id_of_number number kind.now) }
     {
         self.rows.has_object(collection, number, kind)
     }

@@ -4,7 +4,7 @@ ghost use Rattle.flow_edges.specs.Faults.{Counted};
 ghost use Rattle.taxii_rows.specs.declared.stored_row.TheConstants.{LAST_DATE as last_date};
 ghost use Rattle.taxii_rows.specs.Keeper.{row_after};
 ghost use Rattle.taxii_rows.specs.StoreState.{dates_of, AscendFrom};
-ghost use Rattle.taxii_store.specs.Loading.{IsFit, IsBadAfter, IsLoaded};
+ghost use Rattle.taxii_store.specs.Loading.{IsFitRow, IsBadAfter, IsLoaded};
 ghost use Rattle.taxii_store.specs.inner.Reading.{AreFit, IsBadNext};
 ghost use Rattle.taxii_store.specs.declared.load_refusal.LoadRefusal.TheVariants as Refused;
 
@@ -92,7 +92,7 @@ fn next_fit<K: Keeper>(
         (λ found. IfSome (K.kept keeper.old).observable
         (λ state. found ≡ row_after after state.rows)) }
     ensures fit { IfOk result
-        (λ found. IfSome found (λ row. (after < row.date) × IsFit watermark row)) }
+        (λ found. IfSome found (λ row. (after < row.date) × IsFitRow watermark row)) }
     ensures last { result ≡ Ok None → watermark ≤ last_date }
     ensures bad { IfErr result (λ refusal. (at : ℕ) → refusal ≡ Refused.BadRow at
         → (at ≡ after) × IfSome (K.kept keeper.old).observable (λ state. IsBadNext state after)) }
@@ -118,7 +118,7 @@ fn may_follow(
 ) -> Result<bool, NoMemory>
     ensures { IfOk result (λ follows. IsTrue follows
         ↔ MatchOption found.now (watermark ≤ last_date) (λ row. (after < row.date)
-        × IsFit watermark row)) }
+        × IsFitRow watermark row)) }
 {
     match found {
         Some(row) => Ok(is_dated(row, after, watermark) && is_sound_row(alloc, reader, row)?),

@@ -4,7 +4,7 @@ ghost use Rattle.stix_ids.specs.declared.pick.Pick.{Pick as Picked};
 ghost use Rattle.stix_ids.specs.declared.pick.Pick.TheVariants.{At, Last as LastOne};
 ghost use Rattle.stix_ids.specs.declared.pick.Pick.TheVariants.{First as FirstOne};
 ghost use Rattle.taxii_rows.specs.Picking.{IsPicked, IsPickedBy};
-ghost use Rattle.taxii_store.specs.Picks.{HasPicks, Selects, SelectsEnd};
+ghost use Rattle.taxii_store.specs.Picks.{HasPicks, SelectsRow, SelectsEnd};
 
 use crate::Library;
 use flow_values::NoMemory;
@@ -90,14 +90,14 @@ impl PickSet {
 
     fn selects_one(&self, library: &Library, row: &StoredRow) -> bool
         requires { Contains library.now.rows row.now }
-        ensures { IsTrue result ↔ Selects self.now library.now.rows row.now }
+        ensures { IsTrue result ↔ SelectsRow self.now library.now.rows row.now }
     {
         self.all || self.versions.contains(&row.version) || self.selects_end(library, row)
     }
 
     fn may_select_one(&self, library: &Library, place: usize, row: &StoredRow) -> bool
         requires { Contains library.now.rows row.now }
-        ensures { Selects self.now library.now.rows row.now → IsTrue result }
+        ensures { SelectsRow self.now library.now.rows row.now → IsTrue result }
     {
         self.all || self.versions.contains(&row.version) || self.may_select_end(library, place, row)
     }

@@ -1,7 +1,7 @@
 ghost use Rattle.std.specs.Prelude.{◌≡◌, All, IfOk, IfErr};
 ghost use Rattle.taxii_rows.specs.declared.stored_row.TheConstants.{LAST_DATE as last_date};
 ghost use Rattle.taxii_store.specs.declared.plan_refusal.PlanRefusal.TheVariants.{DatesUsedUp as UsedUp};
-ghost use Rattle.taxii_store.specs.Addition.{Adds, IsAddition, UsesUpDates};
+ghost use Rattle.taxii_store.specs.Addition.{AddsObjects, IsAddition, UsesUpDates};
 ghost use Rattle.taxii_store.specs.Addition.{first_date as first_given, watermark_after};
 ghost use Rattle.taxii_store.specs.Planned.{IsSound};
 ghost use Rattle.taxii_store.specs.inner.Moving.{IsDraft};

@@ -5,12 +5,12 @@ use Rattle.std.specs.Ordering.{int_eq}
 use Rattle.std.specs.List.{AllZip}
 use Rattle.taxii_rows.specs.declared.stored_row.StoredRow.{StoredRow}
 use Rattle.taxii_rows.specs.declared.described.Described.{Described}
-use Rattle.taxii_rows.specs.Described.{row_of}
+use Rattle.taxii_rows.specs.Described.{stored_row_of}
 use Rattle.taxii_rows.specs.StoreState.{StoreState}
 use Rattle.taxii_index.specs.Presence.{agrees, is_duplicate, duplicate_of}
 use Rattle.taxii_store.specs.declared.add_outcome.AddOutcome.{AddOutcome}
 use Rattle.taxii_store.specs.declared.add_outcome.AddOutcome.TheVariants.{Added, Present}
-use Rattle.taxii_store.specs.Addition.{Adds, IsAddition, UsesUpDates, first_date}
+use Rattle.taxii_store.specs.Addition.{AddsObjects, IsAddition, UsesUpDates, first_date}
 
 -- ---- rows that differ in their dates alone
 
@@ -36,10 +36,10 @@ unwrapped None date = refl
 unwrapped (Some t) date = refl
 
 -- one object makes such rows, whenever it is added
-row_alike : (object : Described) (collection first second : ℕ) → Alike (row_of object first collection) (row_of object second collection)
+row_alike : (object : Described) (collection first second : ℕ) → Alike (stored_row_of object first collection) (stored_row_of object second collection)
 row_alike object collection first second its other =
     both_and _ _ _ _ refl
-    (told_alike object.version other.version object.body other.body (row_of object first collection) (row_of object second collection) refl refl refl
+    (told_alike object.version other.version object.body other.body (stored_row_of object first collection) (stored_row_of object second collection) refl refl refl
     (unwrapped object.version first) (unwrapped object.version second))
 
 rows_alike : (rows : List StoredRow) → AllZip Alike rows rows
@@ -78,28 +78,28 @@ find_alike collection object (r ∷ rs) (o ∷ os) same =
 
 -- so many rows are new, wherever dates begin
 long_alike : (collection first second : ℕ) (rows others : List StoredRow) (objects : List Described) (outcomes outcomes_too : List AddOutcome) (new new_too : List StoredRow)
-    → AllZip Alike rows others → Adds collection first rows objects outcomes new → Adds collection second others objects outcomes_too new_too → length new ≡ length new_too
+    → AllZip Alike rows others → AddsObjects collection first rows objects outcomes new → AddsObjects collection second others objects outcomes_too new_too → length new ≡ length new_too
 long_alike collection first second rows others [] outcomes outcomes_too new new_too same its also = ap length (its.1 ∙ sym also.1)
 long_alike collection first second rows others (object ∷ objects) outcomes outcomes_too new new_too same its also =
     go (duplicate_of collection object rows) (duplicate_of collection object others) (find_alike collection object rows others same) its also
     (λ rest rest_too adds adds_too. long_alike collection first second rows others objects rest rest_too new new_too same adds adds_too)
     (λ rest rest_too more more_too adds adds_too.
-    long_alike collection (first + 1) (second + 1) (rows ++ row_of object first collection ∷ []) (others ++ row_of object second collection ∷ []) objects rest rest_too more more_too
-    (alike_push rows others (row_of object first collection) (row_of object second collection) same (row_alike object collection first second)) adds adds_too)
+    long_alike collection (first + 1) (second + 1) (rows ++ stored_row_of object first collection ∷ []) (others ++ stored_row_of object second collection ∷ []) objects rest rest_too more more_too
+    (alike_push rows others (stored_row_of object first collection) (stored_row_of object second collection) same (row_alike object collection first second)) adds adds_too)
   where
     go : (here there : Option StoredRow) → FoundAlike here there
         → MatchOption here
         ((rest : List AddOutcome) × (more : List StoredRow)
-        × (outcomes ≡ Added first ∷ rest) × (new ≡ row_of object first collection ∷ more) × Adds collection (first + 1) (rows ++ row_of object first collection ∷ []) objects rest more)
-        (λ held. (rest : List AddOutcome) × (outcomes ≡ Present held.date ∷ rest) × Adds collection first rows objects rest new)
+        × (outcomes ≡ Added first ∷ rest) × (new ≡ stored_row_of object first collection ∷ more) × AddsObjects collection (first + 1) (rows ++ stored_row_of object first collection ∷ []) objects rest more)
+        (λ held. (rest : List AddOutcome) × (outcomes ≡ Present held.date ∷ rest) × AddsObjects collection first rows objects rest new)
         → MatchOption there
         ((rest : List AddOutcome) × (more : List StoredRow)
-        × (outcomes_too ≡ Added second ∷ rest) × (new_too ≡ row_of object second collection ∷ more) × Adds collection (second + 1) (others ++ row_of object second collection ∷ []) objects rest more)
-        (λ held. (rest : List AddOutcome) × (outcomes_too ≡ Present held.date ∷ rest) × Adds collection second others objects rest new_too)
-        → ((rest rest_too : List AddOutcome) → Adds collection first rows objects rest new → Adds collection second others objects rest_too new_too → length new ≡ length new_too)
+        × (outcomes_too ≡ Added second ∷ rest) × (new_too ≡ stored_row_of object second collection ∷ more) × AddsObjects collection (second + 1) (others ++ stored_row_of object second collection ∷ []) objects rest more)
+        (λ held. (rest : List AddOutcome) × (outcomes_too ≡ Present held.date ∷ rest) × AddsObjects collection second others objects rest new_too)
+        → ((rest rest_too : List AddOutcome) → AddsObjects collection first rows objects rest new → AddsObjects collection second others objects rest_too new_too → length new ≡ length new_too)
         → ((rest rest_too : List AddOutcome) (more more_too : List StoredRow)
-        → Adds collection (first + 1) (rows ++ row_of object first collection ∷ []) objects rest more
-        → Adds collection (second + 1) (others ++ row_of object second collection ∷ []) objects rest_too more_too → length more ≡ length more_too)
+        → AddsObjects collection (first + 1) (rows ++ stored_row_of object first collection ∷ []) objects rest more
+        → AddsObjects collection (second + 1) (others ++ stored_row_of object second collection ∷ []) objects rest_too more_too → length more ≡ length more_too)
         → length new ≡ length new_too
     go None None found (rest, more, out, is, adds) (rest_too, more_too, out_too, is_too, adds_too) again behind =
         ap length is ∙ ap suc (behind rest rest_too more more_too adds adds_too) ∙ sym (ap length is_too)
@@ -113,7 +113,7 @@ abbrev SameAdds : List AddOutcome → List AddOutcome → List StoredRow → Lis
 SameAdds outcomes outcomes_too new new_too = (outcomes ≡ outcomes_too) × (new ≡ new_too)
 
 one_adds : (collection date : ℕ) (rows : List StoredRow) (objects : List Described) (outcomes outcomes_too : List AddOutcome) (new new_too : List StoredRow)
-    → Adds collection date rows objects outcomes new → Adds collection date rows objects outcomes_too new_too → SameAdds outcomes outcomes_too new new_too
+    → AddsObjects collection date rows objects outcomes new → AddsObjects collection date rows objects outcomes_too new_too → SameAdds outcomes outcomes_too new new_too
 one_adds collection date rows [] outcomes outcomes_too new new_too its also = (its.0 ∙ sym also.0, its.1 ∙ sym also.1)
 one_adds collection date rows (object ∷ objects) outcomes outcomes_too new new_too its also =
     go (duplicate_of collection object rows) its also
@@ -121,18 +121,18 @@ one_adds collection date rows (object ∷ objects) outcomes outcomes_too new new
     (λ rest rest_too more more_too adds adds_too. one_adds collection (date + 1) (rows ++ row ∷ []) objects rest rest_too more more_too adds adds_too)
   where
     row : StoredRow
-    row = row_of object date collection
+    row = stored_row_of object date collection
 
     go : (found : Option StoredRow)
         → MatchOption found
-        ((rest : List AddOutcome) × (more : List StoredRow) × (outcomes ≡ Added date ∷ rest) × (new ≡ row ∷ more) × Adds collection (date + 1) (rows ++ row ∷ []) objects rest more)
-        (λ held. (rest : List AddOutcome) × (outcomes ≡ Present held.date ∷ rest) × Adds collection date rows objects rest new)
+        ((rest : List AddOutcome) × (more : List StoredRow) × (outcomes ≡ Added date ∷ rest) × (new ≡ row ∷ more) × AddsObjects collection (date + 1) (rows ++ row ∷ []) objects rest more)
+        (λ held. (rest : List AddOutcome) × (outcomes ≡ Present held.date ∷ rest) × AddsObjects collection date rows objects rest new)
         → MatchOption found
-        ((rest : List AddOutcome) × (more : List StoredRow) × (outcomes_too ≡ Added date ∷ rest) × (new_too ≡ row ∷ more) × Adds collection (date + 1) (rows ++ row ∷ []) objects rest more)
-        (λ held. (rest : List AddOutcome) × (outcomes_too ≡ Present held.date ∷ rest) × Adds collection date rows objects rest new_too)
-        → ((rest rest_too : List AddOutcome) → Adds collection date rows objects rest new → Adds collection date rows objects rest_too new_too → SameAdds rest rest_too new new_too)
-        → ((rest rest_too : List AddOutcome) (more more_too : List StoredRow) → Adds collection (date + 1) (rows ++ row ∷ []) objects rest more
-        → Adds collection (date + 1) (rows ++ row ∷ []) objects rest_too more_too → SameAdds rest rest_too more more_too)
+        ((rest : List AddOutcome) × (more : List StoredRow) × (outcomes_too ≡ Added date ∷ rest) × (new_too ≡ row ∷ more) × AddsObjects collection (date + 1) (rows ++ row ∷ []) objects rest more)
+        (λ held. (rest : List AddOutcome) × (outcomes_too ≡ Present held.date ∷ rest) × AddsObjects collection date rows objects rest new_too)
+        → ((rest rest_too : List AddOutcome) → AddsObjects collection date rows objects rest new → AddsObjects collection date rows objects rest_too new_too → SameAdds rest rest_too new new_too)
+        → ((rest rest_too : List AddOutcome) (more more_too : List StoredRow) → AddsObjects collection (date + 1) (rows ++ row ∷ []) objects rest more
+        → AddsObjects collection (date + 1) (rows ++ row ∷ []) objects rest_too more_too → SameAdds rest rest_too more more_too)
         → SameAdds outcomes outcomes_too new new_too
     go None (rest, more, out, is, adds) (rest_too, more_too, out_too, is_too, adds_too) again behind =
         let its = behind rest rest_too more more_too adds adds_too in
@@ -146,7 +146,7 @@ pub one_addition : (state : StoreState) (collection moment : ℕ) (objects : Lis
 one_addition state collection moment objects outcomes outcomes_too new new_too its also =
     let long : length new ≡ length new_too = long_alike collection _ _ state.rows state.rows objects outcomes outcomes_too new new_too (rows_alike state.rows) its.adds also.adds in
     one_adds collection (first_date state.watermark moment (length new_too)) state.rows objects outcomes outcomes_too new new_too
-    (subst (λ (n : ℕ). Adds collection (first_date state.watermark moment n) state.rows objects outcomes new) long its.adds) also.adds
+    (subst (λ (n : ℕ). AddsObjects collection (first_date state.watermark moment n) state.rows objects outcomes new) long its.adds) also.adds
 
 -- dates are left for it, or they aren't
 pub dates_left : (state : StoreState) (collection moment : ℕ) (objects : List Described) (outcomes : List AddOutcome) (new : List StoredRow)

@@ -9,7 +9,7 @@ use Rattle.taxii_service.specs.declared.state.State.{State}
 use Rattle.taxii_store.specs.History.{IsDated, Becomes, IsHistory}
 use Rattle.taxii_service.specs.Exchanges.{Exchange, IsExchange, Follow, HasServed}
 use Rattle.taxii_theorems.specs.Runs.{Run, Continue, Round, rounds_of}
-use Rattle.taxii_theorems.specs.Following.{Among}
+use Rattle.taxii_theorems.specs.Following.{AreAmongRounds}
 use Rattle.taxii_theorems.proofs.WatermarkLemmas.{stays_within}
 
 -- the laws of histories
@@ -55,7 +55,7 @@ chain_before store later [] between chain = tt
 chain_before store later (round ∷ rounds) between (first, ready, rest) = (history_both store later (found round) between first, ready, rest)
 
 -- some of the rounds of a chain are one
-pub among_chain : (store : StoreState) (some rounds : List Round) → Among some rounds → Chain store rounds → Chain store some
+pub among_chain : (store : StoreState) (some rounds : List Round) → AreAmongRounds some rounds → Chain store rounds → Chain store some
 among_chain store [] rounds among chain = tt
 among_chain store (round ∷ some) [] among chain = absurd among
 among_chain store (round ∷ some) (first ∷ rounds) (inl (same, among)) (history, ready, chain) =

@@ -6,7 +6,7 @@ use Rattle.std.proofs.lemmas.Slice.Eq.{bytes_eq-Decides}
 use Rattle.std.proofs.lemmas.List.Elements.{Contains-append_left, Contains-append_right, Contains-append_cases, Contains-push, Contains-push_cases}
 use Rattle.stix_ids.specs.declared.id.Id.{Id}
 use Rattle.stix_ids.specs.declared.pick.Pick.{Pick}
-use Rattle.stix_ids.specs.Identifier.{IsTextOf}
+use Rattle.stix_ids.specs.Identifier.{IsTextOfId}
 use Rattle.http_messages.specs.declared.request.Request.{Request}
 use Rattle.http_messages.specs.declared.status.Status.TheVariants.{Accepted}
 use Rattle.taxii_exchange.specs.declared.answer.Answer.{Answer}
@@ -23,12 +23,12 @@ use Rattle.taxii_exchange.specs.declared.config.Config.{Config}
 use Rattle.taxii_exchange.specs.declared.refusal.Refusal.{Refusal}
 use Rattle.taxii_exchange.specs.declared.refusal.Refusal.TheVariants.{NotAllowed, Problem, NoMemory}
 use Rattle.taxii_exchange.specs.AnswersToRequests.{body_answer}
-use Rattle.taxii_service.specs.Finding.{Names}
+use Rattle.taxii_service.specs.Finding.{NamesCollection}
 use Rattle.taxii_service.specs.declared.state.State.{State}
 use Rattle.taxii_exchange.specs.Statuses.{next_number}
 use Rattle.taxii_service.specs.declared.post_refusal.PostRefusal.TheVariants as post
-use Rattle.taxii_service.specs.Posted.{IsUnreadable, IsPosted}
-use Rattle.taxii_service.specs.Adding.{IsAdding, LacksDates, CannotAdd, IsReport, with_added}
+use Rattle.taxii_service.specs.Posted.{IsUnreadableBody, IsPosted}
+use Rattle.taxii_service.specs.Adding.{IsAdding, LacksDatesForAddition, CannotAdd, IsStatusReport, with_added}
 use Rattle.taxii_service.specs.Deleting.{deleted_picks, AllowsStandard, AreDeleted, without_dates}
 use Rattle.taxii_service.specs.Step.{Posts, Deletes, CannotPost}
 use Rattle.taxii_store.specs.History.{IsDated}
@@ -40,16 +40,16 @@ use Rattle.taxii_theorems.proofs.ReportLemmas.{one_text_of_report}
 abbrev pub IsOne : Answer → Answer → State → State → Type 0
 IsOne answer other first second = (answer ≡ other) × (first ≡ second)
 
-one_info : (text : List ℕ) (infos : List CollectionInfo) (first second : CollectionInfo) → Names text infos first → Names text infos second → first ≡ second
+one_info : (text : List ℕ) (infos : List CollectionInfo) (first second : CollectionInfo) → NamesCollection text infos first → NamesCollection text infos second → first ≡ second
 one_info text infos first second names also = let same : Some first ≡ Some second = sym names ∙ also in cc
 
 -- a route to objects leads to one collection
 one_named : (infos : List CollectionInfo) (route : Route) (text other : List ℕ) (first second : CollectionInfo) → route ≡ Objects text → route ≡ Objects other
-    → Names text infos first → Names other infos second → first ≡ second
+    → NamesCollection text infos first → NamesCollection other infos second → first ≡ second
 one_named infos route text other first second is also_is names also =
     let routes : Objects text ≡ Objects other = sym is ∙ also_is in
     let texts : text ≡ other = cc in
-    one_info other infos first second (subst (λ (its : List ℕ). Names its infos first) texts names) also
+    one_info other infos first second (subst (λ (its : List ℕ). NamesCollection its infos first) texts names) also
 
 -- ---- an addition
 
@@ -60,9 +60,9 @@ one_adding laws before collection moment body new new_too text other ascend its 
     let posted : IsSamePosted its.posted also.posted = one_posted laws body moment its.posted also.posted its.posted_is also.posted_is in
     let addition = one_addition before.library collection moment also.posted.objects.items its.outcomes also.outcomes new new_too
     (subst (λ objects. IsAddition before.library collection moment objects its.outcomes new) posted.objects its.addition) also.addition in
-    let here : IsReport (next_number before.statuses) moment its.posted also.outcomes (before.library.rows ++ new_too) its.report =
-    subst (λ outcomes. IsReport (next_number before.statuses) moment its.posted outcomes (before.library.rows ++ new_too) its.report) addition.0
-    (subst (λ (rows : List StoredRow). IsReport (next_number before.statuses) moment its.posted its.outcomes (before.library.rows ++ rows) its.report) addition.1 its.report_is) in (
+    let here : IsStatusReport (next_number before.statuses) moment its.posted also.outcomes (before.library.rows ++ new_too) its.report =
+    subst (λ outcomes. IsStatusReport (next_number before.statuses) moment its.posted outcomes (before.library.rows ++ new_too) its.report) addition.0
+    (subst (λ (rows : List StoredRow). IsStatusReport (next_number before.statuses) moment its.posted its.outcomes (before.library.rows ++ rows) its.report) addition.1 its.report_is) in (
       addition.1,
       one_text_of_report laws.text (next_number before.statuses) moment its.posted also.posted also.outcomes (before.library.rows ++ new_too) its.report also.report text other
           ascend posted here also.report_is its.text_is also.text_is,
@@ -86,8 +86,8 @@ one_post laws config before first second moment request route answer other dated
 
 abbrev Lacks : State → ℕ → ℕ → List ℕ → Refusal → Type 0
 Lacks before collection moment body refusal =
-    (IsUnreadable body post.NotJson × (refusal ≡ Problem NotJson)) ⊎ (IsUnreadable body post.NotList × (refusal ≡ Problem NotList))
-    ⊎ (LacksDates before collection moment body × (refusal ≡ Problem DatesUsedUp))
+    (IsUnreadableBody body post.NotJson × (refusal ≡ Problem NotJson)) ⊎ (IsUnreadableBody body post.NotList × (refusal ≡ Problem NotList))
+    ⊎ (LacksDatesForAddition before collection moment body × (refusal ≡ Problem DatesUsedUp))
 
 lacks : (before : State) (collection moment : ℕ) (body : List ℕ) (refusal : Refusal) → CannotAdd before collection moment body refusal → Lacks before collection moment body refusal
 lacks before collection moment body (NotAllowed its) none = absurd none
@@ -104,10 +104,10 @@ lacks before collection moment body (Problem DatesUsedUp) its = inr (inr (its, r
 lacks before collection moment body NoMemory none = absurd none
 
 -- a body with no value, or no list, holds nothing
-no_value : (body : List ℕ) (moment : ℕ) (posted : _) → IsUnreadable body post.NotJson → IsPosted body moment posted → ⊥
+no_value : (body : List ℕ) (moment : ℕ) (posted : _) → IsUnreadableBody body post.NotJson → IsPosted body moment posted → ⊥
 no_value body moment posted none its = none its.entries_are.whole its.entries_are.value
 
-no_list : (body : List ℕ) (moment : ℕ) (posted : _) → IsUnreadable body post.NotList → IsPosted body moment posted → ⊥
+no_list : (body : List ℕ) (moment : ℕ) (posted : _) → IsUnreadableBody body post.NotList → IsPosted body moment posted → ⊥
 no_list body moment posted none its = list_or_none body (codes "objects") its.entries its.entries_are none
 
 one_lack : (before : State) (collection moment : ℕ) (body : List ℕ) (first second : Refusal) → Lacks before collection moment body first → Lacks before collection moment body second
@@ -223,15 +223,15 @@ one_deleted store collection id query first second its also = not_apart first se
     let not : AllowsStandard query → ⊥ = λ allows. apart (one_taken store.rows collection id (deleted_picks query) first second (its.taken allows) (also.taken allows)) in
     apart (its.none not ∙ sym (also.none not)))
 
-pub one_delete : Laws → ((text : List ℕ) (first second : Id) → IsTextOf text first → IsTextOf text second → first ≡ second) → (config : Config) (before first second : State) (route : Route) (query : Query)
+pub one_delete : Laws → ((text : List ℕ) (first second : Id) → IsTextOfId text first → IsTextOfId text second → first ≡ second) → (config : Config) (before first second : State) (route : Route) (query : Query)
     (answer other : Answer) → Deletes config before route query answer first → Deletes config before route query other second → IsOne answer other first second
 one_delete laws one config before first second route query answer other its also =
     let routes : Object its.collection its.object ≡ Object also.collection also.object = sym its.route_is ∙ also.route_is in
     let collection : its.collection ≡ also.collection = cc in
     let object : its.object ≡ also.object = cc in
     let same : its.info ≡ also.info = one_info also.collection config.collections its.info also.info
-    (subst (λ (text : List ℕ). Names text config.collections its.info) collection its.named) also.named in
-    let same_id : its.id ≡ also.id = one also.object its.id also.id (subst (λ (text : List ℕ). IsTextOf text its.id) object its.text_of) also.text_of in
+    (subst (λ (text : List ℕ). NamesCollection text config.collections its.info) collection its.named) also.named in
+    let same_id : its.id ≡ also.id = one also.object its.id also.id (subst (λ (text : List ℕ). IsTextOfId text its.id) object its.text_of) also.text_of in
     let all : its.dates ≡ also.dates = one_deleted before.library also.info.id also.id query its.dates also.dates
     (subst (λ (i : CollectionInfo). AreDeleted before.library i.id also.id query its.dates) same
     (subst (λ (i : Id). AreDeleted before.library its.info.id i query its.dates) same_id its.deleted)) also.deleted in

@@ -11,9 +11,9 @@ use Rattle.stix_json.specs.declared.entry.Entry.TheVariants.{Good, Bad}
 use Rattle.stix_json.specs.declared.refusal.JsonRefusal.{JsonRefusal}
 use Rattle.stix_json.specs.declared.refusal.JsonRefusal.TheVariants as refused
 use Rattle.stix_json.specs.DataOf.{data_of}
-use Rattle.stix_json.specs.Refusal.{refusal_of}
+use Rattle.stix_json.specs.Refusal.{data_refusal}
 use Rattle.stix_json.specs.Reading.{IsValueOf, IsRefusalOf, IsEntryFor}
-use Rattle.stix_json.specs.Entries.{list_under, AreEntriesFor, AreEntriesOf, HasNoList}
+use Rattle.stix_json.specs.Entries.{list_under, AreEntriesFor, AreListEntriesOf, HasNoList}
 use Rattle.stix_objects.specs.declared.form.Precision.{Precision}
 use Rattle.stix_objects.specs.declared.form.Precision.TheVariants.{Millis}
 use Rattle.stix_objects.specs.declared.rule_break.Break.{Break}
@@ -26,11 +26,11 @@ use Rattle.taxii_rows.specs.declared.type_set.TypeSet.TheVariants.{Second}
 use Rattle.taxii_rows.specs.Described.{IsDescribed}
 use Rattle.taxii_rows.specs.Version.{HasVersion, IsVersionTime}
 use Rattle.taxii_bodies.specs.declared.details.Detail.{Detail}
-use Rattle.taxii_bodies.specs.Details.{at_path, refusal_message, IsMomentText, IsIdOrUnknown, IsVersionOrMoment, IsFailureOf}
+use Rattle.taxii_bodies.specs.Details.{detail_at_path, refusal_message, IsMomentText, IsIdOrUnknown, IsVersionOrMoment, IsFailureOf}
 use Rattle.taxii_bodies.specs.Times.{stated_digits, IsStatedText}
 use Rattle.taxii_service.specs.declared.posted.Posted.{Posted}
 use Rattle.taxii_service.specs.declared.posted.TheConstants.{MAX_DETAILS}
-use Rattle.taxii_service.specs.Posted.{BreaksFirst, IsKept, Fails, IsDetailOf, Splits, IsPosted}
+use Rattle.taxii_service.specs.Posted.{BreaksFirst, IsKept, Fails, IsDetailOf, SplitsPostedEntries, IsPosted}
 use Rattle.taxii_theorems.proofs.BodyLemmas.{OneText}
 
 -- the laws of objects: a value has one list of breaks, one identifier, one instant of a timestamp, and one version
@@ -54,7 +54,7 @@ Same (Good json) (Bad refusal) = ⊥
 Same (Bad refusal) (Good json) = ⊥
 Same (Bad refusal) (Bad other) = refusal ≡ other
 
-refusal_is : (d : Data) (refusal : JsonRefusal) → IsRefusalOf d refusal → refusal_of d ≡ Some refusal
+refusal_is : (d : Data) (refusal : JsonRefusal) → IsRefusalOf d refusal → data_refusal d ≡ Some refusal
 refusal_is d refused.NotJson none = absurd none
 refusal_is d (refused.TooDeep path) is = is
 refusal_is d (refused.NotWhole path) is = is
@@ -81,14 +81,14 @@ entries_same (item d ds) (e ∷ es) (f ∷ fs) its also = (one_entry d e f its.0
 one_list : (first second third : Option Items) (a b : Items) → first ≡ second → first ≡ Some a → second ≡ Some b → a ≡ b
 one_list first second third a b same its also = let one : Some a ≡ Some b = sym its ∙ same ∙ also in cc
 
-body_same : (body name : List ℕ) (first second : List Entry) → AreEntriesOf body name first → AreEntriesOf body name second → AllZip Same first second
+body_same : (body name : List ℕ) (first second : List Entry) → AreListEntriesOf body name first → AreListEntriesOf body name second → AllZip Same first second
 body_same body name first second its also =
     let whole : its.whole ≡ also.whole = one_value body its.whole also.whole its.value also.value in
     let list : its.list ≡ also.list = one_list (list_under name its.whole) (list_under name also.whole) None its.list also.list (ap (list_under name) whole) its.under also.under in
     entries_same also.list first second (subst (λ (l : Items). AreEntriesFor l first) list its.checked) also.checked
 
 -- a body with a list under a name isn't one without
-pub list_or_none : (body name : List ℕ) (entries : List Entry) → AreEntriesOf body name entries → HasNoList body name → ⊥
+pub list_or_none : (body name : List ℕ) (entries : List Entry) → AreListEntriesOf body name entries → HasNoList body name → ⊥
 list_or_none body name entries its none =
     let whole : its.whole ≡ none.whole = one_value body its.whole none.whole its.value none.value in
     let bad : Some its.list ≡ None = sym its.under ∙ ap (list_under name) whole ∙ none.under in absurd (cc bad)
@@ -130,7 +130,7 @@ same_back (Bad refusal) (Bad other) same = sym same
 abbrev SplitSame : List Described → List Described → List Entry → List Entry → Type 0
 SplitSame first second failed others = (first ≡ second) × AllZip Same failed others
 
-split_same : Laws → (es fs : List Entry) (first second : List Described) (failed others : List Entry) → AllZip Same es fs → Splits es first failed → Splits fs second others
+split_same : Laws → (es fs : List Entry) (first second : List Described) (failed others : List Entry) → AllZip Same es fs → SplitsPostedEntries es first failed → SplitsPostedEntries fs second others
     → SplitSame first second failed others
 split_same laws [] [] first second failed others same its also =
     (its.0 ∙ sym also.0, subst (λ (xs : List Entry). AllZip Same xs others) (sym its.1) (subst (λ (ys : List Entry). AllZip Same [] ys) (sym also.1) tt))
@@ -186,7 +186,7 @@ detail_same laws moment (Good json) (Good other) first second same (found, break
     let one : found ≡ found_too = first_same laws (data_of other) found found_too here breaks_too in
     let fails : IsFailureOf (data_of other) found moment first = subst (λ (d : Data). IsFailureOf d found moment first) same its in
     same_detail first second (one_id_text laws (data_of other) first.id second.id fails.id also.id)
-    (fails.message ∙ ap (λ (b : Break). Some (at_path (rule_name b.rule) b.path)) one ∙ sym also.message)
+    (fails.message ∙ ap (λ (b : Break). Some (detail_at_path (rule_name b.rule) b.path)) one ∙ sym also.message)
     (one_version_text laws (data_of other) moment first.version second.version fails.version also.version)
 detail_same laws moment (Good json) (Bad refusal) first second same its also = absurd same
 detail_same laws moment (Bad refusal) (Good json) first second same its also = absurd same

@@ -14,7 +14,7 @@ use Rattle.stix_json.specs.declared.envelope.Envelope.{Envelope}
 use Rattle.stix_json.specs.declared.refusal.JsonRefusal.{JsonRefusal}
 use Rattle.stix_json.specs.declared.refusal.JsonRefusal.TheVariants.{NotJson, TooDeep, NotWhole, Null, OutOfRange, NotList, NoMemory}
 use Rattle.stix_json.specs.DataOf.{data_of}
-use Rattle.stix_json.specs.Refusal.{refusal_of}
+use Rattle.stix_json.specs.Refusal.{data_refusal}
 use Rattle.stix_json.specs.Reading.{IsRefusalOf}
 use Rattle.stix_json.specs.Entries.{AreEntriesFor, list_under}
 use Rattle.stix_json.specs.Envelopes.{IsEnvelopeOf, more_in, next_in}
@@ -24,7 +24,7 @@ use Rattle.taxii_rows.specs.declared.stored_row.StoredRow.{StoredRow}
 use Rattle.taxii_rows.specs.SoundRow.{IsRowOf, IsSoundRow}
 use Rattle.taxii_bodies.specs.Envelope.{next_of, next_text, envelope_text, envelope_data}
 use Rattle.taxii_client.specs.Telling.{told_of, bad_in}
-use Rattle.taxii_theorems.specs.Reading.{lines_of, IsReadAs}
+use Rattle.taxii_theorems.specs.Reading.{stored_lines, IsPageReadAs}
 use Rattle.taxii_theorems.proofs.TextLemmas.{has_numbers, read_as}
 
 -- ---- the objects of rows
@@ -33,7 +33,7 @@ use Rattle.taxii_theorems.proofs.TextLemmas.{has_numbers, read_as}
 pub record IsFine (d : Data) : Type 0 where
   pub numbers : HasNumbers (outline d)
   pub back : of_json (outline d) ≡ Some d
-  pub good : refusal_of d ≡ None
+  pub good : data_refusal d ≡ None
 
 abbrev AreFine : List Data → Type 0
 AreFine [] = ⊤
@@ -105,7 +105,7 @@ page_next (Some date) (d ∷ ds) = refl
 
 -- ---- its entries
 
-not_refused : (d : Data) (refusal : JsonRefusal) → refusal_of d ≡ None → IsRefusalOf d refusal → ⊥
+not_refused : (d : Data) (refusal : JsonRefusal) → data_refusal d ≡ None → IsRefusalOf d refusal → ⊥
 not_refused d NotJson good is = is
 not_refused d (TooDeep path) good is = cc
 not_refused d (NotWhole path) good is = cc
@@ -131,7 +131,7 @@ none_bad (d ∷ ds) [] fine are = absurd are
 none_bad (d ∷ ds) (Good json ∷ entries) (first, rest) (is, are) = none_bad ds entries rest are
 none_bad (d ∷ ds) (Bad refusal ∷ entries) (first, rest) (is, are) = absurd (not_refused d refusal first.good is)
 
-row_lines : (rows : List StoredRow) (ds : List Data) → AllZip IsRowOf rows ds → flat_map (λ d. compact_text d ++ codes "\n") ds ≡ lines_of rows
+row_lines : (rows : List StoredRow) (ds : List Data) → AllZip IsRowOf rows ds → flat_map (λ d. compact_text d ++ codes "\n") ds ≡ stored_lines rows
 row_lines [] [] make = refl
 row_lines [] (d ∷ ds) make = absurd make
 row_lines (row ∷ rows) [] make = absurd make
@@ -150,7 +150,7 @@ AreJson = (rows : List StoredRow) (more : Bool) (objects : List Data) → AllZip
     → envelope_text rows more ≡ compact_text (envelope_data (next_of rows more) objects)
 
 pub read_back : AreJson → (rows : List StoredRow) (more : Bool) (envelope : Envelope) → All IsSoundRow rows → IsEnvelopeOf (envelope_text rows more) envelope
-    → IsReadAs rows more envelope
+    → IsPageReadAs rows more envelope
 read_back are_json rows more envelope sound is = record {
   lines = told_lines own.objects envelope.entries own.fine checked ∙ row_lines rows own.objects own.make;
   none_bad = none_bad own.objects envelope.entries own.fine checked;

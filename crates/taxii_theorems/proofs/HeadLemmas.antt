@@ -19,7 +19,7 @@ use Rattle.http_messages.specs.Fields.{values_among}
 use Rattle.taxii_exchange.specs.declared.answer.Allow.{Allow}
 use Rattle.taxii_exchange.specs.declared.answer.Allow.TheVariants.{Get, GetPost, GetDelete}
 use Rattle.taxii_exchange.specs.declared.answer.Answer.{Answer}
-use Rattle.taxii_exchange.specs.Answers.{media_type, methods_of, body_of, head_text, IsDateText}
+use Rattle.taxii_exchange.specs.Answers.{media_type, methods_of, body_bytes, head_text, IsOptionalDateText}
 use Rattle.taxii_theorems.proofs.BytesLemmas.{passes, AreFrom, from_both, from_less, are_values, are_digits}
 use Rattle.stix_times.specs.Timestamp.{Timestamp, IsShaped, two_digits, text_of, fraction_text}
 
@@ -98,7 +98,7 @@ abbrev IsValue : Option (List ℕ) → Type 0
 IsValue None = ⊤
 IsValue (Some value) = AllPass is_value_byte value
 
-date_value : (micros : Option ℕ) (text : Option (List ℕ)) → IsDateText micros text → IsValue text
+date_value : (micros : Option ℕ) (text : Option (List ℕ)) → IsOptionalDateText micros text → IsValue text
 date_value None None is = tt
 date_value None (Some text) is = absurd is
 date_value (Some micros) None is = absurd is
@@ -148,7 +148,7 @@ fields_of answer first last close =
     (if_told (codes "Allow") (option_map methods_of answer.allow)
     (if_told (codes "X-TAXII-Date-Added-First") first
     (if_told (codes "X-TAXII-Date-Added-Last") last
-    (field (codes "Content-Length") (decimal (length (body_of answer.body))) ∷ close_fields close))))
+    (field (codes "Content-Length") (decimal (length (body_bytes answer.body))) ∷ close_fields close))))
 
 abbrev pub tree_of : Answer → Option (List ℕ) → Option (List ℕ) → Bool → ResponseHead
 tree_of answer first last close = record {
@@ -179,12 +179,12 @@ unfolding is_token_byte
 close_all true = All-cons IsField (field (codes "Connection") (codes "close")) [] (is_field (codes "Connection") (codes "close") (token (codes "Connection") (omega arith) refl) (passes is_value_byte (codes "close") refl)) (All-nil IsField)
 close_all false = All-nil IsField
 
-pub tree_valid : (answer : Answer) (first last : Option (List ℕ)) (close : Bool) → IsDateText answer.first first → IsDateText answer.last last
-    → length (body_of answer.body) < 2 ^ 64 → IsResponseHead (tree_of answer first last close)
+pub tree_valid : (answer : Answer) (first last : Option (List ℕ)) (close : Bool) → IsOptionalDateText answer.first first → IsOptionalDateText answer.last last
+    → length (body_bytes answer.body) < 2 ^ 64 → IsResponseHead (tree_of answer first last close)
 unfolding is_token_byte
 tree_valid answer first last close first_is last_is few =
-    let size = decimal (length (body_of answer.body)) in
-    let digits_are : AllDigits 10 size = (decimal_is_IsNumeral (length (body_of answer.body)) few).0.1 in record {
+    let size = decimal (length (body_bytes answer.body)) in
+    let digits_are : AllDigits 10 size = (decimal_is_IsNumeral (length (body_bytes answer.body)) few).0.1 in record {
       minor = omega arith;
       digits = (refl, passes Rattle.std.specs.Char.is_ascii_digit (codes "200") refl);
       reason = passes is_value_byte (codes "OK") refl;
@@ -207,16 +207,16 @@ fields_printed : (answer : Answer) (first last : Option (List ℕ)) (close : Boo
     ++ (line_if_some (codes "Allow") (option_map methods_of answer.allow)
     ++ (line_if_some (codes "X-TAXII-Date-Added-First") first
     ++ (line_if_some (codes "X-TAXII-Date-Added-Last") last
-    ++ (field_line (codes "Content-Length") (decimal (length (body_of answer.body)))
+    ++ (field_line (codes "Content-Length") (decimal (length (body_bytes answer.body)))
     ++ (if close then field_line (codes "Connection") (codes "close") else [])))))
 fields_printed answer first last close =
     let media = option_map (λ body. media_type) answer.body in
     let allow = option_map methods_of answer.allow in
-    let size = field (codes "Content-Length") (decimal (length (body_of answer.body))) in
-    let rest : flat_map print_field (size ∷ close_fields close) ≡ field_line (codes "Content-Length") (decimal (length (body_of answer.body)))
+    let size = field (codes "Content-Length") (decimal (length (body_bytes answer.body))) in
+    let rest : flat_map print_field (size ∷ close_fields close) ≡ field_line (codes "Content-Length") (decimal (length (body_bytes answer.body)))
     ++ (if close then field_line (codes "Connection") (codes "close") else []) =
-    ap (λ (line : List ℕ). line ++ flat_map print_field (close_fields close)) (printed_field (codes "Content-Length") (decimal (length (body_of answer.body))))
-    ∙ ap (λ (more : List ℕ). field_line (codes "Content-Length") (decimal (length (body_of answer.body))) ++ more) (close_printed close) in
+    ap (λ (line : List ℕ). line ++ flat_map print_field (close_fields close)) (printed_field (codes "Content-Length") (decimal (length (body_bytes answer.body))))
+    ∙ ap (λ (more : List ℕ). field_line (codes "Content-Length") (decimal (length (body_bytes answer.body))) ++ more) (close_printed close) in
     printed_told (codes "Content-Type") media _
     ∙ ap (λ (more : List ℕ). line_if_some (codes "Content-Type") media ++ more)
     (printed_told (codes "Allow") allow _
@@ -254,7 +254,7 @@ tree_printed answer first last close okay =
     let allow = line_if_some (codes "Allow") (option_map methods_of answer.allow) in
     let begins = line_if_some (codes "X-TAXII-Date-Added-First") first in
     let ends = line_if_some (codes "X-TAXII-Date-Added-Last") last in
-    let size = field_line (codes "Content-Length") (decimal (length (body_of answer.body))) in
+    let size = field_line (codes "Content-Length") (decimal (length (body_bytes answer.body))) in
     let closes = if close then field_line (codes "Connection") (codes "close") else [] in
     from_right (status_line answer.status) media allow begins ends size closes line_end
     ∙ ap (λ (line : List ℕ). line ++ (media ++ (allow ++ (begins ++ (ends ++ (size ++ (closes ++ line_end))))))) (ap status_line okay ∙ okay_line)
@@ -264,8 +264,8 @@ tree_printed answer first last close okay =
 
 -- ---- the length that it states
 
-pub stated : (answer : Answer) (first last : Option (List ℕ)) (close : Bool) → length (body_of answer.body) < 2 ^ 64
-    → values_among (codes "content-length") (map name_and_value (fields_of answer first last close)) ≡ decimal (length (body_of answer.body)) ∷ []
+pub stated : (answer : Answer) (first last : Option (List ℕ)) (close : Bool) → length (body_bytes answer.body) < 2 ^ 64
+    → values_among (codes "content-length") (map name_and_value (fields_of answer first last close)) ≡ decimal (length (body_bytes answer.body)) ∷ []
 stated answer first last close few =
     values_told (codes "content-length") (codes "Content-Type") (option_map (λ body. media_type) answer.body) _ refl
     ∙ values_told (codes "content-length") (codes "Allow") (option_map methods_of answer.allow) _ refl
@@ -274,10 +274,10 @@ stated answer first last close few =
     ∙ by_close close
   where
     size : List ℕ
-    size = decimal (length (body_of answer.body))
+    size = decimal (length (body_bytes answer.body))
 
     its : trim_ows (32 ∷ size) ≡ size
-    its = trimmed_digits size (decimal_is_IsNumeral (length (body_of answer.body)) few).0.1
+    its = trimmed_digits size (decimal_is_IsNumeral (length (body_bytes answer.body)) few).0.1
 
     by_close : (t : Bool) → values_among (codes "content-length") (map name_and_value (field (codes "Content-Length") size ∷ close_fields t)) ≡ size ∷ []
     by_close true = ap (λ (value : List ℕ). value ∷ []) its

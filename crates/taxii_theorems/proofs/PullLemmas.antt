@@ -24,17 +24,17 @@ use Rattle.taxii_service.specs.Reading.{IsPageOf, IsEnvelope}
 use Rattle.taxii_service.specs.Exchanges.{Exchange, IsExchange}
 use Rattle.taxii_service.specs.Visits.{Asks as AsksOf, answer_at}
 use Rattle.taxii_theorems.specs.Runs.{Run, Continue, Round, rounds_of}
-use Rattle.taxii_theorems.specs.Following.{Among, GivesNext, EndsPaging, IsFetch, FetchFrom, HasFollowed, ReceivesEachRow}
-use Rattle.taxii_client.specs.Environment.{LinkView}
-use Rattle.taxii_client.specs.Pulls.{Asks, cursor_of, cursor_after, Page, IsPageAt, InTurn, IsPull}
+use Rattle.taxii_theorems.specs.Following.{AreAmongRounds, GivesNextCursor, EndsPaging, IsFetch, FetchFrom, HasFollowed, ReceivesEachRow}
+use Rattle.taxii_client.specs.Environment.{ClientLinkView}
+use Rattle.taxii_client.specs.Pulls.{RequestsNext, cursor_of, cursor_after, Page, IsPageAt, ArePagesInTurn, IsPull}
 use Rattle.taxii_client.specs.Telling.{told_of, told_of_pages, bad_in, bad_in_pages}
 use Rattle.taxii_client.specs.declared.target.Target.{Target}
 use Rattle.taxii_client.specs.declared.cursor.Cursor.{Cursor}
 use Rattle.taxii_client.specs.declared.cursor.Cursor.TheVariants.{First, Resume, Over}
-use Rattle.taxii_theorems.specs.Reading.{lines_of, IsReadAs}
+use Rattle.taxii_theorems.specs.Reading.{stored_lines, IsPageReadAs}
 use Rattle.taxii_theorems.specs.Asking.{IsServersOwn, IsVisibleToken, IsAnswered, IsUnderstood, IsInstantOf, wanted_after}
 use Rattle.taxii_theorems.specs.Pulling.{IsServed, ServeFrom, AreServed, WritesEachRow}
-use Rattle.stix_times.specs.Reading.{IsTextOf}
+use Rattle.stix_times.specs.Reading.{IsTextOfInstant}
 use Rattle.taxii_theorems.proofs.BytesLemmas.{AreFrom, next_seen}
 
 -- the laws: what a client writes is a fetch, a server's answers are read by the client, and a GET is answered by a page of sound rows
@@ -44,12 +44,12 @@ pub record Laws : Type 0 where
   pub replies : (answer : Answer) (close : Bool) (text later reply body own rest : List ℕ) → answer.status ≡ Okay → answer.body ≡ Some own
       → IsAnswerText answer close text → length text < 2 ^ 64 → IsReply reply body → text ++ later ≡ reply ++ rest → body ≡ own
   pub read_back : (rows : List StoredRow) (more : Bool) (envelope : Envelope) → All IsSoundRow rows → IsEnvelopeOf (envelope_text rows more) envelope
-      → IsReadAs rows more envelope
+      → IsPageReadAs rows more envelope
   pub sound : (state : StoreState) (collection : ℕ) (only : Option Id) (query : Query) (page : List StoredRow) (more : Bool)
       → IsSoundState state → IsPage state.rows collection only query page more → All IsSoundRow page
   pub paged : (config : Config) (e : Exchange) (collection : ℕ) (only : Option Id) (query : Query) → IsExchange config e → e.answer.status ≡ Okay
       → AsksOf config e.request collection only query → IsPageOf e.before.library.rows collection only query IsEnvelope e.answer
-  pub instant : (text : List ℕ) (first second : ℤ) → IsTextOf text first → IsTextOf text second → first ≡ second
+  pub instant : (text : List ℕ) (first second : ℤ) → IsTextOfInstant text first → IsTextOfInstant text second → first ≡ second
 
 -- ---- the rounds of runs are exchanges
 
@@ -63,7 +63,7 @@ all_go store after (run ∷ runs) (its, proceed) =
     (All-map Goes (λ e. record { config = run.config; exchange = e }) run.exchanges its.served.each)
     (all_go run.after.library after runs proceed)
 
-pub among_all : (P : Round → Type 0) (some rounds : List Round) → Among some rounds → All P rounds → All P some
+pub among_all : (P : Round → Type 0) (some rounds : List Round) → AreAmongRounds some rounds → All P rounds → All P some
 among_all P [] rounds among all = All-nil P
 among_all P (round ∷ some) [] among all = absurd among
 among_all P (round ∷ some) (first ∷ rounds) (inl (same, among)) all =
@@ -85,7 +85,7 @@ all_seen : (bytes : List ℕ) → AreFrom 33 bytes → All (λ byte. (33 ≤ byt
 all_seen [] are = All-nil (λ byte. (33 ≤ byte) × (byte < 127))
 all_seen (b ∷ bytes) (low, high, are) = All-cons (λ byte. (33 ≤ byte) × (byte < 127)) b bytes (low, high) (all_seen bytes are)
 
-module _ (L : Type 0) (view : L → LinkView) (target : Target) (instant : Option ℤ) (timed : IsInstantOf target.since instant) (laws : Laws) where
+module _ (L : Type 0) (view : L → ClientLinkView) (target : Target) (instant : Option ℤ) (timed : IsInstantOf target.since instant) (laws : Laws) where
   abbrev wanted : Wanted
   wanted = wanted_after target instant
 
@@ -103,7 +103,7 @@ module _ (L : Type 0) (view : L → LinkView) (target : Target) (instant : Optio
   -- the envelope of a page that is the answer of a round with these rows
   page_read : (cursor : Cursor) (next : Option (List ℕ)) (page : Page L) (round : Round) (rows : List StoredRow) (more : Bool) → IsPageAt view target cursor page
       → IsServed view target next page round → All IsSoundRow rows → round.exchange.answer ≡ page_answer rows (envelope_text rows more)
-      → IsReadAs rows more page.envelope
+      → IsPageReadAs rows more page.envelope
   page_read cursor next page round rows more at served sound answer_is =
       let reads = at.fetched.reads in
       let rest = taken_from reads.taken (served.text ++ served.later) (view page.link.given).left (view page.link.finished).left served.bytes reads.takes in
@@ -117,7 +117,7 @@ module _ (L : Type 0) (view : L → LinkView) (target : Target) (instant : Optio
     rows : List StoredRow
     more : Bool
     answer_is : round.exchange.answer ≡ page_answer rows (envelope_text rows more)
-    read : IsReadAs rows more page.envelope
+    read : IsPageReadAs rows more page.envelope
 
   answered : (cursor : Cursor) (next : Option (List ℕ)) (page : Page L) (round : Round) → IsPageAt view target cursor page → IsServed view target next page round
       → IsFetch wanted next round → Goes round → IsSoundState round.exchange.before.library → Answered page round
@@ -134,7 +134,7 @@ module _ (L : Type 0) (view : L → LinkView) (target : Target) (instant : Optio
 
   -- ---- what the server told is what the client asks for next
 
-  cursor_is : (rows : List StoredRow) (more : Bool) (envelope : Envelope) (next : Option ℕ) → IsReadAs rows more envelope → next_of rows more ≡ next
+  cursor_is : (rows : List StoredRow) (more : Bool) (envelope : Envelope) (next : Option ℕ) → IsPageReadAs rows more envelope → next_of rows more ≡ next
       → cursor_after envelope ≡ cursor_of (is_some next) (option_map next_text next)
   cursor_is rows more envelope next read is =
       ap (λ (flag : Bool). cursor_of flag envelope.next) (read.more_is ∙ ap is_some is)
@@ -147,7 +147,7 @@ module _ (L : Type 0) (view : L → LinkView) (target : Target) (instant : Optio
   unfolding encode_with
   sixteen date = refl
 
-  told_on : (page : Page L) (round : Round) (its : Answered page round) (date : ℕ) → next_of its.rows its.more ≡ Some date → GivesNext round.exchange.answer (next_text date)
+  told_on : (page : Page L) (round : Round) (its : Answered page round) (date : ℕ) → next_of its.rows its.more ≡ Some date → GivesNextCursor round.exchange.answer (next_text date)
   told_on page round its date is = (
     sixteen date,
     codes "\"" ++ tail_of its.rows,
@@ -171,21 +171,21 @@ module _ (L : Type 0) (view : L → LinkView) (target : Target) (instant : Optio
       by_next (Some date) is = let clash : Resume (next_text date) ≡ Over = sym (cursor_is its.rows its.more page.envelope (Some date) its.read is) ∙ over in absurd (cc)
 
   -- what was asked for after a page is what it told
-  continues : (page : Page L) (round : Round) (its : Answered page round) (asked : Option (List ℕ)) → Asks (cursor_after page.envelope) asked
-      → (told : List ℕ) × GivesNext round.exchange.answer told × (asked ≡ Some told) × IsVisibleToken (Some told)
+  continues : (page : Page L) (round : Round) (its : Answered page round) (asked : Option (List ℕ)) → RequestsNext (cursor_after page.envelope) asked
+      → (told : List ℕ) × GivesNextCursor round.exchange.answer told × (asked ≡ Some told) × IsVisibleToken (Some told)
   continues page round its asked asks = by_next (next_of its.rows its.more) refl
     where
-      by_next : (next : Option ℕ) → next_of its.rows its.more ≡ next → (told : List ℕ) × GivesNext round.exchange.answer told × (asked ≡ Some told) × IsVisibleToken (Some told)
-      by_next None is = absurd (subst (λ (cursor : Cursor). Asks cursor asked) (cursor_is its.rows its.more page.envelope None its.read is) asks)
+      by_next : (next : Option ℕ) → next_of its.rows its.more ≡ next → (told : List ℕ) × GivesNextCursor round.exchange.answer told × (asked ≡ Some told) × IsVisibleToken (Some told)
+      by_next None is = absurd (subst (λ (cursor : Cursor). RequestsNext cursor asked) (cursor_is its.rows its.more page.envelope None its.read is) asks)
       by_next (Some date) is = (
         next_text date,
         told_on page round its date is,
-        subst (λ (cursor : Cursor). Asks cursor asked) (cursor_is its.rows its.more page.envelope (Some date) its.read is) asks,
+        subst (λ (cursor : Cursor). RequestsNext cursor asked) (cursor_is its.rows its.more page.envelope (Some date) its.read is) asks,
         all_seen (next_text date) (next_seen date),
       )
 
   pub fetches : (cursor : Cursor) (page : Page L) (pages : List (Page L)) (round : Round) (rounds : List Round) → IsServersOwn target
-      → InTurn view target cursor (page ∷ pages) Over → (serve : ServeFrom view target cursor (page ∷ pages) (round ∷ rounds)) → IsVisibleToken serve.0
+      → ArePagesInTurn view target cursor (page ∷ pages) Over → (serve : ServeFrom view target cursor (page ∷ pages) (round ∷ rounds)) → IsVisibleToken serve.0
       → All Goes (round ∷ rounds) → All (λ r. IsSoundState r.exchange.before.library) (round ∷ rounds) → FetchFrom wanted serve.0 round rounds
   fetches cursor page [] round [] own (at, over) (next, asks, served, rest) told goes sound =
       let own_goes : Goes round = All-head Goes round [] goes in
@@ -207,8 +207,8 @@ module _ (L : Type 0) (view : L → LinkView) (target : Target) (instant : Optio
 
   abbrev AllRead : List (Page L) → Stop → List Stop → Type 0
   AllRead [] stop stops = ⊥
-  AllRead (page ∷ pages) stop [] = IsReadAs stop.page stop.more page.envelope × (pages ≡ [])
-  AllRead (page ∷ pages) stop (other ∷ stops) = IsReadAs stop.page stop.more page.envelope × AllRead pages other stops
+  AllRead (page ∷ pages) stop [] = IsPageReadAs stop.page stop.more page.envelope × (pages ≡ [])
+  AllRead (page ∷ pages) stop (other ∷ stops) = IsPageReadAs stop.page stop.more page.envelope × AllRead pages other stops
 
   heads : {A : Type 0} (x y : A) (xs ys : List A) → x ∷ xs ≡ y ∷ ys → x ≡ y
   heads x y xs ys same = cc
@@ -218,7 +218,7 @@ module _ (L : Type 0) (view : L → LinkView) (target : Target) (instant : Optio
 
   pub all_read : (date : Option ℕ) (cursor : Cursor) (pages : List (Page L)) (rounds : List Round) (stop : Stop) (stops : List Stop) → GoesFrom wanted date stop stops
       → map (λ r. r.exchange.answer) rounds ≡ map answer_at (stop ∷ stops) → map (λ r. r.exchange.before.library) rounds ≡ map (λ s. s.state) (stop ∷ stops)
-      → All (λ r. IsSoundState r.exchange.before.library) rounds → InTurn view target cursor pages Over → ServeFrom view target cursor pages rounds → AllRead pages stop stops
+      → All (λ r. IsSoundState r.exchange.before.library) rounds → ArePagesInTurn view target cursor pages Over → ServeFrom view target cursor pages rounds → AllRead pages stop stops
   all_read date cursor [] [] stop stops walk answers states sound turns serve = absurd (cc)
   all_read date cursor [] (round ∷ rounds) stop stops walk answers states sound turns serve = absurd serve
   all_read date cursor (page ∷ pages) [] stop stops walk answers states sound turns serve = absurd serve
@@ -247,13 +247,13 @@ module _ (L : Type 0) (view : L → LinkView) (target : Target) (instant : Optio
             (All-tail (λ r. IsSoundState r.exchange.before.library) round rounds sound) turns rest,
       )
 
-  pub all_lines : (pages : List (Page L)) (stop : Stop) (stops : List Stop) → AllRead pages stop stops → told_of_pages pages ≡ lines_of (rows_given stop stops)
+  pub all_lines : (pages : List (Page L)) (stop : Stop) (stops : List Stop) → AllRead pages stop stops → told_of_pages pages ≡ stored_lines (rows_given stop stops)
   all_lines [] stop stops read = absurd read
   all_lines (page ∷ pages) stop [] (read, none) =
       ap (λ (more : List (Page L)). told_of page.envelope.entries ++ told_of_pages more) none ∙ append-nil (told_of page.envelope.entries) ∙ read.lines
   all_lines (page ∷ pages) stop (other ∷ stops) (read, rest) =
       ap (λ (own : List ℕ). own ++ told_of_pages pages) read.lines
-      ∙ ap (λ (more : List ℕ). lines_of stop.page ++ more) (all_lines pages other stops rest)
+      ∙ ap (λ (more : List ℕ). stored_lines stop.page ++ more) (all_lines pages other stops rest)
       ∙ sym (flat_map-append (λ row. row.body ++ codes "\n") stop.page (rows_given other stops))
 
   bad_from : (most : ℕ) (pages : List (Page L)) (stop : Stop) (stops : List Stop) → AllRead pages stop stops → fold (λ a p. a + bad_in p.envelope.entries) most pages ≡ most

@@ -20,10 +20,10 @@ use Rattle.stix_ids.specs.declared.pick.Pick.TheVariants as pick
 use Rattle.stix_times.specs.Timestamp.{Timestamp, text_of}
 use Rattle.taxii_routes.specs.declared.param.Param.TheVariants.{AddedAfter, Limit, Next, MatchId, MatchType, MatchVersion, MatchSpec}
 use Rattle.taxii_routes.specs.declared.query.Query.{Query}
-use Rattle.taxii_routes.specs.Param.{name_of}
-use Rattle.taxii_routes.specs.Query.{Pair, pairs_of, values_of, IsQueryOf}
+use Rattle.taxii_routes.specs.Param.{param_name}
+use Rattle.taxii_routes.specs.Query.{Pair, pairs_of, parameter_values, IsQueryOf}
 use Rattle.taxii_routes.specs.Query as query
-use Rattle.taxii_routes.specs.Value.{IsLimit, IsPickText, members}
+use Rattle.taxii_routes.specs.Value.{IsLimit, IsPickText, value_members}
 use Rattle.taxii_store.specs.Walk.{AsksAlike}
 use Rattle.taxii_client.specs.Requests.{behind, since_pair, next_pair}
 use Rattle.taxii_theorems.specs.Following.{sent}
@@ -181,7 +181,7 @@ abbrev decoded_pair : Pair → Pair
 decoded_pair pair = (decode pair.0, decode pair.1)
 
 abbrev text_pair : Pair → Pair
-text_pair pair = (query.text_of pair.0, query.text_of pair.1)
+text_pair pair = (query.decoded_text pair.0, query.decoded_text pair.1)
 
 abbrev paired : List ℕ → List ℕ → Pair
 paired a b = (a, b)
@@ -210,7 +210,7 @@ pairs_are limit since next few visible told =
 
 -- ---- what they ask for
 
-pub next_values : (limit : ℕ) (since next : Option (List ℕ)) → values_of (name_of Next) (pairs_for limit since next) ≡ sent next
+pub next_values : (limit : ℕ) (since next : Option (List ℕ)) → parameter_values (param_name Next) (pairs_for limit since next) ≡ sent next
 next_values limit None None = refl
 next_values limit (Some time) None = refl
 next_values limit None (Some next) = refl
@@ -233,7 +233,7 @@ one_pick pick.First is = absurd (let letter : 97 ≡ 102 = ap (λ (text : List �
 one_pick pick.All is = refl
 one_pick (pick.At micros) (t, spells, exact) = absurd (no_time t spells.shaped.year spells.spelling)
 
-all_picked : (picks : Option (List Pick)) → IsSomeAnd picks (λ its. AllZip IsPickText (members (codes "all")) its)
+all_picked : (picks : Option (List Pick)) → IsSomeAnd picks (λ its. AllZip IsPickText (value_members (codes "all")) its)
     → Contains (unwrap_or picks (pick.Last ∷ [])) pick.All
 all_picked None none = absurd none
 all_picked (Some []) none = absurd none
@@ -244,7 +244,7 @@ some_limit : (text : List ℕ) (limit : Option ℕ) → IsSomeAnd limit (λ its.
 some_limit text None none = absurd none
 some_limit text (Some its) is = is.some
 
-alike_by : (limit : ℕ) (parsed : Query) → IsSomeAnd parsed.picks (λ its. AllZip IsPickText (members (codes "all")) its) → parsed.ids ≡ None → parsed.kinds ≡ None → parsed.specs ≡ None
+alike_by : (limit : ℕ) (parsed : Query) → IsSomeAnd parsed.picks (λ its. AllZip IsPickText (value_members (codes "all")) its) → parsed.ids ≡ None → parsed.kinds ≡ None → parsed.specs ≡ None
     → IsSomeAnd parsed.limit (λ its. IsLimit (decimal limit) its) → AsksAlike (query_after parsed.added_after) parsed
 alike_by limit parsed picks ids kinds specs few = record {
   all = all_picked parsed.picks picks;

@@ -1,7 +1,7 @@
 -- A GET of a resource has one answer, and a resource one set of rights.
 use Rattle.std.proofs.Common.{◌≡◌, ℕ, List, Bool, Option, Some, None, sym, ap, subst, ◌∙◌}
 use Rattle.stix_ids.specs.declared.id.Id.{Id}
-use Rattle.stix_ids.specs.Identifier.{IsTextOf}
+use Rattle.stix_ids.specs.Identifier.{IsTextOfId}
 use Rattle.http_messages.specs.declared.status.Status.TheVariants.{Okay}
 use Rattle.taxii_exchange.specs.declared.answer.Answer.{Answer}
 use Rattle.taxii_routes.specs.declared.query.Query.{Query}
@@ -18,14 +18,14 @@ use Rattle.taxii_exchange.specs.declared.config.Config.{Config}
 use Rattle.taxii_exchange.specs.declared.rights.Rights.{Rights}
 use Rattle.taxii_exchange.specs.AnswersToRequests.{body_answer, page_answer}
 use Rattle.taxii_exchange.specs.Config.{rights_of}
-use Rattle.taxii_service.specs.Finding.{Names, IsFound}
-use Rattle.taxii_service.specs.Reading.{IsPageOf, IsPageOfObject, IsEnvelope, IsReading, object_query, versions_query}
+use Rattle.taxii_service.specs.Finding.{NamesCollection, IsFound}
+use Rattle.taxii_service.specs.Reading.{IsPageOf, IsPageOfObject, IsEnvelope, IsGetAnswer, object_query, versions_query}
 use Rattle.taxii_service.specs.declared.state.State.{State}
 use Rattle.taxii_theorems.proofs.BodyLemmas.{OneText, one_manifest, one_list_of_versions}
 
 -- the laws of lower floors: a text names one identifier, an instant has one text of so many digits, and a query one page
 pub record Laws : Type 0 where
-  pub identifier : (text : List ℕ) (first second : Id) → IsTextOf text first → IsTextOf text second → first ≡ second
+  pub identifier : (text : List ℕ) (first second : Id) → IsTextOfId text first → IsTextOfId text second → first ≡ second
   pub text : OneText
   pub page : (rows : List StoredRow) (collection : ℕ) (only : Option Id) (query : Query) (first second : List StoredRow) (left more : Bool)
       → IsPage rows collection only query first left → IsPage rows collection only query second more → first ≡ second
@@ -74,7 +74,7 @@ one_envelope : OneBody IsEnvelope
 one_envelope page more first second its also = its ∙ sym also
 
 pub one_reading : Laws → (config : Config) (state : State) (route : Route) (query : Query) (answer other : Answer)
-    → IsReading config state route query answer → IsReading config state route query other → answer ≡ other
+    → IsGetAnswer config state route query answer → IsGetAnswer config state route query other → answer ≡ other
 one_reading laws config state Discovery query answer other its also = both_are answer other _ its also
 one_reading laws config state Root query answer other its also = both_are answer other _ its also
 one_reading laws config state (Status id) query answer other its also =
@@ -93,7 +93,7 @@ one_reading laws config state (Versions collection object) query answer other it
     (one_some _ its.0 also.0 its.1 also.1) its.2 also.2
 one_reading laws config state NoRoute query answer other its also = absurd its
 
-one_rights : (infos : List CollectionInfo) (text : List ℕ) (info other : CollectionInfo) (first second : Rights) → Names text infos info → Names text infos other
+one_rights : (infos : List CollectionInfo) (text : List ℕ) (info other : CollectionInfo) (first second : Rights) → NamesCollection text infos info → NamesCollection text infos other
     → first ≡ rights_of info → second ≡ rights_of other → first ≡ second
 one_rights infos text info other first second names also its of =
     its ∙ ap rights_of (one_some _ info other names also) ∙ sym of

@@ -5,17 +5,17 @@ use Rattle.taxii_exchange.specs.declared.answer.Allow.{Allow}
 use Rattle.taxii_routes.specs.declared.query.Query.{Query}
 use Rattle.taxii_routes.specs.declared.refusal.QueryRefusal.{QueryRefusal}
 use Rattle.taxii_routes.specs.declared.refusal.QueryRefusal.TheVariants as query
-use Rattle.taxii_routes.specs.Query.{Pair, pairs_of, IsQueryOf, IsRefusedAs}
+use Rattle.taxii_routes.specs.Query.{Pair, pairs_of, IsQueryOf, IsRefusedQuery}
 use Rattle.taxii_bodies.specs.declared.problem.Problem.TheVariants.{BadValue, Repeated, Forbidden, NotFound, NotAcceptable, UnsupportedMediaType, NotJson, NotList, StoreFault, DatesUsedUp}
 use Rattle.taxii_exchange.specs.declared.refusal.Refusal.{Refusal}
 use Rattle.taxii_exchange.specs.declared.refusal.Refusal.TheVariants.{NotAllowed, Problem, NoMemory}
 use Rattle.taxii_exchange.specs.declared.rights.Rights.{Rights}
-use Rattle.taxii_exchange.specs.Checking.{allows, permits, IsAccepted, IsTyped, IsFit, IsRefusedFor}
+use Rattle.taxii_exchange.specs.Checking.{allows, permits, IsAccepted, IsTyped, IsFit, IsRefusedByCheck}
 
 -- the laws of queries: pairs are refused in one way, and not where they ask for a query
 pub record Laws : Type 0 where
-  pub refusal : (pairs : List Pair) (first second : QueryRefusal) → IsRefusedAs pairs first → IsRefusedAs pairs second → first ≡ second
-  pub never_both : (pairs : List Pair) (query : Query) (refusal : QueryRefusal) → IsQueryOf pairs query → ¬ IsRefusedAs pairs refusal
+  pub refusal : (pairs : List Pair) (first second : QueryRefusal) → IsRefusedQuery pairs first → IsRefusedQuery pairs second → first ≡ second
+  pub never_both : (pairs : List Pair) (query : Query) (refusal : QueryRefusal) → IsQueryOf pairs query → ¬ IsRefusedQuery pairs refusal
 
 -- what a bad pair is to a request
 abbrev told : QueryRefusal → Refusal
@@ -27,7 +27,7 @@ told query.NoMemory = NoMemory
 
 -- of the query
 abbrev ByQuery : List ℕ → Refusal → Type 0
-ByQuery text refusal = (bad : QueryRefusal) × IsRefusedAs (pairs_of text) bad × (refusal ≡ told bad)
+ByQuery text refusal = (bad : QueryRefusal) × IsRefusedQuery (pairs_of text) bad × (refusal ≡ told bad)
 
 -- of the media type, and then of the query
 abbrev ByType : Request → List ℕ → Refusal → Type 0
@@ -45,11 +45,11 @@ ByMethod its rights request text refusal =
     ((allows its request.method ≡ false) × (refusal ≡ NotAllowed its)) ⊎ ((allows its request.method ≡ true) × ByAccept rights request text refusal)
 
 by_query : (its : Allow) (rights : Rights) (request : Request) (text : List ℕ) (refusal : Refusal) (bad : QueryRefusal) → IsFit its rights request
-    → IsRefusedAs (pairs_of text) bad → refusal ≡ told bad → ByMethod its rights request text refusal
+    → IsRefusedQuery (pairs_of text) bad → refusal ≡ told bad → ByMethod its rights request text refusal
 by_query its rights request text refusal bad fit refused same =
     inr (fit.allowed, inr (fit.accepted, inr (fit.permitted, inr (fit.typed, (bad, refused, same)))))
 
-in_turn : (its : Allow) (rights : Rights) (request : Request) (text : List ℕ) (refusal : Refusal) → IsRefusedFor its rights request text refusal
+in_turn : (its : Allow) (rights : Rights) (request : Request) (text : List ℕ) (refusal : Refusal) → IsRefusedByCheck its rights request text refusal
     → ByMethod its rights request text refusal
 in_turn its rights request text (NotAllowed others) (same, method) = inl (method, ap NotAllowed same)
 in_turn its rights request text (Problem NotAcceptable) (allowed, not) = inr (allowed, inl (not, refl))
@@ -99,8 +99,8 @@ one_by_method laws its rights request text first second (inl one) (inr also) = a
 one_by_method laws its rights request text first second (inr one) (inl also) = absurd (not_both _ one.0 also.0)
 one_by_method laws its rights request text first second (inr one) (inr also) = one_by_accept laws rights request text first second one.1 also.1
 
-pub one_refusal : Laws → (its : Allow) (rights : Rights) (request : Request) (text : List ℕ) (first second : Refusal) → IsRefusedFor its rights request text first
-    → IsRefusedFor its rights request text second → first ≡ second
+pub one_refusal : Laws → (its : Allow) (rights : Rights) (request : Request) (text : List ℕ) (first second : Refusal) → IsRefusedByCheck its rights request text first
+    → IsRefusedByCheck its rights request text second → first ≡ second
 one_refusal laws its rights request text first second one also =
     one_by_method laws its rights request text first second (in_turn its rights request text first one) (in_turn its rights request text second also)
 
@@ -116,6 +116,6 @@ fit_not_refused laws its rights request text wanted refusal fit asks (inr (allow
     laws.never_both (pairs_of text) wanted bad.0 asks bad.1
 
 pub not_refused : Laws → (its : Allow) (rights : Rights) (request : Request) (text : List ℕ) (wanted : Query) (refusal : Refusal) → IsFit its rights request
-    → IsQueryOf (pairs_of text) wanted → IsRefusedFor its rights request text refusal → ⊥
+    → IsQueryOf (pairs_of text) wanted → IsRefusedByCheck its rights request text refusal → ⊥
 not_refused laws its rights request text wanted refusal fit asks refused =
     fit_not_refused laws its rights request text wanted refusal fit asks (in_turn its rights request text refusal refused)

@@ -13,7 +13,7 @@ use Rattle.taxii_bodies.specs.Details.{IsSuccessOf}
 use Rattle.taxii_bodies.specs.Status.{status_data, IsStatus}
 use Rattle.taxii_service.specs.declared.posted.Posted.{Posted}
 use Rattle.taxii_service.specs.declared.posted.TheConstants.{MAX_DETAILS}
-use Rattle.taxii_service.specs.Adding.{IsSuccess, IsReport}
+use Rattle.taxii_service.specs.Adding.{IsSuccess, IsStatusReport}
 use Rattle.taxii_theorems.proofs.BodyLemmas.{OneText, one_each, one_version}
 use Rattle.taxii_theorems.proofs.EntryLemmas.{IsSamePosted, one_moment, same_detail}
 
@@ -70,7 +70,7 @@ same_report a b number moment successes failures success_count failure_count =
     cc (number, moment, successes, failures, success_count, failure_count) in one
 
 one_report : OneText → (number moment : ℕ) (posted posted_too : Posted) (outcomes : List AddOutcome) (rows : List StoredRow) (first second : StatusReport) → AscendFrom 1 (dates_of rows)
-    → IsSamePosted posted posted_too → IsReport number moment posted outcomes rows first → IsReport number moment posted_too outcomes rows second → first ≡ second
+    → IsSamePosted posted posted_too → IsStatusReport number moment posted outcomes rows first → IsStatusReport number moment posted_too outcomes rows second → first ≡ second
 one_report one number moment posted posted_too outcomes rows first second ascend same its also = same_report first second
     (its.number_is ∙ sym also.number_is)
     (its.moment_is ∙ sym also.moment_is)
@@ -84,7 +84,7 @@ one_status one report first second its also =
     its.text_is ∙ ap (λ (m : List ℕ). compact_text (status_data report m)) (one_moment one report.moment its.moment also.moment its.moment_is also.moment_is) ∙ sym also.text_is
 
 pub one_text_of_report : OneText → (number moment : ℕ) (posted posted_too : Posted) (outcomes : List AddOutcome) (rows : List StoredRow) (first second : StatusReport) (text other : List ℕ)
-    → AscendFrom 1 (dates_of rows) → IsSamePosted posted posted_too → IsReport number moment posted outcomes rows first → IsReport number moment posted_too outcomes rows second
+    → AscendFrom 1 (dates_of rows) → IsSamePosted posted posted_too → IsStatusReport number moment posted outcomes rows first → IsStatusReport number moment posted_too outcomes rows second
     → IsStatus first text → IsStatus second other → text ≡ other
 one_text_of_report one number moment posted posted_too outcomes rows first second text other ascend same its also told told_too =
     let report : first ≡ second = one_report one number moment posted posted_too outcomes rows first second ascend same its also in

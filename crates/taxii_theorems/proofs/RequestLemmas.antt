@@ -12,15 +12,15 @@ use Rattle.uuid.specs.Text.{by_index, hex_digit, nibble, digit_place, is_hyphen_
 use Rattle.uuid.proofs.TextLemmas.{by_index_length}
 use Rattle.stix_ids.specs.Uuid.{uuid_text}
 use Rattle.http_messages.specs.Lines.{line_end, field_line}
-use Rattle.http_messages.specs.Fields.{HeadParts, parts_of, method_of}
+use Rattle.http_messages.specs.Fields.{HeadParts, head_parts, method_of}
 use Rattle.http_messages.specs.Frames.{GivesRequest}
 use Rattle.http_messages.specs.RequestHeads.{is_line_byte}
 use Rattle.http_messages.specs.declared.method.Method.TheVariants.{Get}
 use Rattle.http_messages.specs.declared.request.Request.{Request}
-use Rattle.taxii_routes.specs.Route.{IsPathOf}
+use Rattle.taxii_routes.specs.Route.{IsRoutePath}
 use Rattle.taxii_routes.specs.Target.{IsTargetOf}
 use Rattle.taxii_routes.specs.declared.route.Route.TheVariants.{Objects}
-use Rattle.taxii_client.specs.Requests.{behind, path_of, query_of, host_of, request_of}
+use Rattle.taxii_client.specs.Requests.{behind, objects_path, query_of, host_of, request_of}
 use Rattle.taxii_client.specs.declared.target.Target.{Target}
 use Rattle.taxii_theorems.specs.Asking.{IsServersOwn}
 use Rattle.taxii_theorems.proofs.BytesLemmas.{passes, AreFrom, seen, from_all, from_both, from_less, are_values, are_uri, are_text, are_digits}
@@ -79,15 +79,15 @@ seen_uuid (b ∷ bytes) are = let first = All-head IsUuidByte b bytes are in (fi
 -- ---- the target
 
 abbrev pub target_text : Target → Option (List ℕ) → List ℕ
-target_text target next = path_of target ++ query_of target.limit target.since next
+target_text target next = objects_path target ++ query_of target.limit target.since next
 
 abbrev own_path_text : Target → List ℕ
 own_path_text target = codes "/api/" ++ codes "collections/" ++ uuid_text target.collection ++ codes "/objects/"
 
-path_is : (target : Target) → IsServersOwn target → path_of target ≡ own_path_text target
+path_is : (target : Target) → IsServersOwn target → objects_path target ≡ own_path_text target
 path_is target own = ap (λ (root : List ℕ). root ++ codes "collections/" ++ uuid_text target.collection ++ codes "/objects/") own.root
 
-path_seen : (target : Target) → IsServersOwn target → AreFrom 33 (path_of target)
+path_seen : (target : Target) → IsServersOwn target → AreFrom 33 (objects_path target)
 path_seen target own =
     subst (AreFrom 33) (sym (path_is target own))
     (from_both 33 (codes "/api/collections/" ++ uuid_text target.collection) (codes "/objects/")
@@ -106,7 +106,7 @@ query_seen limit since next few =
     (behind_seen since next)
 
 target_seen : (target : Target) (next : Option (List ℕ)) → IsServersOwn target → AreFrom 33 (target_text target next)
-target_seen target next own = from_both 33 (path_of target) (query_of target.limit target.since next) (path_seen target own) (query_seen target.limit target.since next own.limit)
+target_seen target next own = from_both 33 (objects_path target) (query_of target.limit target.since next) (path_seen target own) (query_seen target.limit target.since next own.limit)
 
 -- ---- the head
 
@@ -136,7 +136,7 @@ tree_of target next = record {
 some_target : (target : Target) (next : Option (List ℕ)) → 0 < length (target_text target next)
 some_target target next = omega (
   arith,
-  length-append (path_of target) (query_of target.limit target.since next),
+  length-append (objects_path target) (query_of target.limit target.since next),
   length-append (target.root ++ codes "collections/" ++ uuid_text target.collection) (codes "/objects/"),
 )
 
@@ -189,10 +189,10 @@ tree_printed target next =
     let host = field_line (codes "Host") (host_of target) in
     let accept = field_line (codes "Accept") media in
     let close = field_line (codes "Connection") (codes "close") in
-    from_right (path_of target) (query_of target.limit target.since next) host accept close line_end
+    from_right (objects_path target) (query_of target.limit target.since next) host accept close line_end
     ∙ ap (λ (text : List ℕ). codes "GET " ++ text)
     (sym (ap (λ (fields : List ℕ). target_text target next ++ (codes " HTTP/1.1" ++ (line_end ++ (fields ++ line_end)))) (fields_printed target)
-    ∙ regrouped (path_of target) (query_of target.limit target.since next) (codes " HTTP/1.1") line_end host accept close))
+    ∙ regrouped (objects_path target) (query_of target.limit target.since next) (codes " HTTP/1.1") line_end host accept close))
     ∙ sym (printed_head target next)
 
 -- ---- what a server reads
@@ -215,7 +215,7 @@ pub record IsGetOf (target : Target) (next : Option (List ℕ)) (request : Reque
 pub is_get : (target : Target) (next : Option (List ℕ)) (greatest : ℕ) (request : Request) (rest : List ℕ) → IsServersOwn target
     → GivesRequest greatest (request_of target next) request rest → IsGetOf target next request
 is_get target next greatest request rest own gives =
-    let parts_are : gives.parts ≡ parts_of (tree_of target next) = gives.accepts.read.parts_are ∙ ap parts_of (sym trees.0) in record {
+    let parts_are : gives.parts ≡ head_parts (tree_of target next) = gives.accepts.read.parts_are ∙ ap head_parts (sym trees.0) in record {
       get = ap (λ (r : Request). r.method) gives.request_is ∙ ap (λ (parts : HeadParts). method_of parts.method) parts_are;
       target_is = ap (λ (r : Request). r.target) gives.request_is ∙ ap (λ (parts : HeadParts). parts.target) parts_are;
     }
@@ -255,7 +255,7 @@ unmarked (b ∷ bytes) none = by_test (b == 63) refl none (unmarked bytes)
     by_test true is rest later = absurd (cc)
     by_test false is rest later = All-cons (λ byte. byte ≢ 63) b bytes (eqb-false b 63 is) (later rest)
 
-path_unmarked : (target : Target) → IsServersOwn target → All (λ byte. byte ≢ 63) (path_of target)
+path_unmarked : (target : Target) → IsServersOwn target → All (λ byte. byte ≢ 63) (objects_path target)
 path_unmarked target own =
     subst (All (λ byte. byte ≢ 63)) (sym (path_is target own))
     (All-append (λ byte. byte ≢ 63) (codes "/api/collections/" ++ uuid_text target.collection) (codes "/objects/")
@@ -263,10 +263,10 @@ path_unmarked target own =
     (All-weaker IsUuidByte (λ byte. byte ≢ 63) (λ b is. is.no_watermark) (uuid_text target.collection) (uuid_bytes target.collection)))
     (unmarked (codes "/objects/") refl))
 
-pub own_target : (target : Target) (next : Option (List ℕ)) → IsServersOwn target → IsTargetOf (target_text target next) (path_of target) (Some (query_for target.limit target.since next))
+pub own_target : (target : Target) (next : Option (List ℕ)) → IsServersOwn target → IsTargetOf (target_text target next) (objects_path target) (Some (query_for target.limit target.since next))
 own_target target next own = record { unmarked = path_unmarked target own; spelling = refl }
 
-pub own_path : (target : Target) → IsServersOwn target → IsPathOf (path_of target) (Objects (uuid_text target.collection))
+pub own_path : (target : Target) → IsServersOwn target → IsRoutePath (objects_path target) (Objects (uuid_text target.collection))
 own_path target own = (
   record {
     some = λ none. omega (arith, some_uuid target.collection, ap length none);

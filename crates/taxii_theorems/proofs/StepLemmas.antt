@@ -7,7 +7,7 @@ use Rattle.taxii_exchange.specs.declared.answer.Answer.{Answer}
 use Rattle.taxii_routes.specs.declared.query.Query.{Query}
 use Rattle.taxii_routes.specs.declared.route.Route.{Route}
 use Rattle.taxii_routes.specs.Query.{Pair, pairs_of, IsQueryOf}
-use Rattle.taxii_routes.specs.Route.{IsPathOf}
+use Rattle.taxii_routes.specs.Route.{IsRoutePath}
 use Rattle.taxii_routes.specs.Target.{IsTargetOf}
 use Rattle.taxii_bodies.specs.declared.problem.Problem.TheVariants.{NotFound}
 use Rattle.taxii_exchange.specs.declared.config.Config.{Config}
@@ -15,11 +15,11 @@ use Rattle.taxii_exchange.specs.declared.refusal.Refusal.{Refusal}
 use Rattle.taxii_exchange.specs.declared.refusal.Refusal.TheVariants.{NotAllowed, Problem, NoMemory}
 use Rattle.taxii_exchange.specs.declared.rights.Rights.{Rights}
 use Rattle.taxii_exchange.specs.AnswersToRequests.{answer_to_problem}
-use Rattle.taxii_exchange.specs.Checking.{IsFit, IsRefusedFor}
+use Rattle.taxii_exchange.specs.Checking.{IsFit, IsRefusedByCheck}
 use Rattle.taxii_service.specs.Finding.{IsFound, allowed_of}
-use Rattle.taxii_service.specs.Reading.{IsReading, IsNoResource}
+use Rattle.taxii_service.specs.Reading.{IsGetAnswer, IsNoResource}
 use Rattle.taxii_service.specs.declared.state.State.{State}
-use Rattle.taxii_service.specs.Step.{Does, CannotDo, IsRefused, IsDone, IsAnswerTo, RouteStep, Step}
+use Rattle.taxii_service.specs.Step.{Does, CannotDo, IsRefusedResource, IsDone, IsAnswerTo, RouteStep, Step}
 use Rattle.taxii_theorems.proofs.ReadingLemmas.{Laws as Readings, one_reading, one_set_of_rights}
 use Rattle.taxii_theorems.proofs.RefusalLemmas.{Laws as Refusals, one_refusal, not_refused}
 
@@ -27,7 +27,7 @@ use Rattle.taxii_theorems.proofs.RefusalLemmas.{Laws as Refusals, one_refusal, n
 pub record Laws : Type 0 where
   pub path : (target first second : List ℕ) (query other : Option (List ℕ)) → IsTargetOf target first query → IsTargetOf target second other → first ≡ second
   pub text : (target first second : List ℕ) (query other : Option (List ℕ)) → IsTargetOf target first query → IsTargetOf target second other → query ≡ other
-  pub route : (path : List ℕ) (first second : Route) → IsPathOf path first → IsPathOf path second → first ≡ second
+  pub route : (path : List ℕ) (first second : Route) → IsRoutePath path first → IsRoutePath path second → first ≡ second
   pub query : (pairs : List Pair) (first second : Query) → IsQueryOf pairs first → IsQueryOf pairs second → first ≡ second
   pub readings : Readings
   pub refusals : Refusals
@@ -47,7 +47,7 @@ can_do config before moment request route Delete refusal idle none = none
 can_do config before moment request route Other refusal idle none = none
 
 reads : (config : Config) (before : State) (moment : ℕ) (request : Request) (route : Route) (query : Query) (method : Method) (answer : Answer) (after : State) → IsIdle method
-    → Does config before moment request route query method answer after → IsReading config before route query answer × (after ≡ before)
+    → Does config before moment request route query method answer after → IsGetAnswer config before route query answer × (after ≡ before)
 reads config before moment request route query Get answer after idle does = does
 reads config before moment request route query Head answer after idle none = absurd none
 reads config before moment request route query Post answer after idle does = absurd (idle.0 refl)
@@ -64,10 +64,10 @@ one_answer_to method NoMemory first second none also = absurd none
 -- no resource, or one that stands against it
 abbrev IsBarred : Config → State → Request → Route → List ℕ → Refusal → Type 0
 IsBarred config before request route text refusal = (IsNoResource config before route × (refusal ≡ Problem NotFound))
-    ⊎ ((rights : Rights) × IsFound config.collections before route rights × IsRefusedFor (allowed_of route) rights request text refusal)
+    ⊎ ((rights : Rights) × IsFound config.collections before route rights × IsRefusedByCheck (allowed_of route) rights request text refusal)
 
 barred : (config : Config) (before : State) (moment : ℕ) (request : Request) (route : Route) (text : List ℕ) (refusal : Refusal) → IsIdle request.method
-    → IsRefused config before moment request route text refusal → IsBarred config before request route text refusal
+    → IsRefusedResource config before moment request route text refusal → IsBarred config before request route text refusal
 barred config before moment request route text refusal idle (inl none) = inl none
 barred config before moment request route text refusal idle (inr (rights, found, inl refused)) = inr (rights, found, refused)
 barred config before moment request route text refusal idle (inr (rights, found, inr (query, fit, asks, cannot))) =
@@ -81,7 +81,7 @@ one_bar laws config before request route text first second (inr one) (inl also) 
 one_bar laws config before request route text first second (inr (rights, found, one)) (inr (others, there, also)) =
     let same : rights ≡ others = one_set_of_rights config.collections before route rights others found there in
     one_refusal laws.refusals (allowed_of route) others request text first second
-    (subst (λ (r : Rights). IsRefusedFor (allowed_of route) r request text first) same one) also
+    (subst (λ (r : Rights). IsRefusedByCheck (allowed_of route) r request text first) same one) also
 
 not_barred : Laws → (config : Config) (before : State) (request : Request) (route : Route) (text : List ℕ) (rights : Rights) (query : Query) (refusal : Refusal)
     → IsFound config.collections before route rights → IsFit (allowed_of route) rights request → IsQueryOf (pairs_of text) query
@@ -90,7 +90,7 @@ not_barred laws config before request route text rights query refusal found fit 
 not_barred laws config before request route text rights query refusal found fit asks (inr (others, there, refused)) =
     let same : others ≡ rights = one_set_of_rights config.collections before route others rights there found in
     not_refused laws.refusals (allowed_of route) rights request text query refusal fit asks
-    (subst (λ (r : Rights). IsRefusedFor (allowed_of route) r request text refusal) same refused)
+    (subst (λ (r : Rights). IsRefusedByCheck (allowed_of route) r request text refusal) same refused)
 
 -- ---- a route
 
@@ -101,7 +101,7 @@ one_done laws config before first second moment later request route text answer 
     let read = reads config before moment request route one.query request.method answer first idle one.does in
     let again = reads config before later request route also.query request.method other second idle also.does in
     one_reading laws.readings config before route also.query answer other
-    (subst (λ (q : Query). IsReading config before route q answer) same read.0) again.0
+    (subst (λ (q : Query). IsGetAnswer config before route q answer) same read.0) again.0
 
 one_route : Laws → (config : Config) (before first second : State) (moment later : ℕ) (request : Request) (route : Route) (text : List ℕ) (answer other : Answer) → IsIdle request.method
     → RouteStep config before moment request route text answer first → RouteStep config before later request route text other second → answer ≡ other
@@ -123,8 +123,8 @@ one_route laws config before first second moment later request route text answer
 -- no route, or one
 abbrev pub Outcome : Config → State → ℕ → Request → List ℕ → List ℕ → Answer → State → Type 0
 Outcome config before moment request path text answer after =
-    (((route : Route) → ¬ IsPathOf path route) × (answer ≡ answer_to_problem request.method NotFound) × (after ≡ before))
-    ⊎ ((route : Route) × IsPathOf path route × RouteStep config before moment request route text answer after)
+    (((route : Route) → ¬ IsRoutePath path route) × (answer ≡ answer_to_problem request.method NotFound) × (after ≡ before))
+    ⊎ ((route : Route) × IsRoutePath path route × RouteStep config before moment request route text answer after)
 
 one_outcome : Laws → (config : Config) (before first second : State) (moment later : ℕ) (request : Request) (path text : List ℕ) (answer other : Answer) → IsIdle request.method
     → Outcome config before moment request path text answer first → Outcome config before later request path text other second → answer ≡ other

@@ -12,20 +12,20 @@ use Rattle.stix_ids.proofs.UuidLemmas.{uuid_of_text}
 use Rattle.taxii_routes.specs.declared.param.Param.TheVariants.{Next}
 use Rattle.taxii_routes.specs.declared.route.Route.{Route}
 use Rattle.taxii_routes.specs.declared.route.Route.TheVariants.{Objects}
-use Rattle.taxii_routes.specs.Param.{name_of}
-use Rattle.taxii_routes.specs.Query.{Pair, pairs_of, values_of, IsQueryOf}
-use Rattle.taxii_routes.specs.Route.{IsPathOf}
+use Rattle.taxii_routes.specs.Param.{param_name}
+use Rattle.taxii_routes.specs.Query.{Pair, pairs_of, parameter_values, IsQueryOf}
+use Rattle.taxii_routes.specs.Route.{IsRoutePath}
 use Rattle.taxii_routes.specs.Target.{IsTargetOf}
 use Rattle.taxii_bodies.specs.declared.collections.CollectionInfo.{CollectionInfo}
 use Rattle.taxii_bodies.specs.Collections.{has_name}
 use Rattle.taxii_exchange.specs.declared.config.Config.{Config}
-use Rattle.taxii_service.specs.Finding.{Names}
-use Rattle.taxii_service.specs.Reading.{IsReading}
+use Rattle.taxii_service.specs.Finding.{NamesCollection}
+use Rattle.taxii_service.specs.Reading.{IsGetAnswer}
 use Rattle.taxii_service.specs.Step.{Does, IsDone}
 use Rattle.taxii_service.specs.Exchanges.{Exchange, IsExchange, WasDone}
 use Rattle.taxii_theorems.specs.Runs.{Round}
 use Rattle.taxii_theorems.specs.Following.{IsFetch}
-use Rattle.taxii_client.specs.Requests.{path_of}
+use Rattle.taxii_client.specs.Requests.{objects_path}
 use Rattle.taxii_client.specs.declared.target.Target.{Target}
 use Rattle.taxii_theorems.specs.Asking.{IsServersOwn, IsVisibleToken, IsAnswered, IsUnderstood, wanted_after}
 use Rattle.taxii_theorems.proofs.QueryLemmas.{query_for, pairs_for, pairs_are, next_values, instant_is, asks_alike}
@@ -36,7 +36,7 @@ use Rattle.taxii_theorems.proofs.RequestLemmas.{IsGetOf, is_get, own_target, own
 pub record Laws : Type 0 where
   pub path : (target first second : List ℕ) (text other : Option (List ℕ)) → IsTargetOf target first text → IsTargetOf target second other → first ≡ second
   pub text : (target first second : List ℕ) (text other : Option (List ℕ)) → IsTargetOf target first text → IsTargetOf target second other → text ≡ other
-  pub route : (path : List ℕ) (first second : Route) → IsPathOf path first → IsPathOf path second → first ≡ second
+  pub route : (path : List ℕ) (first second : Route) → IsRoutePath path first → IsRoutePath path second → first ≡ second
   pub uuid : (text : List ℕ) (first second : ℕ) → IsUuidOf text first → IsUuidOf text second → first ≡ second
   pub done : (config : Config) (e : Exchange) → IsExchange config e → e.answer.status ≡ Okay → WasDone config e
 
@@ -51,7 +51,7 @@ pub record IsFoundBy (text : List ℕ) (info : CollectionInfo) : Type 0 where
   pub named : has_name text info ≡ true
   pub fits : info.id < 2 ^ 128
 
-found_by : (text : List ℕ) (infos : List CollectionInfo) (info : CollectionInfo) → AreNumbers infos → Names text infos info → IsFoundBy text info
+found_by : (text : List ℕ) (infos : List CollectionInfo) (info : CollectionInfo) → AreNumbers infos → NamesCollection text infos info → IsFoundBy text info
 found_by text [] info fit names = absurd (cc)
 found_by text (first ∷ infos) info fit names =
     by_test (has_name text first) refl names (λ rest. found_by text infos info (All-tail (λ (i : CollectionInfo). i.id < 2 ^ 128) first infos fit) rest)
@@ -64,7 +64,7 @@ found_by text (first ∷ infos) info fit names =
     by_test false is names later = later names
 
 -- a UUID names the collection of its number
-names_number : Laws → (number : ℕ) (infos : List CollectionInfo) (info : CollectionInfo) → number < 2 ^ 128 → AreNumbers infos → Names (uuid_text number) infos info
+names_number : Laws → (number : ℕ) (infos : List CollectionInfo) (info : CollectionInfo) → number < 2 ^ 128 → AreNumbers infos → NamesCollection (uuid_text number) infos info
     → number ≡ info.id
 names_number laws number infos info small fit names =
     let found = found_by (uuid_text number) infos info fit names in
@@ -92,17 +92,17 @@ understood laws target next round own told answered goes = record {
     get : IsGetOf target next round.exchange.request
     get = is_get target next answered.max_body round.exchange.request [] own answered.understood
 
-    its_target : IsTargetOf round.exchange.request.target (path_of target) (Some (query_for target.limit target.since next))
-    its_target = subst (λ (text : List ℕ). IsTargetOf text (path_of target) (Some (query_for target.limit target.since next))) (sym get.target_is) (own_target target next own)
+    its_target : IsTargetOf round.exchange.request.target (objects_path target) (Some (query_for target.limit target.since next))
+    its_target = subst (λ (text : List ℕ). IsTargetOf text (objects_path target) (Some (query_for target.limit target.since next))) (sym get.target_is) (own_target target next own)
 
-    path_is : was.path ≡ path_of target
-    path_is = laws.path round.exchange.request.target was.path (path_of target) was.text (Some (query_for target.limit target.since next)) was.target_is its_target
+    path_is : was.path ≡ objects_path target
+    path_is = laws.path round.exchange.request.target was.path (objects_path target) was.text (Some (query_for target.limit target.since next)) was.target_is its_target
 
     text_is : was.text ≡ Some (query_for target.limit target.since next)
-    text_is = laws.text round.exchange.request.target was.path (path_of target) was.text (Some (query_for target.limit target.since next)) was.target_is its_target
+    text_is = laws.text round.exchange.request.target was.path (objects_path target) was.text (Some (query_for target.limit target.since next)) was.target_is its_target
 
     route_is : was.route ≡ Objects (uuid_text target.collection)
-    route_is = laws.route (path_of target) was.route (Objects (uuid_text target.collection)) (subst (λ (path : List ℕ). IsPathOf path was.route) path_is was.route_is) (own_path target own)
+    route_is = laws.route (objects_path target) was.route (Objects (uuid_text target.collection)) (subst (λ (path : List ℕ). IsRoutePath path was.route) path_is was.route_is) (own_path target own)
 
     pairs : pairs_of (unwrap_or was.text []) ≡ pairs_for target.limit target.since next
     pairs = ap (λ (text : Option (List ℕ)). pairs_of (unwrap_or text [])) text_is ∙ pairs_are target.limit target.since next own.limit own.since told
@@ -113,8 +113,8 @@ understood laws target next round own told answered goes = record {
     does : Does round.config round.exchange.before round.exchange.moment round.exchange.request was.route done.query Get round.exchange.answer round.exchange.after
     does = subst (λ (method : Method). Does round.config round.exchange.before round.exchange.moment round.exchange.request was.route done.query method round.exchange.answer round.exchange.after) get.get done.does
 
-    reading : IsReading round.config round.exchange.before (Objects (uuid_text target.collection)) done.query round.exchange.answer
-    reading = subst (λ (route : Route). IsReading round.config round.exchange.before route done.query round.exchange.answer) route_is does.0
+    reading : IsGetAnswer round.config round.exchange.before (Objects (uuid_text target.collection)) done.query round.exchange.answer
+    reading = subst (λ (route : Route). IsGetAnswer round.config round.exchange.before route done.query round.exchange.answer) route_is does.0
 
     fetch : IsFetch (wanted_after target done.query.added_after) next round
     fetch = record {
@@ -132,5 +132,5 @@ understood laws target next round own told answered goes = record {
         asks = inl (uuid_text target.collection, reading.0, route_is, reading.1, names_number laws target.collection round.config.collections reading.0 own.collection answered.numbers reading.1, refl, refl);
       };
       alike = asks_alike target.limit target.since next done.query asked;
-      next_sent = ap (values_of (name_of Next)) pairs ∙ next_values target.limit target.since next;
+      next_sent = ap (parameter_values (param_name Next)) pairs ∙ next_values target.limit target.since next;
     }

@@ -6,9 +6,9 @@ use Rattle.http_messages.specs.declared.status.Status.TheVariants.{Okay}
 use Rattle.taxii_exchange.specs.declared.answer.Answer.{Answer}
 use Rattle.taxii_routes.specs.declared.param.Param.TheVariants.{Next}
 use Rattle.taxii_routes.specs.declared.query.Query.{Query}
-use Rattle.taxii_routes.specs.Param.{name_of}
-use Rattle.taxii_routes.specs.Query.{pairs_of, values_of, AskFor}
-use Rattle.taxii_routes.specs.Value.{IsNext}
+use Rattle.taxii_routes.specs.Param.{param_name}
+use Rattle.taxii_routes.specs.Query.{pairs_of, parameter_values, AskFor}
+use Rattle.taxii_routes.specs.Value.{IsNextCursor}
 use Rattle.taxii_rows.specs.declared.stored_row.StoredRow.{StoredRow}
 use Rattle.taxii_rows.specs.declared.stored_row.TheConstants.{LAST_DATE}
 use Rattle.taxii_rows.specs.StoreState.{StoreState}
@@ -21,7 +21,7 @@ use Rattle.taxii_store.specs.Walk.{Stop, Wanted, IsStop, GoesFrom, last_date}
 use Rattle.taxii_service.specs.Exchanges.{Exchange, IsExchange}
 use Rattle.taxii_service.specs.Visits.{AsksForAll, AsksForOne, Asks, answer_at}
 use Rattle.taxii_theorems.specs.Runs.{Round}
-use Rattle.taxii_theorems.specs.Following.{GivesNext, EndsPaging, sent, IsFetch, FetchFrom}
+use Rattle.taxii_theorems.specs.Following.{GivesNextCursor, EndsPaging, sent, IsFetch, FetchFrom}
 use Rattle.taxii_theorems.proofs.ChainLemmas.{IsOrdered, IsReady, Chain, found}
 use Rattle.taxii_theorems.proofs.NextLemmas.{told_next, told_no_more, next_is_last, last_within, no_more}
 
@@ -32,20 +32,20 @@ ArePaged = (config : Config) (e : Exchange) (collection : ℕ) (only : Option Id
 
 -- the digits of a date are read as that date
 abbrev pub ReadBack : Type 0
-ReadBack = (date : ℕ) → date < 2 ^ 64 → IsNext (next_text date) date
+ReadBack = (date : ℕ) → date < 2 ^ 64 → IsNextCursor (next_text date) date
 
 -- ---- what was sent
 
 -- a client that sends nothing, or the digits of a date, asks for what comes after that date
 abbrev pub Means : Option (List ℕ) → Option ℕ → Type 0
 Means None date = date ≡ None
-Means (Some text) date = (its : ℕ) × (date ≡ Some its) × IsNext text its
+Means (Some text) date = (its : ℕ) × (date ≡ Some its) × IsNextCursor text its
 
 asked_next : (next : Option (List ℕ)) (values : List (List ℕ)) (parsed : Option ℕ) → values ≡ sent next → AskFor Next values parsed → Means next parsed
 asked_next None values parsed same asks = subst (λ (its : List (List ℕ)). AskFor Next its parsed) same asks
 asked_next (Some text) values parsed same asks = one parsed (subst (λ (its : List (List ℕ)). AskFor Next its parsed) same asks)
   where
-    one : (parsed : Option ℕ) → IsSomeAnd parsed (λ date. IsNext text date) → Means (Some text) parsed
+    one : (parsed : Option ℕ) → IsSomeAnd parsed (λ date. IsNextCursor text date) → Means (Some text) parsed
     one None none = absurd none
     one (Some date) is = (date, refl, is)
 
@@ -70,7 +70,7 @@ continues : (wanted : Wanted) (next : Option (List ℕ)) (date : Option ℕ) (ro
 continues wanted next date round fetch means =
     query_next wanted next round fetch
     ∙ one_meaning next fetch.asks.parsed.next date
-    (asked_next next (values_of (name_of Next) (pairs_of (unwrap_or fetch.asks.text []))) fetch.asks.parsed.next fetch.next_sent (fetch.asks.query_is Next)) means
+    (asked_next next (parameter_values (param_name Next) (pairs_of (unwrap_or fetch.asks.text []))) fetch.asks.parsed.next fetch.next_sent (fetch.asks.query_is Next)) means
 
 -- ---- one fetch
 
@@ -123,7 +123,7 @@ ordered_within wanted next round stop date its ready last =
 
 -- the text that was told is that of the date
 is_visible_token : ReadBack → (wanted : Wanted) (next : Option ℕ) (round : Round) (stop : Stop) (told : List ℕ) → IsStopOf wanted next round stop → IsReady round
-    → GivesNext round.exchange.answer told → (date : ℕ) × IsVisibleToken stop told (Some date)
+    → GivesNextCursor round.exchange.answer told → (date : ℕ) × IsVisibleToken stop told (Some date)
 is_visible_token read_back wanted next round stop told its ready (long, rest, body) =
     let within = λ (date : ℕ) (is : next_of stop.page stop.more ≡ Some date).
     ordered_within wanted next round stop date its ready (next_is_last stop.page stop.more date is).1 in
@@ -135,7 +135,7 @@ is_visible_token read_back wanted next round stop told its ready (long, rest, bo
       record {
         more = last.0;
         last = last.1;
-        means = (text.0, refl, subst (λ (letters : List ℕ). IsNext letters text.0) (sym text.2) (back text.0 text.1));
+        means = (text.0, refl, subst (λ (letters : List ℕ). IsNextCursor letters text.0) (sym text.2) (back text.0 text.1));
       },
     )
 

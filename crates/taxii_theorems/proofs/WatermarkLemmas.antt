@@ -9,19 +9,19 @@ use Rattle.taxii_routes.specs.declared.route.Route.{Route}
 use Rattle.taxii_rows.specs.declared.stored_row.StoredRow.{StoredRow}
 use Rattle.taxii_rows.specs.declared.stored_row.TheConstants.{LAST_DATE}
 use Rattle.taxii_rows.specs.declared.described.Described.{Described}
-use Rattle.taxii_rows.specs.Described.{row_of}
+use Rattle.taxii_rows.specs.Described.{stored_row_of}
 use Rattle.taxii_index.specs.Presence.{duplicate_of}
 use Rattle.taxii_store.specs.declared.add_outcome.AddOutcome.{AddOutcome}
 use Rattle.taxii_store.specs.declared.add_outcome.AddOutcome.TheVariants.{Added, Present}
-use Rattle.taxii_store.specs.Addition.{Adds, first_date, watermark_after}
+use Rattle.taxii_store.specs.Addition.{AddsObjects, first_date, watermark_after}
 use Rattle.taxii_exchange.specs.declared.config.Config.{Config}
 use Rattle.taxii_service.specs.declared.state.State.{State}
 use Rattle.taxii_service.specs.Step.{Posts, Deletes, Does, RouteStep, Step}
-use Rattle.taxii_service.specs.Exchanges.{Course, Stepped, KeeperFailed, OutOfMemory, Exchange, Runs, IsExchange}
+use Rattle.taxii_service.specs.Exchanges.{Course, Stepped, KeeperFailed, OutOfMemory, Exchange, RunsExchange, IsExchange}
 
 -- the last of the new rows is within the last date that there is
 adds_within : (most watermark collection date : ℕ) (rows : List StoredRow) (objects : List Described) (outcomes : List AddOutcome) (new : List StoredRow)
-    → watermark ≤ most → date + length new ≤ most + 1 → Adds collection date rows objects outcomes new → watermark_after watermark new ≤ most
+    → watermark ≤ most → date + length new ≤ most + 1 → AddsObjects collection date rows objects outcomes new → watermark_after watermark new ≤ most
 adds_within most watermark collection date rows [] outcomes new low few adds =
     subst (λ (its : List StoredRow). watermark_after watermark its ≤ most) (sym adds.1) low
 adds_within most watermark collection date rows (object ∷ objects) outcomes new low few adds = next (duplicate_of collection object rows) adds
@@ -29,15 +29,15 @@ adds_within most watermark collection date rows (object ∷ objects) outcomes ne
     (λ others more less. adds_within most date collection (date + 1) (rows ++ row ∷ []) objects others more (omega (arith, less)) (omega (arith, less)))
   where
     row : StoredRow
-    row = row_of object date collection
+    row = stored_row_of object date collection
 
     next : (found : Option StoredRow)
         → MatchOption found
         ((others : List AddOutcome) × (more : List StoredRow)
-        × (outcomes ≡ Added date ∷ others) × (new ≡ row ∷ more) × Adds collection (date + 1) (rows ++ row ∷ []) objects others more)
-        (λ held. (others : List AddOutcome) × (outcomes ≡ Present held.date ∷ others) × Adds collection date rows objects others new)
-        → ((others : List AddOutcome) → Adds collection date rows objects others new → watermark_after watermark new ≤ most)
-        → ((others : List AddOutcome) (more : List StoredRow) → date + length (row ∷ more) ≤ most + 1 → Adds collection (date + 1) (rows ++ row ∷ []) objects others more
+        × (outcomes ≡ Added date ∷ others) × (new ≡ row ∷ more) × AddsObjects collection (date + 1) (rows ++ row ∷ []) objects others more)
+        (λ held. (others : List AddOutcome) × (outcomes ≡ Present held.date ∷ others) × AddsObjects collection date rows objects others new)
+        → ((others : List AddOutcome) → AddsObjects collection date rows objects others new → watermark_after watermark new ≤ most)
+        → ((others : List AddOutcome) (more : List StoredRow) → date + length (row ∷ more) ≤ most + 1 → AddsObjects collection (date + 1) (rows ++ row ∷ []) objects others more
         → watermark_after date more ≤ most)
         → watermark_after watermark new ≤ most
     next (Some held) (others, out_is, it) again behind = again others it
@@ -85,7 +85,7 @@ stepped config before moment request answer after step within = elim step.outcom
   | inr found ↦ routed config before moment request found.0 (unwrap_or step.query []) answer after found.2 within
 ]
 
-runs : (config : Config) (e : Exchange) (course : Course) → Runs course config e → IsWithin e.before → IsWithin e.after
+runs : (config : Config) (e : Exchange) (course : Course) → RunsExchange course config e → IsWithin e.before → IsWithin e.after
 runs config e Stepped step = stepped config e.before e.moment e.request e.answer e.after step
 runs config e KeeperFailed fails = unchanged e.before e.after fails.unchanged
 runs config e OutOfMemory wants = unchanged e.before e.after wants.1

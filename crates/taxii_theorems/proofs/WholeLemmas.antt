@@ -11,10 +11,10 @@ use Rattle.taxii_routes.specs.Query.{pairs_of, IsQueryOf}
 use Rattle.taxii_exchange.specs.declared.config.Config.{Config}
 use Rattle.taxii_exchange.specs.declared.refusal.Refusal.{Refusal}
 use Rattle.taxii_exchange.specs.declared.rights.Rights.{Rights}
-use Rattle.taxii_exchange.specs.Checking.{IsFit, IsRefusedFor}
+use Rattle.taxii_exchange.specs.Checking.{IsFit, IsRefusedByCheck}
 use Rattle.taxii_service.specs.Finding.{allowed_of}
 use Rattle.taxii_service.specs.declared.state.State.{State}
-use Rattle.taxii_service.specs.Step.{Does, CannotDo, IsRefused, IsDone, IsAnswerTo, RouteStep, Step}
+use Rattle.taxii_service.specs.Step.{Does, CannotDo, IsRefusedResource, IsDone, IsAnswerTo, RouteStep, Step}
 use Rattle.taxii_store.specs.History.{IsDated}
 use Rattle.taxii_service.specs.Exchanges.{Exchange, Stepped, IsExchange, HasServed}
 use Rattle.taxii_theorems.proofs.ReadingLemmas.{one_reading, one_set_of_rights}
@@ -57,7 +57,7 @@ does_or_cannot entries config before after moment request route query Other answ
 
 -- with the rights that are found
 abbrev IsStored : Config → State → ℕ → Request → Route → List ℕ → Rights → Refusal → Type 0
-IsStored config before moment request route text rights refusal = IsRefusedFor (allowed_of route) rights request text refusal
+IsStored config before moment request route text rights refusal = IsRefusedByCheck (allowed_of route) rights request text refusal
     ⊎ ((query : Query) × IsFit (allowed_of route) rights request × IsQueryOf (pairs_of text) query × CannotDo config before moment request route request.method refusal)
 
 one_stands : Laws → (config : Config) (before : State) (moment : ℕ) (request : Request) (route : Route) (text : List ℕ) (rights : Rights) (first second : Refusal)
@@ -72,7 +72,7 @@ one_stands laws config before moment request route text rights first second (inr
     one_cannot config before moment request route request.method first second cannot cannot_too
 
 one_refused : Laws → (config : Config) (before : State) (moment : ℕ) (request : Request) (route : Route) (text : List ℕ) (first second : Refusal)
-    → IsRefused config before moment request route text first → IsRefused config before moment request route text second → first ≡ second
+    → IsRefusedResource config before moment request route text first → IsRefusedResource config before moment request route text second → first ≡ second
 one_refused laws config before moment request route text first second (inl its) (inl also) = its.1 ∙ sym also.1
 one_refused laws config before moment request route text first second (inl its) (inr (rights, found, stands)) = absurd (its.0 rights found)
 one_refused laws config before moment request route text first second (inr (rights, found, stands)) (inl also) = absurd (also.0 rights found)
@@ -90,7 +90,7 @@ stands_or_done laws entries config before after moment request route text rights
     does_or_cannot entries config before after moment request route query request.method answer refusal does cannot
 
 refused_or_done : Laws → Entries → (config : Config) (before after : State) (moment : ℕ) (request : Request) (route : Route) (text : List ℕ) (answer : Answer) (refusal : Refusal)
-    → IsDone config before moment request route text answer after → IsRefused config before moment request route text refusal → ⊥
+    → IsDone config before moment request route text answer after → IsRefusedResource config before moment request route text refusal → ⊥
 refused_or_done laws entries config before after moment request route text answer refusal done (inl none) = none.0 done.rights done.found
 refused_or_done laws entries config before after moment request route text answer refusal done (inr (rights, found, stands)) =
     let same : rights ≡ done.rights = one_set_of_rights config.collections before route rights done.rights found done.found in

@@ -7,7 +7,7 @@ use Rattle.taxii_routes.specs.declared.query.Query.{Query}
 use Rattle.taxii_store.specs.Walk.{Wanted}
 use Rattle.taxii_theorems.specs.Runs.{Round}
 use Rattle.taxii_theorems.specs.Following.{IsFetch}
-use Rattle.stix_times.specs.Reading.{IsTextOf}
+use Rattle.stix_times.specs.Reading.{IsTextOfInstant}
 use Rattle.taxii_client.specs.Requests.{request_of}
 use Rattle.taxii_client.specs.declared.target.Target.{Target}
 
@@ -46,7 +46,7 @@ pub record IsAnswered (target : Target) (next : Option (List ℕ)) (round : Roun
 -- the instant of a time, if any
 abbrev pub IsInstantOf : Option (List ℕ) → Option ℤ → Type 0
 IsInstantOf None instant = instant ≡ None
-IsInstantOf (Some time) instant = IsSomeAnd instant (λ its. IsTextOf time its)
+IsInstantOf (Some time) instant = IsSomeAnd instant (λ its. IsTextOfInstant time its)
 
 -- the round is a fetch of all versions that the client requests since its time, with the `next`
 -- that it sends

@@ -7,8 +7,8 @@ use Rattle.http_messages.specs.declared.status.Status.TheVariants.{Okay}
 use Rattle.taxii_exchange.specs.declared.answer.Answer.{Answer}
 use Rattle.taxii_routes.specs.declared.param.Param.TheVariants.{Next}
 use Rattle.taxii_routes.specs.declared.query.Query.{Query}
-use Rattle.taxii_routes.specs.Param.{name_of}
-use Rattle.taxii_routes.specs.Query.{pairs_of, values_of}
+use Rattle.taxii_routes.specs.Param.{param_name}
+use Rattle.taxii_routes.specs.Query.{pairs_of, parameter_values}
 use Rattle.taxii_rows.specs.declared.stored_row.StoredRow.{StoredRow}
 use Rattle.taxii_rows.specs.StoreState.{dates_of, AscendFrom}
 use Rattle.taxii_store.specs.Walk.{Stop, Wanted, AsksAlike, IsWalk, IsWanted, rows_given, last_state}
@@ -16,8 +16,8 @@ use Rattle.taxii_service.specs.Visits.{Asks, answer_at}
 use Rattle.taxii_theorems.specs.Runs.{Round}
 
 -- the body says that more follow, with this cursor of 16 characters
-abbrev pub GivesNext : Answer → List ℕ → Type 0
-GivesNext answer next = (length next ≡ 16) × (rest : List ℕ) × (answer.body ≡ Some (codes "{\"more\":true,\"next\":\"" ++ (next ++ rest)))
+abbrev pub GivesNextCursor : Answer → List ℕ → Type 0
+GivesNextCursor answer next = (length next ≡ 16) × (rest : List ℕ) × (answer.body ≡ Some (codes "{\"more\":true,\"next\":\"" ++ (next ++ rest)))
 
 -- the body says that no more follow
 abbrev pub EndsPaging : Answer → Type 0
@@ -34,24 +34,24 @@ pub record IsFetch (wanted : Wanted) (next : Option (List ℕ)) (round : Round) 
   pub query : Query
   pub asks : Asks round.config round.exchange.request wanted.collection wanted.only query
   pub alike : AsksAlike wanted.query query
-  pub next_sent : values_of (name_of Next) (pairs_of (unwrap_or asks.text [])) ≡ sent next
+  pub next_sent : parameter_values (param_name Next) (pairs_of (unwrap_or asks.text [])) ≡ sent next
 
 -- the rounds are fetches, the first with this `next`, each other one with the `next` of the
 -- response before; the last response says that no more follow
 abbrev pub FetchFrom : Wanted → Option (List ℕ) → Round → List Round → Type 0
 FetchFrom wanted next round [] = IsFetch wanted next round × EndsPaging round.exchange.answer
 FetchFrom wanted next round (other ∷ rounds) =
-    IsFetch wanted next round × (told : List ℕ) × GivesNext round.exchange.answer told × FetchFrom wanted (Some told) other rounds
+    IsFetch wanted next round × (told : List ℕ) × GivesNextCursor round.exchange.answer told × FetchFrom wanted (Some told) other rounds
 
 -- the first are some of the second, in their order
-abbrev pub Among : List Round → List Round → Type 0
-Among [] rounds = ⊤
-Among (round ∷ some) [] = ⊥
-Among (round ∷ some) (first ∷ rounds) = ((round ≡ first) × Among some rounds) ⊎ Among (round ∷ some) rounds
+abbrev pub AreAmongRounds : List Round → List Round → Type 0
+AreAmongRounds [] rounds = ⊤
+AreAmongRounds (round ∷ some) [] = ⊥
+AreAmongRounds (round ∷ some) (first ∷ rounds) = ((round ≡ first) × AreAmongRounds some rounds) ⊎ AreAmongRounds (round ∷ some) rounds
 
 -- a client followed `next` among the rounds of a server
 pub record HasFollowed (wanted : Wanted) (rounds : List Round) (first : Round) (others : List Round) : Type 0 where
-  pub among : Among (first ∷ others) rounds
+  pub among : AreAmongRounds (first ∷ others) rounds
   pub start : wanted.query.next ≡ None
   pub fetches : FetchFrom wanted None first others
 

@@ -16,11 +16,11 @@ ghost use Rattle.taxii_bodies.specs.Envelope.{envelope_text};
 ghost use Rattle.taxii_store.specs.History.{IsDated};
 ghost use Rattle.taxii_service.specs.Exchanges.{IsExchange};
 ghost use Rattle.taxii_theorems.specs.Runs.{Run, Round, Continue, rounds_of};
-ghost use Rattle.taxii_client.specs.Environment.{LinkView};
+ghost use Rattle.taxii_client.specs.Environment.{ClientLinkView};
 ghost use Rattle.taxii_client.specs.Pulls.{Page, IsPull};
 ghost use Rattle.taxii_client.specs.declared.target.Target.{Target};
 ghost use Rattle.taxii_client.specs.declared.cursor.Cursor.TheVariants.{Over};
-ghost use Rattle.taxii_theorems.specs.Reading.{IsReadAs};
+ghost use Rattle.taxii_theorems.specs.Reading.{IsPageReadAs};
 ghost use Rattle.taxii_theorems.specs.Asking.{IsServersOwn, IsVisibleToken, IsAnswered};
 ghost use Rattle.taxii_theorems.specs.Asking.{IsUnderstood, IsInstantOf, wanted_after};
 ghost use Rattle.taxii_theorems.specs.Pulling.{AreServed, WritesEachRow};
@@ -47,7 +47,7 @@ pub fn answers_are_replies()
 /// page.
 pub fn pages_are_read_back()
     ensures { (rows : List StoredRow) (more : Bool) (envelope : Envelope) → All IsSoundRow rows
-        → IsEnvelopeOf (envelope_text rows more) envelope → IsReadAs rows more envelope }
+        → IsEnvelopeOf (envelope_text rows more) envelope → IsPageReadAs rows more envelope }
 {
     envelopes_are_json();
 }
@@ -71,7 +71,7 @@ pub fn requests_are_understood()
 /// pages, and over restarts.
 pub fn pulls_skip_no_row<D: Dial>()
     ensures { (view : D.Link
-        → LinkView) (target : Target) (instant : Option ℤ) (pages : List (Page D.Link))
+        → ClientLinkView) (target : Target) (instant : Option ℤ) (pages : List (Page D.Link))
         (store after : StoreState) (runs : List Run) (rounds : List Round)
         → IsDated store → store.watermark ≤ LAST_DATE → Continue store runs after
         → IsPull view target pages Over

@@ -14,5 +14,5 @@ earliest_if_full n [] = None
 earliest_if_full n (row ∷ rows) = if nat_lt (length (row ∷ rows)) n then None else Some row.first
 
 -- n rows are kept, and they and the row with these times began less than x seconds before its end
-abbrev pub IsReached : ℕ → ℕ → List MatchingRow → ℤ → ℤ → Type 0
-IsReached n x kept first last = IsSomeAnd (earliest_if_full n kept) (λ e. last <ℤ later_by x e) × (last <ℤ later_by x first)
+abbrev pub IsCountReached : ℕ → ℕ → List MatchingRow → ℤ → ℤ → Type 0
+IsCountReached n x kept first last = IsSomeAnd (earliest_if_full n kept) (λ e. last <ℤ later_by x e) × (last <ℤ later_by x first)

@@ -11,7 +11,7 @@ use Rattle.match_bindings.specs.Log.{IsInOrder}
 use Rattle.match_input.specs.Reading.{BundleOf}
 use Rattle.match_run.specs.Entries.{AreEntriesOf}
 use Rattle.alert_window.specs.Alert.{IsAlert}
-use Rattle.alert_window.specs.WatchState.{WatchState, Represents}
+use Rattle.alert_window.specs.WatchState.{WatchState, WatchRepresents}
 use Rattle.match_run.specs.Buffered.{IsBuffered}
 use Rattle.command_alerts.specs.Alerts.{ReportsRows}
 use Rattle.command_alerts.specs.Tasks.{IsOneLeaf}
@@ -23,18 +23,18 @@ pub record AlerterState : Type 0 where
 
 -- a watch represents a log, whose rows are in order
 pub record IsBehind (watch : WatchState) (log : List LogEntry) : Type 0 where
-  pub represents : Represents watch log
+  pub represents : WatchRepresents watch log
   pub order : IsInOrder log
 
 -- the pattern is one observation expression, and the watch represents some log
-pub record IsReady (alerter : AlerterState) : Type 0 where
+pub record IsReadyAlerter (alerter : AlerterState) : Type 0 where
   pub sound : IsSoundPattern (plain_pattern alerter.pattern)
   pub one : IsOneLeaf alerter.pattern
   pub log : List LogEntry
   pub behind : IsBehind alerter.watch log
 
-abbrev pub row_of : Observation → Bool → LogEntry
-row_of o holds = record { first = o.first; last = o.last; truths = holds ∷ [] }
+abbrev pub alert_row : Observation → Bool → LogEntry
+alert_row o holds = record { first = o.first; last = o.last; truths = holds ∷ [] }
 
 -- these rows followed a log, and this text was reported for them
 pub record ReportsBehind (n x : ℕ) (log rows : List LogEntry) (watch : WatchState) (text : List ℕ) : Type 0 where
@@ -42,7 +42,7 @@ pub record ReportsBehind (n x : ℕ) (log rows : List LogEntry) (watch : WatchSt
   pub reports : ReportsRows (IsAlert n x (log ++ rows)) (length log + 1) rows text
 
 -- after any log
-pub record TakesRows (rows : List LogEntry) (before after : AlerterState) (text : List ℕ) : Type 0 where
+pub record TakesLogRows (rows : List LogEntry) (before after : AlerterState) (text : List ℕ) : Type 0 where
   pub pattern_is : after.pattern ≡ before.pattern
   pub n_is : after.watch.n ≡ before.watch.n
   pub x_is : after.watch.x ≡ before.watch.x
@@ -52,11 +52,11 @@ pub record TakesRows (rows : List LogEntry) (before after : AlerterState) (text 
 pub record Sees (objects : List Data) (observations : List Observation) (before after : AlerterState) (text : List ℕ) : Type 0 where
   pub rows : List LogEntry
   pub entries : AreEntriesOf (plain_pattern before.pattern) objects observations rows
-  pub takes : TakesRows rows before after text
+  pub takes : TakesLogRows rows before after text
 
 -- a bundle was seen
-abbrev pub SeesBundle : AlerterState → BundleOf → AlerterState → List ℕ → Type 0
-SeesBundle before bundle after text = Sees bundle.objects bundle.observations before after text
+abbrev pub AlerterSeesBundle : AlerterState → BundleOf → AlerterState → List ℕ → Type 0
+AlerterSeesBundle before bundle after text = Sees bundle.objects bundle.observations before after text
 
 -- this text is reported of the first of some observations
 pub record SeesFirst (objects : List Data) (observations : List Observation) (before : AlerterState) (text : List ℕ) : Type 0 where
@@ -67,8 +67,8 @@ pub record SeesFirst (objects : List Data) (observations : List Observation) (be
   pub sees : Sees objects seen before after text
 
 -- of those of a bundle
-abbrev pub BeginsBundle : AlerterState → BundleOf → List ℕ → Type 0
-BeginsBundle before bundle text = SeesFirst bundle.objects bundle.observations before text
+abbrev pub SeesFirstOfBundle : AlerterState → BundleOf → List ℕ → Type 0
+SeesFirstOfBundle before bundle text = SeesFirst bundle.objects bundle.observations before text
 
 -- of the text reported for them a part is written, and the rest is pending
 pub record SeesSoFar (objects : List Data) (observations : List Observation) (before after : AlerterState) (pending : List ℕ)

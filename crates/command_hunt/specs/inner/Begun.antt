@@ -13,14 +13,14 @@ use Rattle.hunt_feed.specs.declared.hunted.Hunted.{Hunted}
 use Rattle.hunt_feed.specs.declared.hunted.Hunt.{Hunt}
 use Rattle.hunt_feed.specs.Indicators.{IsHuntOf}
 use Rattle.hunt_engine.specs.declared.found.Hit.{Hit}
-use Rattle.hunt_engine.specs.EngineLog.{Row}
+use Rattle.hunt_engine.specs.EngineLog.{ObservationRow}
 use Rattle.hunt_report.specs.declared.over_limit.OverLimit.{OverLimit}
-use Rattle.hunt_report.specs.Lines.{skipped_text}
+use Rattle.hunt_report.specs.Lines.{skipped_lines}
 use Rattle.hunt_report.specs.HitSummaries.{IsReport, IsReportText}
 use Rattle.command_hunt.specs.Tasks.{HuntTask}
 
 -- nothing was read
-pub record IsUnread (before : Streams) (left began : Option (List ℕ)) : Type 0 where
+pub record IsUnreadInput (before : Streams) (left began : Option (List ℕ)) : Type 0 where
   pub left_is : left ≡ before.left
   pub began_is : began ≡ before.began
 
@@ -34,10 +34,10 @@ pub record HasSkipped (task : HuntTask) (before : Streams) (feed : List Data) (h
   pub hunt : Hunt
   pub hunt_is : IsHuntOf feed task.moment hunt
   pub hunted_is : hunted ≡ hunt.hunted
-  pub written_is : written ≡ written_with (skipped_text hunt.skipped) before.written
+  pub written_is : written ≡ written_with (skipped_lines hunt.skipped) before.written
 
 -- what the end of a report says of what was written
-abbrev pub Reports : ℤ → List Row → List Hit → List Hunted → Option (List ℕ) → Option (List ℕ) → WatchEnd OverLimit → Type 0
+abbrev pub Reports : ℤ → List ObservationRow → List Hit → List Hunted → Option (List ℕ) → Option (List ℕ) → WatchEnd OverLimit → Type 0
 Reports moment rows hits hunted before now Done = (text : List ℕ) × IsReport moment rows hits hunted text × (now ≡ written_with text before)
 Reports moment rows hits hunted before now WriteFault = (text : List ℕ) × IsReportText moment rows hits hunted text × WritesPrefix text before now
 Reports moment rows hits hunted before now NoMemory = (text : List ℕ) × IsReportText moment rows hits hunted text × WritesPrefix text before now

@@ -11,7 +11,7 @@ use Rattle.command_line.specs.CommandLines.{match_options, no_options, serve_opt
 use Rattle.command_line.specs.declared.serve.TheConstants.{COLLECTION_NAMES}
 
 -- a command: its name, its options, its positional arguments, and whether these are required
-pub record Form : Type 0 where
+pub record CommandForm : Type 0 where
   pub name : List ℕ
   pub options : Options
   pub positions : List (List ℕ)
@@ -33,7 +33,7 @@ position_rule needed name = record (new_rule name) { required = needed }
 abbrev pub free_rules : List (List ℕ) → List Rule
 free_rules names = map (position_rule false) names
 
-abbrev pub rules_of_form : Form → List Rule
+abbrev pub rules_of_form : CommandForm → List Rule
 rules_of_form form = map flag_rule form.options.flags ++ (map option_rule form.options.valued ++ map (position_rule form.needs_all) form.positions)
 
 -- a command with this name and these rules
@@ -41,7 +41,7 @@ abbrev pub app_with : List ℕ → List Rule → App
 app_with name rules = record { top = record (new_shape name) { rules = rules }; subs = [] }
 
 -- the command as `clap` has it
-abbrev pub command_of : Form → App
+abbrev pub command_of : CommandForm → App
 command_of form = app_with form.name (rules_of_form form)
 
 -- the option or positional argument has the rule, and is not global
@@ -62,30 +62,30 @@ without_extras shape = record shape {
   subcommand_required = true;
 }
 
-abbrev pub match_form : Form
+abbrev pub match_form : CommandForm
 match_form = record { name = codes "match"; options = match_options; positions = codes "pattern" ∷ []; needs_all = true }
 
-abbrev pub check_form : Form
+abbrev pub check_form : CommandForm
 check_form = record { name = codes "check"; options = no_options; positions = []; needs_all = true }
 
-abbrev pub show_form : Form
+abbrev pub show_form : CommandForm
 show_form = record { name = codes "show"; options = no_options; positions = codes "pattern" ∷ []; needs_all = true }
 
-abbrev pub make_form : Form
+abbrev pub make_form : CommandForm
 make_form = record { name = codes "make"; options = no_options; positions = codes "seed" ∷ codes "count" ∷ []; needs_all = true }
 
 -- the positional arguments of `serve`: a collection each
 abbrev pub collection_names : List (List ℕ)
 collection_names = map (λ name. name.now) COLLECTION_NAMES
 
-abbrev pub serve_form : Form
+abbrev pub serve_form : CommandForm
 serve_form = record { name = codes "serve"; options = serve_options; positions = collection_names; needs_all = false }
 
 -- the program with no command yet
 abbrev pub bare_app : App
 bare_app = on_top without_extras (new_app (codes "stix_command"))
 
-abbrev pub with_form : App → Form → App
+abbrev pub with_form : App → CommandForm → App
 with_form app form = with_subcommand app (command_of form).top
 
 -- the program with its commands

@@ -9,8 +9,8 @@ use Rattle.command_line.specs.declared.numbers.TheConstants.{DEFAULT_RETAINED_LI
 use Rattle.command_line.specs.inner.Forms.{collection_names}
 
 -- the rows that a parse found
-abbrev pub rows_in : ArgMatches → List Row
-rows_in matches = rows_of (found_of matches)
+abbrev pub parsed_rows : ArgMatches → List Row
+parsed_rows matches = rows_of (found_of matches)
 
 -- a flag's text says whether it was given
 abbrev pub IsFlagText : Option (List ℕ) → Bool → Type 0
@@ -22,9 +22,9 @@ IsRetainedLimitText None retained_limit = retained_limit ≡ DEFAULT_RETAINED_LI
 IsRetainedLimitText (Some text) retained_limit = IsNumberIn 1 MAX_RETAINED_LIMIT text retained_limit
 
 -- a number of a text that is there
-abbrev pub IsNumberText : ℕ → ℕ → Option (List ℕ) → ℕ → Type 0
-IsNumberText least most None number = ⊥
-IsNumberText least most (Some text) number = IsNumberIn least most text number
+abbrev pub IsPresentNumberText : ℕ → ℕ → Option (List ℕ) → ℕ → Type 0
+IsPresentNumberText least most None number = ⊥
+IsPresentNumberText least most (Some text) number = IsNumberIn least most text number
 
 pub record IsMatchIn (rows : List Row) (whole : Bool) (retained_limit : ℕ) (pattern : List ℕ) : Type 0 where
   pub whole_is : IsFlagText (one_of (codes "whole") rows) whole
@@ -32,8 +32,8 @@ pub record IsMatchIn (rows : List Row) (whole : Bool) (retained_limit : ℕ) (pa
   pub pattern_is : first_of (codes "pattern") rows ≡ Some pattern
 
 pub record IsMakeIn (rows : List Row) (seed count : ℕ) : Type 0 where
-  pub seed_is : IsNumberText 0 MAX_SEED (first_of (codes "seed") rows) seed
-  pub count_is : IsNumberText 1 MAX_COUNT (first_of (codes "count") rows) count
+  pub seed_is : IsPresentNumberText 0 MAX_SEED (first_of (codes "seed") rows) seed
+  pub count_is : IsPresentNumberText 1 MAX_COUNT (first_of (codes "count") rows) count
 
 -- a well-formed text, or none
 abbrev pub IsTextOrNone : (List ℕ → Type 0) → Option (List ℕ) → Option (List ℕ) → Type 0
@@ -51,8 +51,8 @@ arguments_at [] rows = []
 arguments_at (name ∷ names) rows = with_argument (first_of name rows) (arguments_at names rows)
 
 pub record IsServeIn (rows : List Row) (service : PlainService) : Type 0 where
-  pub port_is : IsNumberText 1 MAX_PORT (first_of (codes "port") rows) service.port
-  pub connections_is : IsNumberText 1 MAX_CONNECTIONS (first_of (codes "connections") rows) service.connections
+  pub port_is : IsPresentNumberText 1 MAX_PORT (first_of (codes "port") rows) service.port
+  pub connections_is : IsPresentNumberText 1 MAX_CONNECTIONS (first_of (codes "connections") rows) service.connections
   pub store_is : IsTextOrNone IsFile (first_of (codes "store") rows) service.store
   pub base_is : IsTextOrNone IsBase (first_of (codes "base") rows) service.base
   pub collections_are : AreCollectionsOf (arguments_at collection_names rows) service.collections

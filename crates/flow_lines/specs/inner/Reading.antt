@@ -2,7 +2,7 @@
 use Rattle.std.specs.Prelude.{Bool, true, ◌≡◌, ◌<◌, ◌≤◌, ⊤, ℕ, ◌+◌, length, List, [], ◌∷◌, ◌++◌, true, false, Option, Some, None, option_map, IfSome, MatchBool}
 use Rattle.flow_edges.specs.declared.source.TheConstants.{MAX_READ}
 use Rattle.flow_lines.specs.declared.refusal.TheConstants.{MAX_LINE, MAX_INPUT}
-use Rattle.flow_lines.specs.Lines.{NoLineFeed, RawLine, raw_lines, length_refusal, refusal_of, LinesState, unless_blank, lines_remaining, IsOfLine, GivesEnd, AccountsFor, RefusesLine, StopsInLine}
+use Rattle.flow_lines.specs.Lines.{NoLineFeed, RawLine, raw_lines, length_refusal, raw_line_refusal, LinesState, unless_blank, lines_remaining, IsOfLine, GivesEnd, AccountsFor, RefusesLine, StopsInLine}
 use Rattle.flow_lines.specs.declared.refusal.LineRefusal.{LineRefusal}
 use Rattle.flow_lines.specs.declared.refusal.LineRefusal.TheVariants.{Fault, LineTooLong, InputTooLong, NoMemory}
 use Rattle.flow_edges.specs.Flow.{IsAtEnd, IsNextOf, left_after as left_behind}
@@ -34,7 +34,7 @@ bytes_remaining line read_buffer left = option_map (λ bytes. line ++ (read_buff
 pub record ReadsToLineFeed (number offset : ℕ) (all left : Option (List ℕ)) (line read_buffer : List ℕ) : Type 0 where
   pub plain : NoLineFeed line
   pub bytes : all ≡ option_map (λ bytes. line ++ 10 ∷ (read_buffer ++ bytes)) left
-  pub fits : refusal_of number offset (record { bytes = line; terminated = true }) ≡ None
+  pub fits : raw_line_refusal number offset (record { bytes = line; terminated = true }) ≡ None
 
 -- the last line was read, which may be none, and it isn't refused
 pub record ReadsLast (number offset : ℕ) (all left : Option (List ℕ)) (line read_buffer : List ℕ) : Type 0 where
@@ -42,10 +42,10 @@ pub record ReadsLast (number offset : ℕ) (all left : Option (List ℕ)) (line 
   pub bytes : all ≡ bytes_remaining line [] left
   pub ended : IsAtEnd left
   pub drained : read_buffer ≡ []
-  pub fits : refusal_of number offset (record { bytes = line; terminated = false }) ≡ None
+  pub fits : raw_line_refusal number offset (record { bytes = line; terminated = false }) ≡ None
 
 -- the buffer contained the complete line
-pub record IsBuffered (read_buffer_old read_buffer_new line : List ℕ) (terminated : Bool) : Type 0 where
+pub record IsBufferedLine (read_buffer_old read_buffer_new line : List ℕ) (terminated : Bool) : Type 0 where
   pub whole : terminated ≡ true
   pub cut : read_buffer_old ≡ line ++ 10 ∷ read_buffer_new
 
@@ -72,7 +72,7 @@ pub record IsFirstRefused (number offset : ℕ) (refusal : LineRefusal) (bytes :
   pub first : RawLine
   pub later : List RawLine
   pub lines : raw_lines bytes ≡ first ∷ later
-  pub refused : refusal_of number offset first ≡ Some refusal
+  pub refused : raw_line_refusal number offset first ≡ Some refusal
 
 -- a line is refused for its length, or the input for its own
 abbrev pub IsForLength : LineRefusal → Type 0

@@ -7,7 +7,7 @@ abbrev pub before : List ℕ → Option (List ℕ) → Option (List ℕ)
 before bytes left = option_map (λ rest. bytes ++ rest) left
 
 -- after some turns, each of which took a byte at least
-pub record HasTaken (turns : ℕ) (bytes : List ℕ) (start left : Option (List ℕ)) (faults faults_now : ℕ) : Type 0 where
+pub record HasTakenBytes (turns : ℕ) (bytes : List ℕ) (start left : Option (List ℕ)) (faults faults_now : ℕ) : Type 0 where
   pub took : turns ≤ length bytes
   pub fits : length bytes ≤ MAX_WHOLE_INPUT
   pub all : start ≡ before bytes left

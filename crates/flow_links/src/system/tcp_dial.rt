@@ -1,7 +1,7 @@
 ghost use Rattle.std.specs.Prelude.{◌≡◌, ◌≤◌, None, length, IfOk, OnErr, IsErr};
 ghost use Rattle.flow_edges.specs.Faults.{Counted};
 ghost use Rattle.flow_links.specs.declared.dial.TheConstants.{MAX_HOST};
-ghost use Rattle.flow_links.specs.Dials.{Stays, Connects, Finishes};
+ghost use Rattle.flow_links.specs.Dials.{DialStays, Connects, FinishesDialedLink};
 ghost use Rattle.flow_links.specs.System.{StreamState};
 
 use super::Deadline;
@@ -91,7 +91,7 @@ impl<'r, R: Net + Timer> Dial for TcpDial<'r, R> {
     ) -> Result<TcpLink<DeadlineStream<'r, R::Stream, R>>, Fault>
         requires short { length host.now ≤ MAX_HOST }
         ensures ok { IfOk result (λ link. Connects {L = StreamState} link host.now port None None) }
-        ensures err { OnErr result (Stays {L = StreamState} None None) }
+        ensures err { OnErr result (DialStays {L = StreamState} None None) }
         ensures causes { Counted (IsErr result) self.old self.new }
 
         ensures fresh { IfOk result (λ link. (link.read_faults ≡ 0) × (link.write_faults ≡ 0)) }
@@ -104,7 +104,7 @@ impl<'r, R: Net + Timer> Dial for TcpDial<'r, R> {
 
     /// Closes the link.
     fn finish(&mut self, link: TcpLink<DeadlineStream<'r, R::Stream, R>>)
-        ensures back { Finishes {L = StreamState} link.entry None None }
+        ensures back { FinishesDialedLink {L = StreamState} link.entry None None }
         ensures quiet { self.new ≡ self.old }
     {
         drop(link);

@@ -1,6 +1,6 @@
 ghost use Rattle.std.specs.Prelude.{◌≡◌, ◌<◌, ◌≤◌, Some, None, IfOk, OnErr, IsSome, IsErr};
 ghost use Rattle.flow_edges.specs.Faults.{Counted};
-ghost use Rattle.flow_links.specs.Doors.{Stays, Listens, GivesNext, Finishes};
+ghost use Rattle.flow_links.specs.Doors.{DoorStays, Listens, GivesNext, Finishes};
 ghost use Rattle.flow_links.specs.declared.system.tcp_door.TheConstants.{MAX_LOST};
 ghost use Rattle.flow_links.specs.System.{StreamState, LosesCallers, loopback, address_of};
 
@@ -118,7 +118,7 @@ impl<'r, R: Net + Timer> Door for TcpDoor<'r, R> {
     /// Listens on the loopback address alone. Port 0 is none, and a `Fault`.
     fn listen(&mut self, port: u16) -> Result<(), Fault>
         ensures ok { IfOk result (λ _. Listens {L = StreamState} port None None) }
-        ensures err { OnErr result (Stays {L = StreamState} None None) }
+        ensures err { OnErr result (DoorStays {L = StreamState} None None) }
         ensures causes { Counted (IsErr result) self.old.faults self.new.faults }
 
         ensures address { IfOk result (λ _. self.new.address ≡ Some (loopback port)) }
@@ -137,7 +137,7 @@ impl<'r, R: Net + Timer> Door for TcpDoor<'r, R> {
     /// `None` only where `listen` wasn't called: a port never runs out of callers.
     fn next(&mut self) -> Result<Option<TcpLink<TimedStream<'r, R::Stream, R>>>, Fault>
         ensures ok { IfOk result (λ link. GivesNext {L = StreamState} link None None) }
-        ensures err { OnErr result (Stays {L = StreamState} None None) }
+        ensures err { OnErr result (DoorStays {L = StreamState} None None) }
         ensures causes { Counted (IsErr result) self.old.faults self.new.faults }
 
         // A listening port never runs out of clients.

@@ -7,8 +7,8 @@ use Rattle.http_messages.specs.declared.reply_refusal.HeadRefusal.TheVariants.{B
 use Rattle.http_messages.specs.declared.reply_end.ReplyEnd.{ReplyEnd}
 use Rattle.http_messages.specs.declared.reply_end.ReplyEnd.TheVariants.{Fault, Cut, Refused, NoMemory}
 use Rattle.http_messages.specs.declared.reply_checking.Checked.{Checked}
-use Rattle.http_messages.specs.ReplyHeads.{IsHead, HeadParts, body_length, refusal_of}
-use Rattle.http_messages.specs.Replies.{Announces, IsRefusedHead, IsLong, LacksHead, Takes}
+use Rattle.http_messages.specs.ReplyHeads.{IsHead, ReplyHeadParts, reply_body_length, reply_head_refusal}
+use Rattle.http_messages.specs.Replies.{Announces, IsRefusedHead, IsLong, LacksHead, TakesFromLink}
 
 -- the bytes taken while reading a head, by the result
 abbrev pub IsHeadTaken : List ℕ → List ℕ → Option (List ℕ) → Result ℕ ReplyEnd → Type 0
@@ -21,7 +21,7 @@ IsHeadTaken buffer taken now (Err NoMemory) = ⊥
 -- a head was read into the front of the buffer
 pub record ReadsHead (buffer : List ℕ) (left now : Option (List ℕ)) (answer : Result ℕ ReplyEnd) : Type 0 where
   pub taken : List ℕ
-  pub takes : Takes taken left now
+  pub takes : TakesFromLink taken left now
   pub answers : IsHeadTaken buffer taken now answer
 
 -- the bytes taken while reading a body of `count` bytes, by the result
@@ -35,7 +35,7 @@ IsBodyTaken count taken now (Err NoMemory) = length taken ≤ count
 -- a body was read
 pub record ReadsBody (count : ℕ) (left now : Option (List ℕ)) (answer : Result (List ℕ) ReplyEnd) : Type 0 where
   pub taken : List ℕ
-  pub takes : Takes taken left now
+  pub takes : TakesFromLink taken left now
   pub answers : IsBodyTaken count taken now answer
 
 -- the result of checking a head, from its refusal and its length
@@ -43,8 +43,8 @@ abbrev pub checked_by : Option HeadRefusal → ℕ → Checked
 checked_by (Some refusal) count = Checked.Refused refusal
 checked_by None count = Checked.Announces count
 
-abbrev pub refusal_or_length : HeadParts → Checked
-refusal_or_length h = checked_by (refusal_of h) (body_length h)
+abbrev pub refusal_or_length : ReplyHeadParts → Checked
+refusal_or_length h = checked_by (reply_head_refusal h) (reply_body_length h)
 
 -- the result of checking a head is correct
 abbrev pub ChecksHead : List ℕ → Checked → Type 0

@@ -7,7 +7,7 @@ use Rattle.httparse.specs.Grammar.{ResponseHead, ReadsResponse}
 use Rattle.httparse.specs.Spans.{IsResponseAt, IsResponseWithin}
 
 -- the bytes are a head, and the spans cover its parts
-pub record IsParsed (head : List ℕ) (spans : List HeaderSpan) (read : ResponseSpans) : Type 0 where
+pub record IsParsedResponse (head : List ℕ) (spans : List HeaderSpan) (read : ResponseSpans) : Type 0 where
   pub within : IsResponseWithin head spans read
   pub tree : ResponseHead
   pub reads : ReadsResponse head tree []

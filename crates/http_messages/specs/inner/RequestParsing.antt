@@ -6,7 +6,7 @@ use Rattle.httparse.specs.Grammar.{RequestHead, ReadsRequest}
 use Rattle.httparse.specs.Spans.{IsRequestAt, IsRequestWithin}
 
 -- the bytes are a head, and the spans cover its parts
-pub record IsParsed (head : List ℕ) (spans : List HeaderSpan) (read : RequestSpans) : Type 0 where
+pub record IsParsedRequest (head : List ℕ) (spans : List HeaderSpan) (read : RequestSpans) : Type 0 where
   pub within : IsRequestWithin head spans read
   pub tree : RequestHead
   pub reads : ReadsRequest head tree []

@@ -5,7 +5,7 @@ use Rattle.http_messages.specs.declared.request_checking.Found.{Found}
 use Rattle.http_messages.specs.declared.request_checking.Found.TheVariants.{More, Request as Given, Refused}
 use Rattle.http_messages.specs.declared.request.Request.{Request}
 use Rattle.http_messages.specs.RequestHeads.{is_line_byte, HasNoEnd, IsHeadAt}
-use Rattle.http_messages.specs.Frames.{NeedsHead, NeedsBody, GivesRequest, IsRefused}
+use Rattle.http_messages.specs.Frames.{NeedsHead, NeedsBody, GivesRequest, IsRefusedRequest}
 
 -- the bytes before `start` are dropped, and no head ends before `next`, whatever bytes follow
 pub record IsSearched (bytes : List ℕ) (search : HeadSearch) : Type 0 where
@@ -40,8 +40,8 @@ abbrev pub with_body : Request → List ℕ → Request
 with_body request body = record request { body = body }
 
 -- the first frame of the bytes
-abbrev pub IsFound : ℕ → List ℕ → Found → Type 0
-IsFound greatest bytes (More needed) = IsMore greatest bytes × Needs greatest bytes needed
-IsFound greatest bytes (Given request start end) =
+abbrev pub IsFoundFrame : ℕ → List ℕ → Found → Type 0
+IsFoundFrame greatest bytes (More needed) = IsMore greatest bytes × Needs greatest bytes needed
+IsFoundFrame greatest bytes (Given request start end) =
     GivesRequest greatest bytes (with_body request (slice_range bytes start end)) (drop end bytes) × (start ≤ end) × (end ≤ length bytes)
-IsFound greatest bytes (Refused refusal) = IsRefused greatest bytes refusal
+IsFoundFrame greatest bytes (Refused refusal) = IsRefusedRequest greatest bytes refusal

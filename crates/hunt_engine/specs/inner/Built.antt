@@ -9,7 +9,7 @@ use Rattle.hunt_engine.specs.inner.Table.{IsTable}
 use Rattle.hunt_engine.specs.inner.Evaluation.{AreClear}
 
 -- its tables belong to its patterns, and no bracket is marked between two rows
-pub record IsBuilt (engine : Inside) : Type 0 where
+pub record IsBuiltEngine (engine : Inside) : Type 0 where
   pub table : IsTable (map plain_pattern (map (λ h. h.pattern) engine.hunted.now)) (map plain_leaf (map (λ leaf. leaf.now) engine.brackets.leaves.items))
       engine.brackets.owners.items engine.brackets.bracket_ranges.items
   pub sound : All IsSoundLeaf (map plain_leaf (map (λ leaf. leaf.now) engine.brackets.leaves.items))

@@ -11,18 +11,18 @@ use Rattle.hunt_engine.specs.declared.next_row.NextRow.{NextRow}
 use Rattle.hunt_engine.specs.declared.brackets.BracketRange.{BracketRange}
 use Rattle.hunt_engine.specs.LazyMatcherState.{LazyMatcherState, Follows}
 use Rattle.hunt_engine.specs.EngineAnswer.{binds_at, NeverFalls}
-use Rattle.hunt_engine.specs.inner.Following.{EndsAt, TakesRow, FollowsSome, log_with}
+use Rattle.hunt_engine.specs.inner.Following.{EndsLogAt, FollowsLastRow, FollowsSome, log_with}
 use Rattle.hunt_engine.specs.inner.Table.{part_of}
 
 -- for each log followed up to the row before: the new state follows it with the row, and these
 -- bindings end there
-abbrev pub Takes : NextRow → ℕ → List Bool → LazyMatcherState → LazyMatcherState → List BindTree → Type 0
-Takes row retained_limit truths old new binds = (p : Pattern) (log : List LogEntry) → Follows p retained_limit log old → EndsAt log row.rows row.before
-    → TakesRow p retained_limit (log_with row truths log) new binds
+abbrev pub FollowsRow : NextRow → ℕ → List Bool → LazyMatcherState → LazyMatcherState → List BindTree → Type 0
+FollowsRow row retained_limit truths old new binds = (p : Pattern) (log : List LogEntry) → Follows p retained_limit log old → EndsLogAt log row.rows row.before
+    → FollowsLastRow p retained_limit (log_with row truths log) new binds
 
 -- each such log exceeds the limit with the row
 abbrev pub Crowds : NextRow → ℕ → List Bool → LazyMatcherState → Type 0
-Crowds row retained_limit truths old = (p : Pattern) (log : List LogEntry) → Follows p retained_limit log old → EndsAt log row.rows row.before
+Crowds row retained_limit truths old = (p : Pattern) (log : List LogEntry) → Follows p retained_limit log old → EndsLogAt log row.rows row.before
     → IsOverLimit (numbered_pattern p) (log_with row truths log) retained_limit
 
 -- all states follow some log
@@ -33,7 +33,7 @@ AllFollow retained_limit row lazy_matchers = (position : ℕ) (lazy_matcher : La
 pub record TookSome (row : NextRow) (retained_limit : ℕ) (bracket_ranges : List BracketRange) (marks : List Bool) (affected : List ℕ) (i : ℕ) (old new : List LazyMatcherState) (found : List Hit) : Type 0 where
   pub count : length new ≡ length old
   pub took : (k position : ℕ) (bracket_range : BracketRange) (before after : LazyMatcherState) → k < i → slice_get affected k ≡ Some position → slice_get bracket_ranges position ≡ Some bracket_range
-      → slice_get old position ≡ Some before → slice_get new position ≡ Some after → Takes row retained_limit (part_of bracket_range marks) before after (binds_at position found)
+      → slice_get old position ≡ Some before → slice_get new position ≡ Some after → FollowsRow row retained_limit (part_of bracket_range marks) before after (binds_at position found)
   pub others : (position : ℕ) → ((k : ℕ) → k < i → slice_get affected k ≡ Some position → ⊥)
       → (slice_get new position ≡ slice_get old position) × (binds_at position found ≡ [])
   pub ascend : NeverFalls (map (λ f. f.hunted) found)
@@ -55,7 +55,7 @@ pub record CrowdsAt (row : NextRow) (retained_limit : ℕ) (bracket_ranges : Lis
 pub record StillFollow (retained_limit rows : ℕ) (last : Option ℤ) (old new : List LazyMatcherState) : Type 0 where
   pub count : length new ≡ length old
   pub follow : (position : ℕ) (before after : LazyMatcherState) (p : Pattern) (log : List LogEntry) → slice_get old position ≡ Some before → slice_get new position ≡ Some after
-      → Follows p retained_limit log before → EndsAt log rows last → Follows p retained_limit log after
+      → Follows p retained_limit log before → EndsLogAt log rows last → Follows p retained_limit log after
 
 -- a hit of the pattern at an index
 abbrev pub found_of : ℕ → Bind → Hit

@@ -1,7 +1,7 @@
 -- For private clauses: adding one more object.
 use Rattle.std.specs.Prelude.{◌≡◌, ◌⊎◌, ◌↔◌, ℕ, ℤ, ◌<ℤ◌, List, ◌++◌, ◌==◌, ◌||◌, IsTrue, Option, Some, None, option_to_list, if◌then◌else◌, codes}
 use Rattle.serde_json.specs.Data.{Data}
-use Rattle.stix_json.specs.Properties.{text_at}
+use Rattle.stix_json.specs.Properties.{property_text}
 use Rattle.stix_objects.specs.declared.form.Precision.TheVariants.{Any, Millis}
 use Rattle.stix_objects.specs.Properties.{IsTimestampAt, HasId}
 use Rattle.hunt_feed.specs.declared.kept.Kept.{Kept}
@@ -11,7 +11,7 @@ use Rattle.hunt_feed.specs.Gathering.{Gathered, IsKeptAs, indicator_id, known_in
 
 -- its type is `indicator`
 abbrev pub IsIndicator : Data → Type 0
-IsIndicator d = text_at (codes "type") d ≡ Some (codes "indicator")
+IsIndicator d = property_text (codes "type") d ≡ Some (codes "indicator")
 
 -- the properties of an indicator that breaks no rule
 pub record HasFields (d : Data) : Type 0 where
@@ -24,10 +24,10 @@ pub record HasFields (d : Data) : Type 0 where
   pub from : ℤ
   pub from_is : IsTimestampAt Any (codes "valid_from") d from
   pub pattern : List ℕ
-  pub pattern_is : text_at (codes "pattern") d ≡ Some pattern
+  pub pattern_is : property_text (codes "pattern") d ≡ Some pattern
 
 -- the version information of an indicator
-pub record IsVersionOf (d : Data) (version : Version) : Type 0 where
+pub record IsIndicatorVersion (d : Data) (version : Version) : Type 0 where
   pub modified : IsTimestampAt Millis (codes "modified") d version.modified
   pub revoked : IsTrue version.revoked ↔ Revokes d
 
@@ -45,7 +45,7 @@ IsToKeep d at number next None = ¬ ((next.at ≡ at) × (¬ IsTrue next.revoked
 IsToKeep d at number next (Some kept) = IsKeptAs d kept × (kept.at ≡ at)
 
 -- these are now the versions of the indicator with this UUID, and perhaps one more is kept
-pub record Puts (before after : Gathered) (number : ℕ) (next : Version) (kept : Option Kept) : Type 0 where
+pub record PutsVersion (before after : Gathered) (number : ℕ) (next : Version) (kept : Option Kept) : Type 0 where
   pub count : after.count ≡ before.count
   pub kept_are : after.kept ≡ before.kept ++ option_to_list kept
   pub versions : (other : ℕ) → known_in after.versions other ≡ (if number == other then Some next else known_in before.versions other)
@@ -56,9 +56,9 @@ pub record AddsIndicator (before after : Gathered) (d : Data) : Type 0 where
   pub has : HasId d (indicator_id number)
   pub new : Version
   pub at : new.at ≡ before.count
-  pub version : IsVersionOf d new
+  pub version : IsIndicatorVersion d new
   pub next : Version
   pub next_is : IsNextVersion (known_in before.versions number) new next
   pub kept : Option Kept
   pub to_keep : IsToKeep d before.count number next kept
-  pub puts : Puts before after number next kept
+  pub puts : PutsVersion before after number next kept

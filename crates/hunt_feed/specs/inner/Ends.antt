@@ -11,15 +11,15 @@ use Rattle.hunt_feed.specs.declared.rule.FeedRule.TheVariants as rule
 use Rattle.hunt_feed.specs.declared.end.FeedEnd.{FeedEnd}
 use Rattle.hunt_feed.specs.declared.end.FeedEnd.TheVariants.{Refused, Fault, NoMemory}
 use Rattle.hunt_feed.specs.Line.{IsObjectOf}
-use Rattle.hunt_feed.specs.Feeds.{IsRefusedAt, FeedClose, Reads, AreUnbroken}
+use Rattle.hunt_feed.specs.Feeds.{IsFeedRefusedAt, FeedClose, ReadsFeedLines, AreUnbroken}
 use Rattle.hunt_feed.specs.Gathering.{Gathered, GathersFor}
 
 -- the end for a refused line
-abbrev pub end_of_line : LineRefusal → FeedEnd
-end_of_line refusal.Fault = Fault
-end_of_line (refusal.LineTooLong number) = Refused number rule.LineTooLong
-end_of_line (refusal.InputTooLong number) = Refused number rule.InputTooLong
-end_of_line refusal.NoMemory = NoMemory
+abbrev pub feed_end : LineRefusal → FeedEnd
+feed_end refusal.Fault = Fault
+feed_end (refusal.LineTooLong number) = Refused number rule.LineTooLong
+feed_end (refusal.InputTooLong number) = Refused number rule.InputTooLong
+feed_end refusal.NoMemory = NoMemory
 
 -- the first of the remaining lines is the object, and the others remain
 pub record GivesObject (before after : Option LineStream) (object : Data) : Type 0 where
@@ -32,7 +32,7 @@ pub record GivesObject (before after : Option LineStream) (object : Data) : Type
 abbrev pub AnswersObject : Option LineStream → Option LineStream → Result (Option Json) FeedEnd → Type 0
 AnswersObject before after (Ok (Some object)) = GivesObject before after (data_of object)
 AnswersObject before after (Ok None) = IfSome before (λ lines. lines ≡ ended)
-AnswersObject before after (Err (Refused line why)) = IfSome before (λ lines. IsRefusedAt lines line why)
+AnswersObject before after (Err (Refused line why)) = IfSome before (λ lines. IsFeedRefusedAt lines line why)
 AnswersObject before after (Err Fault) = ⊤
 AnswersObject before after (Err NoMemory) = ⊤
 
@@ -44,8 +44,8 @@ pub record MovesOn (before after : LinesState) : Type 0 where
 
 -- these objects, followed by the reading of the remaining lines, are the reading of all lines
 abbrev pub ReadsRemaining : Option LineStream → Option LineStream → List Data → Type 0
-ReadsRemaining all ahead objects = (more : List Data) (close : FeedClose) → IfSome ahead (λ lines. Reads lines more close)
-    → IfSome all (λ lines. Reads lines (objects ++ more) close)
+ReadsRemaining all ahead objects = (more : List Data) (close : FeedClose) → IfSome ahead (λ lines. ReadsFeedLines lines more close)
+    → IfSome all (λ lines. ReadsFeedLines lines (objects ++ more) close)
 
 -- these objects were read from the lines, and this was gathered from them
 pub record GathersSoFar (all ahead : Option LineStream) (gathered : Gathered) : Type 0 where

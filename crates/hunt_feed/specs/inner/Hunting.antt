@@ -8,7 +8,7 @@ use Rattle.hunt_feed.specs.declared.hunted.Skipped.{Skipped}
 use Rattle.hunt_feed.specs.declared.hunted.Hunt.{Hunt}
 use Rattle.hunt_feed.specs.declared.kept.Kept.{Kept}
 use Rattle.hunt_feed.specs.declared.version.Version.{Version}
-use Rattle.hunt_feed.specs.Indicators.{IsCandidate, IsHunted, IsSkipped, IsAscending, hunted_places, skipped_places}
+use Rattle.hunt_feed.specs.Indicators.{IsCandidate, IsHunted, IsSkippedIndicator, IsAscending, hunted_places, skipped_places}
 use Rattle.hunt_feed.specs.Gathering.{indicator_id, known_in, kept_places}
 
 -- it is the latest version, and none is revoked
@@ -17,8 +17,8 @@ IsLast versions kept =
     (version : Version) × (known_in versions kept.number ≡ Some version) × (version.at ≡ kept.at) × (¬ IsTrue version.revoked)
 
 -- it is valid at the moment
-abbrev pub IsValid : ℤ → Kept → Type 0
-IsValid moment kept = (kept.from ≤ℤ moment) × IfSome kept.until (λ until. moment <ℤ until)
+abbrev pub IsValidIndicator : ℤ → Kept → Type 0
+IsValidIndicator moment kept = (kept.from ≤ℤ moment) × IfSome kept.until (λ until. moment <ℤ until)
 
 -- a kept indicator as a hunted one, and as a skipped one
 pub record IsReadOf (kept : Kept) (hunted : Hunted) : Type 0 where
@@ -41,7 +41,7 @@ IsClassified kept before after =
 -- the hunt of the candidates among the indicators seen so far
 pub record IsHuntAmong (objects : List Data) (moment : ℤ) (seen : List Kept) (hunt : Hunt) : Type 0 where
   pub hunted : All (IsHunted objects moment) hunt.hunted
-  pub skipped : All (IsSkipped objects moment) hunt.skipped
+  pub skipped : All (IsSkippedIndicator objects moment) hunt.skipped
   pub all : (at : ℕ) (id : Id) (object : Data) → IsCandidate objects moment at id object → Contains (kept_places seen) at
       → Contains (hunted_places hunt) at ⊎ Contains (skipped_places hunt) at
   pub hunted_ascend : IsAscending (hunted_places hunt)

@@ -6,7 +6,7 @@ use Rattle.hunt_index.specs.declared.index_key.IndexKey.{IndexKey}
 use Rattle.hunt_index.specs.declared.paths.Lookup.{Lookup}
 use Rattle.hunt_index.specs.declared.finder.Finder.{Finder}
 use Rattle.hunt_index.specs.inner.Keys.{AreSame}
-use Rattle.hunt_index.specs.inner.Indexed.{IsReachedFrom, Leads, IsLedTo, IsSeenFrom, IsSeen}
+use Rattle.hunt_index.specs.inner.Indexed.{IsReachedFrom, LeadsToLookup, IsLedTo, IsSeenFrom, IsSeen}
 
 -- equal look-ups
 pub record AreAlike (lookup other : Lookup) : Type 0 where
@@ -20,8 +20,8 @@ pub record IsLookedUp (lookups : List Lookup) (lookup : Lookup) : Type 0 where
   pub alike : AreAlike lookup found
 
 -- look-ups made before are still made
-abbrev pub Keeps : List Lookup → List Lookup → Type 0
-Keeps old new = (lookup : Lookup) → IsLookedUp old lookup → IsLookedUp new lookup
+abbrev pub KeepsLookups : List Lookup → List Lookup → Type 0
+KeepsLookups old new = (lookup : Lookup) → IsLookedUp old lookup → IsLookedUp new lookup
 
 -- what the path leads to from the object is looked up
 abbrev pub AsksByPath : List IndexKey → List Data → Data → ℕ → List Lookup → Type 0
@@ -34,7 +34,7 @@ AskByPaths paths objects from numbers lookups = (entry : Bor (List ℕ) × ℕ) 
 
 -- what the root leads to is looked up
 abbrev pub AsksFor : Finder → List Data → ℕ → List Lookup → Type 0
-AsksFor finder objects root lookups = (lookup : Lookup) → Leads finder objects root lookup → IsLookedUp lookups lookup
+AsksFor finder objects root lookups = (lookup : Lookup) → LeadsToLookup finder objects root lookup → IsLookedUp lookups lookup
 
 -- the same for each of the roots
 abbrev pub AreAsked : Finder → List Data → List ℕ → List Lookup → Type 0

@@ -9,7 +9,7 @@ use Rattle.match_comparisons.specs.Tests.{HoldsAt}
 use Rattle.hunt_index.specs.declared.index_key.IndexKey.{IndexKey}
 use Rattle.hunt_index.specs.declared.paths.Lookup.{Lookup}
 use Rattle.hunt_index.specs.declared.finder.Finder.{Finder}
-use Rattle.hunt_index.specs.inner.Keys.{Fits}
+use Rattle.hunt_index.specs.inner.Keys.{FitsKey}
 use Rattle.hunt_index.specs.Definite.{ArePlain, IsDefinite}
 
 -- the path of the look-up leads from the object to a value that its key matches
@@ -19,10 +19,10 @@ pub record IsReachedFrom (paths : List IndexKey) (objects : List Data) (object :
   pub plain : ArePlain path.steps.now
   pub value : Data
   pub reached : Reaches objects None path.steps.now object value
-  pub fits : Fits lookup.key value
+  pub fits : FitsKey lookup.key value
 
 -- the same from a root of the path's type
-pub record Leads (finder : Finder) (objects : List Data) (root : ℕ) (lookup : Lookup) : Type 0 where
+pub record LeadsToLookup (finder : Finder) (objects : List Data) (root : ℕ) (lookup : Lookup) : Type 0 where
   pub object : Data
   pub reached : IsReachedFrom finder.paths.items objects object lookup
   pub is_root : IsRoot objects root reached.path.kind.now object
@@ -31,12 +31,12 @@ pub record Leads (finder : Finder) (objects : List Data) (root : ℕ) (lookup : 
 -- a look-up that the root leads to has the bracket in its posting list
 pub record IsLedTo (finder : Finder) (bracket : ℕ) (objects : List Data) (root : ℕ) : Type 0 where
   pub lookup : Lookup
-  pub leads : Leads finder objects root lookup
+  pub leads : LeadsToLookup finder objects root lookup
   pub entered : Contains finder.brackets_found.entries.items (lookup, bracket)
 
 -- the bracket is always a candidate, or is found from each root at which it holds
-abbrev pub IsFound : Finder → Leaf → ℕ → Type 0
-IsFound finder leaf bracket = Contains finder.unindexed.items bracket
+abbrev pub IsFoundBracket : Finder → Leaf → ℕ → Type 0
+IsFoundBracket finder leaf bracket = Contains finder.unindexed.items bracket
     ⊎ ((objects : List Data) (root : ℕ) → HoldsAt objects root (plain_leaf leaf) → IsLedTo finder bracket objects root)
 
 -- as IsReachedFrom, but the path may have a `[*]`
@@ -45,7 +45,7 @@ pub record IsSeenFrom (paths : List IndexKey) (objects : List Data) (object : Da
   pub there : slice_get paths lookup.path ≡ Some path
   pub value : Data
   pub reached : Reaches objects None path.steps.now object value
-  pub fits : Fits lookup.key value
+  pub fits : FitsKey lookup.key value
 
 -- the same from a root of the path's type
 pub record IsSeen (paths : List IndexKey) (objects : List Data) (root : ℕ) (lookup : Lookup) : Type 0 where
@@ -68,12 +68,12 @@ pub record IsOpenOf (brackets : List Leaf) (bracket : ℕ) : Type 0 where
   pub indefinite : (leaf : Leaf) → slice_get brackets bracket ≡ Some leaf → ¬ IsDefinite (plain_leaf leaf)
 
 -- the number of a path for roots of this type
-abbrev pub IsOfKind : List IndexKey → Bor (List ℕ) × ℕ → Type 0
-IsOfKind paths entry = (path : IndexKey) → slice_get paths entry.1 ≡ Some path → path.kind.now ≡ entry.0.now
+abbrev pub IsPathEntryOfKind : List IndexKey → Bor (List ℕ) × ℕ → Type 0
+IsPathEntryOfKind paths entry = (path : IndexKey) → slice_get paths entry.1 ≡ Some path → path.kind.now ≡ entry.0.now
 
 -- the tables find these brackets, and nothing else
 pub record IsFinderOf (brackets : List Leaf) (finder : Finder) : Type 0 where
-  pub found : (bracket : ℕ) (leaf : Leaf) → slice_get brackets bracket ≡ Some leaf → IsFound finder leaf bracket
+  pub found : (bracket : ℕ) (leaf : Leaf) → slice_get brackets bracket ≡ Some leaf → IsFoundBracket finder leaf bracket
   pub brackets_found : All (IsEntryOf brackets finder.paths.items) finder.brackets_found.entries.items
   pub unindexed : All (IsOpenOf brackets) finder.unindexed.items
-  pub kinds : All (IsOfKind finder.paths.items) finder.kinds.entries.items
+  pub kinds : All (IsPathEntryOfKind finder.paths.items) finder.kinds.entries.items

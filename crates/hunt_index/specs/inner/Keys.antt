@@ -6,10 +6,10 @@ use Rattle.hunt_index.specs.declared.key.Key.{Key}
 use Rattle.hunt_index.specs.declared.key.Key.TheVariants.{Any, Integer, Text}
 
 -- the key matches the value
-abbrev pub Fits : Key → Data → Type 0
-Fits Any value = ⊤
-Fits (Integer whole) value = value ≡ number (of_integer whole)
-Fits (Text text) value = as_str value ≡ Some text.now
+abbrev pub FitsKey : Key → Data → Type 0
+FitsKey Any value = ⊤
+FitsKey (Integer whole) value = value ≡ number (of_integer whole)
+FitsKey (Text text) value = as_str value ≡ Some text.now
 
 -- the keys match the same values, wherever their texts lie in memory
 abbrev pub AreSame : Key → Key → Type 0
@@ -19,9 +19,9 @@ AreSame (Text text) (Text other) = text.now ≡ other.now
 AreSame _ _ = ⊥
 
 -- the key is `Any`, or equals the one found
-abbrev pub IsAsked : Option Key → Key → Type 0
-IsAsked found Any = ⊤
-IsAsked None (Integer whole) = ⊥
-IsAsked None (Text text) = ⊥
-IsAsked (Some key) (Integer whole) = AreSame (Integer whole) key
-IsAsked (Some key) (Text text) = AreSame (Text text) key
+abbrev pub IsAskedKey : Option Key → Key → Type 0
+IsAskedKey found Any = ⊤
+IsAskedKey None (Integer whole) = ⊥
+IsAskedKey None (Text text) = ⊥
+IsAskedKey (Some key) (Integer whole) = AreSame (Integer whole) key
+IsAskedKey (Some key) (Text text) = AreSame (Text text) key

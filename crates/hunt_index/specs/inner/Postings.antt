@@ -10,14 +10,14 @@ use Rattle.hunt_index.specs.Definite.{IsDefinite}
 use Rattle.hunt_index.specs.inner.IndexKeys.{AreIndexKeys, IsSufficient}
 
 -- there is a posting for each of the index keys with the bracket
-abbrev pub AreAmong : List Posting → ℕ → List IndexKey → Type 0
-AreAmong postings bracket index_keys = (index_key : IndexKey) → Contains index_keys index_key → Contains postings (record { index_key = index_key; bracket = bracket })
+abbrev pub ArePostedKeys : List Posting → ℕ → List IndexKey → Type 0
+ArePostedKeys postings bracket index_keys = (index_key : IndexKey) → Contains index_keys index_key → Contains postings (record { index_key = index_key; bracket = bracket })
 
 -- the bracket has necessary index keys, and postings for them
 pub record HasIndexKeys (postings : List Posting) (leaf : Leaf) (bracket : ℕ) : Type 0 where
   pub index_keys : List IndexKey
   pub own : AreIndexKeys (λ objects root. HoldsAt objects root (plain_leaf leaf)) index_keys
-  pub among : AreAmong postings bracket index_keys
+  pub among : ArePostedKeys postings bracket index_keys
 
 -- or it is always a candidate
 abbrev pub IsCovered : Postings → Leaf → ℕ → Type 0
@@ -35,7 +35,7 @@ pub record IsPostingOf (leaf : Leaf) (bracket : ℕ) (posting : Posting) : Type 
   pub sufficient : IsDefinite (plain_leaf leaf) → IsSufficient (λ objects root. HoldsAt objects root (plain_leaf leaf)) posting.index_key
 
 -- the index of the bracket, which isn't definite
-pub record IsOpen (leaf : Leaf) (bracket n : ℕ) : Type 0 where
+pub record IsIndefiniteBracket (leaf : Leaf) (bracket n : ℕ) : Type 0 where
   pub placed : n ≡ bracket
   pub indefinite : ¬ IsDefinite (plain_leaf leaf)
 
@@ -43,7 +43,7 @@ pub record IsOpen (leaf : Leaf) (bracket n : ℕ) : Type 0 where
 pub record AddsBracket (leaf : Leaf) (bracket : ℕ) (old new : Postings) : Type 0 where
   pub covered : IsCovered new leaf bracket
   pub indexed : Adds (IsPostingOf leaf bracket) old.indexed.items new.indexed.items
-  pub unindexed : Adds (IsOpen leaf bracket) old.unindexed.items new.unindexed.items
+  pub unindexed : Adds (IsIndefiniteBracket leaf bracket) old.unindexed.items new.unindexed.items
 
 -- a posting of one of the first `count` brackets
 pub record IsPostingIn (brackets : List Leaf) (count : ℕ) (posting : Posting) : Type 0 where
@@ -53,7 +53,7 @@ pub record IsPostingIn (brackets : List Leaf) (count : ℕ) (posting : Posting) 
 -- the index of one of the first `count` brackets, which isn't definite
 pub record IsOpenIn (brackets : List Leaf) (count n : ℕ) : Type 0 where
   pub below : n < count
-  pub is : (leaf : Leaf) → slice_get brackets n ≡ Some leaf → IsOpen leaf n n
+  pub is : (leaf : Leaf) → slice_get brackets n ≡ Some leaf → IsIndefiniteBracket leaf n n
 
 -- the postings of the first `count` brackets
 pub record ArePostingsOf (brackets : List Leaf) (count : ℕ) (postings : Postings) : Type 0 where

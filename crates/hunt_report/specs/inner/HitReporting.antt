@@ -9,7 +9,7 @@ use Rattle.match_run.specs.Buffered.{IsBuffered}
 use Rattle.hunt_engine.specs.declared.found.Hit.{Hit}
 use Rattle.hunt_engine.specs.declared.refusal.EngineRefusal.{EngineRefusal}
 use Rattle.hunt_engine.specs.declared.refusal.EngineRefusal.TheVariants as refusal
-use Rattle.hunt_engine.specs.EngineLog.{Row}
+use Rattle.hunt_engine.specs.EngineLog.{ObservationRow}
 use Rattle.hunt_engine.specs.EngineAnswer.{IsFirstOverLimit}
 use Rattle.hunt_report.specs.declared.over_limit.OverLimit.{OverLimit}
 use Rattle.hunt_report.specs.Rows.{rows_over}
@@ -18,15 +18,15 @@ use Rattle.hunt_report.specs.Hunting.{HunterState, HuntsOver, patterns_of, Takes
 -- ---- one row
 
 -- after any rows it took one more, at which these hits end, each of an indicator
-pub record TakesRow (row : Row) (before after : HunterState) (own : List Hit) : Type 0 where
+pub record TakesHuntRow (row : ObservationRow) (before after : HunterState) (own : List Hit) : Type 0 where
   pub hunted : after.hunted ≡ before.hunted
   pub retained_limit : after.engine.retained_limit ≡ before.engine.retained_limit
-  pub takes : (earlier : List Row) (hits : List Hit) → HuntsOver before earlier hits → HuntsOver after (earlier ++ row ∷ []) (hits ++ own)
+  pub takes : (earlier : List ObservationRow) (hits : List Hit) → HuntsOver before earlier hits → HuntsOver after (earlier ++ row ∷ []) (hits ++ own)
   pub inside : All (λ hit. hit.hunted < length before.hunted) own
 
 -- after any rows, a pattern exceeds the limit at this one: the first such pattern
-abbrev pub IsOverLimitAt : Row → HunterState → OverLimit → Type 0
-IsOverLimitAt row before why = (earlier : List Row) (hits : List Hit) → HuntsOver before earlier hits
+abbrev pub IsHuntOverLimitAt : ObservationRow → HunterState → OverLimit → Type 0
+IsHuntOverLimitAt row before why = (earlier : List ObservationRow) (hits : List Hit) → HuntsOver before earlier hits
     → IsFirstOverLimit (patterns_of before.hunted) before.engine.retained_limit (earlier ++ row ∷ []) why.hunted why.number why.retained_limit
 
 -- how a hunter ends where its engine does
@@ -36,10 +36,10 @@ end_of_engine refusal.Ended = NoMemory
 end_of_engine refusal.NoMemory = NoMemory
 
 -- what an end at a row says
-abbrev pub EndsAtRow : Row → HunterState → SeeEnd OverLimit → Type 0
-EndsAtRow row before (Stopped why) = IsOverLimitAt row before why
-EndsAtRow row before WriteFault = ⊥
-EndsAtRow row before NoMemory = ⊤
+abbrev pub EndsAtHuntedRow : ObservationRow → HunterState → SeeEnd OverLimit → Type 0
+EndsAtHuntedRow row before (Stopped why) = IsHuntOverLimitAt row before why
+EndsAtHuntedRow row before WriteFault = ⊥
+EndsAtHuntedRow row before NoMemory = ⊤
 
 -- ---- the observations of a bundle
 
@@ -58,17 +58,17 @@ pub record StopsSoFar (objects : List Data) (observations : List Observation) (b
   pub way : IsBuffered text pending written written_now
 
 -- a prefix of the text about the first of them is written
-pub record TakesPart (objects : List Data) (observations : List Observation) (before : HunterState) (written written_now : Option (List ℕ)) : Type 0 where
+pub record ReportsPartOfHits (objects : List Data) (observations : List Observation) (before : HunterState) (written written_now : Option (List ℕ)) : Type 0 where
   pub text : List ℕ
   pub takes : TakesFirst objects observations before text
   pub prefix : WritesPrefix text written written_now
 
 -- what an end among them says
-abbrev pub EndsAmong : List Data → List Observation → HunterState → List ℕ → Option (List ℕ) → Option (List ℕ) → SeeEnd OverLimit → Type 0
-EndsAmong objects observations before pending written written_now (Stopped why) = StopsSoFar objects observations before why pending written written_now
-EndsAmong objects observations before pending written written_now WriteFault = TakesPart objects observations before written written_now
-EndsAmong objects observations before pending written written_now NoMemory = TakesPart objects observations before written written_now
+abbrev pub EndsAmongHits : List Data → List Observation → HunterState → List ℕ → Option (List ℕ) → Option (List ℕ) → SeeEnd OverLimit → Type 0
+EndsAmongHits objects observations before pending written written_now (Stopped why) = StopsSoFar objects observations before why pending written written_now
+EndsAmongHits objects observations before pending written written_now WriteFault = ReportsPartOfHits objects observations before written written_now
+EndsAmongHits objects observations before pending written written_now NoMemory = ReportsPartOfHits objects observations before written written_now
 
 -- such an end came in the middle of lines
-abbrev pub HasCutLines : Result (Unit {0}) (SeeEnd OverLimit) → Type 0
-HasCutLines ended = (ended ≡ Err NoMemory) ⊎ (ended ≡ Err WriteFault)
+abbrev pub HasCutHitLines : Result (Unit {0}) (SeeEnd OverLimit) → Type 0
+HasCutHitLines ended = (ended ≡ Err NoMemory) ⊎ (ended ≡ Err WriteFault)

@@ -23,5 +23,5 @@ abbrev pub AreBefore : ℤ → List (Option HitSummary) → Type 0
 AreBefore time hit_summaries = (place : ℕ) (hit_summary : HitSummary) → slice_get hit_summaries place ≡ Some (Some hit_summary) → hit_summary.first ≤ℤ time
 
 -- none was last seen before it was first seen
-abbrev pub AreInOrder : List (Option HitSummary) → Type 0
-AreInOrder hit_summaries = (place : ℕ) (hit_summary : HitSummary) → slice_get hit_summaries place ≡ Some (Some hit_summary) → hit_summary.first ≤ℤ hit_summary.last
+abbrev pub AreSummariesInOrder : List (Option HitSummary) → Type 0
+AreSummariesInOrder hit_summaries = (place : ℕ) (hit_summary : HitSummary) → slice_get hit_summaries place ≡ Some (Some hit_summary) → hit_summary.first ≤ℤ hit_summary.last

@@ -9,7 +9,7 @@ use Rattle.hunt_report.specs.declared.hit_summary.HitSummary.{HitSummary}
 use Rattle.hunt_report.specs.HitSummaries.{begun_by}
 
 -- the text of the sighting of an indicator with this summary
-pub record IsTextOf (moment : ℤ) (indicator : Hunted) (hit_summary : HitSummary) (text : List ℕ) : Type 0 where
+pub record IsTextOfSighting (moment : ℤ) (indicator : Hunted) (hit_summary : HitSummary) (text : List ℕ) : Type 0 where
   pub seen : SightingInput
   pub indicator_is : seen.indicator.now ≡ indicator.id
   pub created_is : seen.created ≡ indicator.created
@@ -26,7 +26,7 @@ IsHitSummaryInOrder (Some hit_summary) = hit_summary.first ≤ℤ hit_summary.la
 -- one text of an indicator with hits, and none of any other
 abbrev pub ReportsHitSummary : ℤ → Hunted → Option HitSummary → List (List ℕ) → Type 0
 ReportsHitSummary moment indicator None texts = texts ≡ []
-ReportsHitSummary moment indicator (Some hit_summary) texts = (text : List ℕ) × IsTextOf moment indicator hit_summary text × (texts ≡ text ∷ [])
+ReportsHitSummary moment indicator (Some hit_summary) texts = (text : List ℕ) × IsTextOfSighting moment indicator hit_summary text × (texts ≡ text ∷ [])
 
 -- those of some indicators, in order
 abbrev pub ReportsHitSummaries : ℤ → List Hunted → List (Option HitSummary) → List (List ℕ) → Type 0
@@ -46,9 +46,9 @@ mark_of false = codes "{\"objects\":["
 mark_of true = codes ","
 
 -- the text after the sightings
-abbrev pub end_of : Bool → List ℕ
-end_of false = []
-end_of true = codes "]}\n"
+abbrev pub report_end : Bool → List ℕ
+report_end false = []
+report_end true = codes "]}\n"
 
 -- the text about these indicators is written or buffered
 pub record ReportsSoFar (moment : ℤ) (hunted : List Hunted) (hit_summaries : List (Option HitSummary)) (begun : Bool) (pending : List ℕ)

@@ -6,6 +6,6 @@ use Rattle.match_comparisons.specs.Tests.{IsBytesOf}
 
 -- the value is a text that encodes these bytes, by the name of its property; None where it encodes
 -- none
-abbrev pub Represents : Option (List ℕ) → Data → Option (List ℕ) → Type 0
-Represents last value own =
+abbrev pub EncodesBytes : Option (List ℕ) → Data → Option (List ℕ) → Type 0
+EncodesBytes last value own =
     (bytes : List ℕ) → ((text : List ℕ) × (as_str value ≡ Some text) × IsBytesOf last text bytes) ↔ (own ≡ Some bytes)

@@ -11,12 +11,12 @@ use Rattle.match_comparisons.specs.declared.frame.Frame.{Frame}
 use Rattle.match_comparisons.specs.Selection.{Joined, StepsSelect}
 
 -- the last property name before a frame's values
-abbrev pub last_of : Frame → Option (List ℕ)
-last_of frame = option_map (λ (name : Bor (List ℕ)). name.now) frame.last
+abbrev pub frame_property : Frame → Option (List ℕ)
+frame_property frame = option_map (λ (name : Bor (List ℕ)). name.now) frame.last
 
 -- what the steps of a frame select from its values
 abbrev pub FrameSelects : List Data → Frame → List Data → Type 0
-FrameSelects objects frame values = Joined (StepsSelect objects (last_of frame) frame.steps.now) (data_in frame.values.now) values
+FrameSelects objects frame values = Joined (StepsSelect objects (frame_property frame) frame.steps.now) (data_in frame.values.now) values
 
 -- what the frames select, concatenated
 abbrev pub LeftIn : List Data → List Frame → List Data → Type 0
@@ -25,9 +25,9 @@ LeftIn objects (frame ∷ frames) values = (own rest : List Data) × FrameSelect
     × (values ≡ own ++ rest)
 
 -- above each frame there is space for a frame for each of its steps, and its values are sorted
-abbrev pub Fits : List Frame → Type 0
-Fits [] = ⊤
-Fits (frame ∷ frames) = (length frame.steps.now + length frames ≤ MAX_STEPS) × All IsOrdered (data_in frame.values.now) × Fits frames
+abbrev pub HasFrameSpace : List Frame → Type 0
+HasFrameSpace [] = ⊤
+HasFrameSpace (frame ∷ frames) = (length frame.steps.now + length frames ≤ MAX_STEPS) × All IsOrdered (data_in frame.values.now) × HasFrameSpace frames
 
 -- an upper bound on the weight of the frames that one value with these steps gives rise to
 abbrev pub weight_of : List Step → ℕ

@@ -5,9 +5,9 @@ use Rattle.std.specs.Ordering.{nat_cmp}
 use Rattle.match_comparisons.specs.declared.position_set.PositionSet.{PositionSet}
 
 -- the position is in the set
-abbrev pub IsIn : PositionSet → ℕ → Type 0
-IsIn position_set at = IsTrue (contains nat_cmp position_set.set at)
+abbrev pub IsInPositions : PositionSet → ℕ → Type 0
+IsInPositions position_set at = IsTrue (contains nat_cmp position_set.set at)
 
 -- the set has the positions of the list
 abbrev pub AreOf : List ℕ → PositionSet → Type 0
-AreOf list position_set = (at : ℕ) → IsIn position_set at ↔ Contains list at
+AreOf list position_set = (at : ℕ) → IsInPositions position_set at ↔ Contains list at

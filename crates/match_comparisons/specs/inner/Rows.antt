@@ -7,13 +7,13 @@ use Rattle.pattern_types.specs.PlainPattern.{PlainPattern}
 use Rattle.match_comparisons.specs.Truths.{AreTruths}
 
 -- truths that satisfy AreOwn are appended to a row
-abbrev pub Adds : (List Bool → Type 0) → List Bool → List Bool → Type 0
-Adds AreOwn old new = (own : List Bool) × (new ≡ old ++ own) × AreOwn own
+abbrev pub AppendsTruths : (List Bool → Type 0) → List Bool → List Bool → Type 0
+AppendsTruths AreOwn old new = (own : List Bool) × (new ≡ old ++ own) × AreOwn own
 
 -- the same for the row of each observation
 abbrev pub AddsToEach : (Observation → List Bool → Type 0) → List Observation → List (List Bool) → List (List Bool) → Type 0
 AddsToEach AreOwn [] [] [] = ⊤
-AddsToEach AreOwn (observation ∷ observations) (old ∷ olds) (new ∷ news) = Adds (AreOwn observation) old new × AddsToEach AreOwn observations olds news
+AddsToEach AreOwn (observation ∷ observations) (old ∷ olds) (new ∷ news) = AppendsTruths (AreOwn observation) old new × AddsToEach AreOwn observations olds news
 AddsToEach AreOwn observations olds news = ⊥
 
 -- the truths of a pattern are appended to the row of each observation

@@ -13,16 +13,16 @@ use Rattle.match_input.specs.declared.read_end.ReadEnd.{ReadEnd}
 use Rattle.match_input.specs.declared.read_end.ReadEnd.TheVariants.{Input, ReadFault, Ended as HasEnded, NoMemory}
 use Rattle.match_input.specs.declared.stage.Stage.{Stage}
 use Rattle.match_input.specs.declared.stage.Stage.TheVariants.{Lines, Whole, AtEnd, Ended}
-use Rattle.match_input.specs.Reading.{IsTooLong}
+use Rattle.match_input.specs.Reading.{IsTooLongInputLine}
 use Rattle.match_input.specs.declared.progress.Progress.{Progress}
-use Rattle.match_input.specs.Ahead.{ReaderState, ahead, Moves, TakesLittle, BreaksOff, ComesToEnd}
+use Rattle.match_input.specs.Ahead.{InputReaderState, ahead, Moves, TakesLittleAhead, BreaksOffReading, ComesToEnd}
 
 -- the end for a refused line, and for a refused input in Mode::Whole
-abbrev pub end_of_line : LineRefusal → ReadEnd
-end_of_line refusal.Fault = ReadFault
-end_of_line (refusal.LineTooLong number) = Input number rule.LineTooLong
-end_of_line (refusal.InputTooLong number) = Input number rule.InputTooLong
-end_of_line refusal.NoMemory = NoMemory
+abbrev pub refused_read_end : LineRefusal → ReadEnd
+refused_read_end refusal.Fault = ReadFault
+refused_read_end (refusal.LineTooLong number) = Input number rule.LineTooLong
+refused_read_end (refusal.InputTooLong number) = Input number rule.InputTooLong
+refused_read_end refusal.NoMemory = NoMemory
 
 abbrev pub end_of_whole : InputRefusal → ReadEnd
 end_of_whole whole.Fault = ReadFault
@@ -34,24 +34,24 @@ pub record GivesBytes (before after : Stage) (left left_after : Option (List ℕ
   pub line : ahead before left ≡ option_map (λ later. line_then number bytes later) (ahead after left_after)
   pub moves : Moves number before after left left_after
   -- where the line may still be refused
-  pub little : TakesLittle before number left left_after
+  pub little : TakesLittleAhead before number left left_after
 
 -- the first of the remaining lines is too long, or makes the input too long
 pub record IsTooLongAhead (before : Stage) (left left_after : Option (List ℕ)) (line : ℕ) (why : InputRule) : Type 0 where
-  pub refused : IfSome (ahead before left) (λ lines. (refusal : LineRefusal) × (lines ≡ refused refusal) × IsTooLong refusal line why)
-  pub little : TakesLittle before line left left_after
+  pub refused : IfSome (ahead before left) (λ lines. (refusal : LineRefusal) × (lines ≡ refused refusal) × IsTooLongInputLine refusal line why)
+  pub little : TakesLittleAhead before line left left_after
 
 abbrev pub AnswersTurn : Stage → Stage → Option (List ℕ) → Option (List ℕ) → Result (Option Line) ReadEnd → Type 0
 AnswersTurn before after left left_after (Ok (Some line)) = GivesBytes before after left left_after line.number line.bytes
 AnswersTurn before after left left_after (Ok None) = ComesToEnd before after left left_after
 AnswersTurn before after left left_after (Err (Input line why)) = IsTooLongAhead before left left_after line why
-AnswersTurn before after left left_after (Err ReadFault) = BreaksOff before left left_after
+AnswersTurn before after left left_after (Err ReadFault) = BreaksOffReading before left left_after
 AnswersTurn before after left left_after (Err HasEnded) = before ≡ Ended
 AnswersTurn before after left left_after (Err NoMemory) = ⊤
 
 -- the observable state of a reader
-abbrev pub state_of : Progress → ReaderState
-state_of progress = record { stage = progress.stage; observations = progress.observations; last = progress.last }
+abbrev pub reader_state : Progress → InputReaderState
+reader_state progress = record { stage = progress.stage; observations = progress.observations; last = progress.last }
 
 -- no line was refused, and the number of observations is bounded by the bytes consumed
 abbrev pub AreFew : Stage → ℕ → Type 0

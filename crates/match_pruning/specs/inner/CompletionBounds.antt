@@ -9,7 +9,7 @@ use Rattle.match_pruning.specs.declared.completion_bound.CompletionBound.{Comple
 use Rattle.match_pruning.specs.declared.greedy_completion.GreedyCompletion.{GreedyCompletion}
 use Rattle.match_pruning.specs.declared.earliest_start.EarliestStart.{EarliestStart}
 use Rattle.match_pruning.specs.PartialMatchTree.{PartialMatchTree}
-use Rattle.match_pruning.specs.inner.Picks.{HasAt, HasPerfectMatching}
+use Rattle.match_pruning.specs.inner.Picks.{HasNumberAt, HasPerfectMatching}
 use Rattle.match_pruning.specs.inner.Needed.{PendingLeftTrees, is_needed}
 
 -- whether a time isn't before the start, if there is one
@@ -29,7 +29,7 @@ IsEarliestStart earliest_start now pending_lefts = (partial_match : PartialMatch
 
 -- how a left operand may end: not before the start, and where it ends exactly then, with the
 -- excluded number
-pub record MayEnd (earliest_start : EarliestStart) (partial_match : PartialMatchTree) : Type 0 where
+pub record MayEndOperand (earliest_start : EarliestStart) (partial_match : PartialMatchTree) : Type 0 where
   pub covered : covers earliest_start.start partial_match.latest ≡ true
   pub taken : (n : ℕ) → earliest_start.taken ≡ Some n → earliest_start.start ≡ Some partial_match.latest → has n partial_match.tree ≡ true
 
@@ -45,13 +45,13 @@ may_precede left bound partial_match = int_le left.latest bound && disjoint left
 
 -- where the candidate set is a list, the binding's number at that position is in it
 abbrev pub IsInCandidateSet : CandidateSet → ℕ → BindTree → Type 0
-IsInCandidateSet (candidate_set.Few found) place x = HasAt found.items place x
+IsInCandidateSet (candidate_set.Few found) place x = HasNumberAt found.items place x
 IsInCandidateSet candidate_set.Many place x = ⊤
 IsInCandidateSet candidate_set.Short place x = ⊤
 
 -- a completion has the new partial match in it, begins no later than the bound, and where it begins
 -- then, assigns a distinct number to each vertex
-pub record IsReached (partial_match : PartialMatchTree) (completion_bound : CompletionBound) (greedy_completion : PartialMatchTree) : Type 0 where
+pub record IsReachedCompletion (partial_match : PartialMatchTree) (completion_bound : CompletionBound) (greedy_completion : PartialMatchTree) : Type 0 where
   pub has_partial_match : (n : ℕ) → has n partial_match.tree ≡ true → has n greedy_completion.tree ≡ true
   pub bound : greedy_completion.earliest ≤ℤ completion_bound.earliest
   pub picks : greedy_completion.earliest ≡ completion_bound.earliest → HasPerfectMatching completion_bound.matching.list.items greedy_completion.tree

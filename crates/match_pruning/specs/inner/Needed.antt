@@ -8,7 +8,7 @@ use Rattle.match_pruning.specs.declared.join.Join.{Join}
 use Rattle.match_pruning.specs.declared.join.Join.TheVariants as join
 use Rattle.match_pruning.specs.PartialMatchTree.{PartialMatchTree}
 use Rattle.match_pruning.specs.inner.Retains.{retains}
-use Rattle.match_pruning.specs.inner.Steps.{joined, may_join, SideStores}
+use Rattle.match_pruning.specs.inner.Steps.{joined_matches, may_join, SideStores}
 
 -- a pending left: the stored left operands of a FOLLOWEDBY, and the window of the store on its
 -- right
@@ -20,7 +20,7 @@ pub record PendingLeftTrees : Type 0 where
 abbrev pub is_needed : ℤ → List PendingLeftTrees → PartialMatchTree → Bool
 is_needed now [] partial_match = true
 is_needed now (innermost ∷ above) partial_match =
-    retains innermost.window partial_match.earliest now || list_any (λ l. may_join join.Then l partial_match && is_needed now above (joined join.Then l partial_match)) innermost.left
+    retains innermost.window partial_match.earliest now || list_any (λ l. may_join join.Then l partial_match && is_needed now above (joined_matches join.Then l partial_match)) innermost.left
 
 abbrev pub needed : ℤ → List PendingLeftTrees → List PartialMatchTree → List PartialMatchTree
 needed now pending_lefts new = filter (is_needed now pending_lefts) new
@@ -42,7 +42,7 @@ pending_lefts_part (suc zero) window now pending_lefts = pending_lefts
 pending_lefts_part (suc (suc n)) window now pending_lefts = []
 
 -- the needed ones of new sets; for one repeat they were filtered as parts
-abbrev pub chosen : ℕ → ℤ → List PendingLeftTrees → List PartialMatchTree → List PartialMatchTree
-chosen zero now pending_lefts sets = []
-chosen (suc zero) now pending_lefts sets = sets
-chosen (suc (suc n)) now pending_lefts sets = needed now pending_lefts sets
+abbrev pub needed_trees : ℕ → ℤ → List PendingLeftTrees → List PartialMatchTree → List PartialMatchTree
+needed_trees zero now pending_lefts sets = []
+needed_trees (suc zero) now pending_lefts sets = sets
+needed_trees (suc (suc n)) now pending_lefts sets = needed now pending_lefts sets

@@ -16,7 +16,7 @@ pub record HasPerfectMatching (matching : List Neighbors) (x : BindTree) : Type 
   pub each : AllZip (MayPick x) matching picks
 
 -- the number at a position of the binding, counted from the left, is in the list
-pub record HasAt (found : List ℕ) (place : ℕ) (x : BindTree) : Type 0 where
+pub record HasNumberAt (found : List ℕ) (place : ℕ) (x : BindTree) : Type 0 where
   pub number : ℕ
   pub there : slice_get (numbers x) place ≡ Some number
   pub among : Contains found number

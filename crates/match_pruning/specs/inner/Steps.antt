@@ -19,14 +19,14 @@ use Rattle.match_pruning.specs.inner.Retains.{retains}
 abbrev pub held_with : (BindTree → BindTree) → PartialMatchTree → PartialMatchTree
 held_with f a = record { tree = f a.tree; earliest = a.earliest; latest = a.latest }
 
--- the binding of a joined partial match
+-- the binding of a joined_matches partial match
 abbrev pub joined_tree : Join → BindTree → BindTree → BindTree
 joined_tree join.Both a b = Pair a b
 joined_tree join.Then a b = Pair a b
 joined_tree join.Repeats a b = add_part a b
 
-abbrev pub joined : Join → PartialMatchTree → PartialMatchTree → PartialMatchTree
-joined j a b = record { tree = joined_tree j a.tree b.tree; earliest = int_min a.earliest b.earliest; latest = int_max a.latest b.latest }
+abbrev pub joined_matches : Join → PartialMatchTree → PartialMatchTree → PartialMatchTree
+joined_matches j a b = record { tree = joined_tree j a.tree b.tree; earliest = int_min a.earliest b.earliest; latest = int_max a.latest b.latest }
 
 -- whether two partial matches join
 abbrev pub may_join : Join → PartialMatchTree → PartialMatchTree → Bool
@@ -34,13 +34,13 @@ may_join join.Both a b = disjoint a.tree b.tree
 may_join join.Then a b = int_le a.latest b.earliest && disjoint a.tree b.tree
 may_join join.Repeats a b = disjoint a.tree b.tree
 
--- one partial match joined with each of ys that it joins
-abbrev pub join_row : Join → PartialMatchTree → List PartialMatchTree → List PartialMatchTree
-join_row j x ys = map (joined j x) (filter (may_join j x) ys)
+-- one partial match joined_matches with each of ys that it match_joins
+abbrev pub match_join_row : Join → PartialMatchTree → List PartialMatchTree → List PartialMatchTree
+match_join_row j x ys = map (joined_matches j x) (filter (may_join j x) ys)
 
--- each of xs joined with each of ys that it joins
-abbrev pub joins : Join → List PartialMatchTree → List PartialMatchTree → List PartialMatchTree
-joins j xs ys = flat_map (λ x. join_row j x ys) xs
+-- each of xs joined_matches with each of ys that it match_joins
+abbrev pub match_joins : Join → List PartialMatchTree → List PartialMatchTree → List PartialMatchTree
+match_joins j xs ys = flat_map (λ x. match_join_row j x ys) xs
 
 -- what a store retains
 abbrev pub kept : Window → ℤ → List PartialMatchTree → List PartialMatchTree
@@ -96,7 +96,7 @@ sides_count sides = length sides.left + length sides.right
 -- the delta join: new left operands with stored right ones, and stored left operands with new right
 -- ones
 abbrev pub joins_both : Join → SideStores → List PartialMatchTree → List PartialMatchTree → List PartialMatchTree
-joins_both j sides left right = joins j left sides.right ++ joins j sides.left right
+joins_both j sides left right = match_joins j left sides.right ++ match_joins j sides.left right
 
 -- the stores with the new operands that they retain
 abbrev pub sides_stored : ℤ → SideStores → List PartialMatchTree → List PartialMatchTree → SideStores
@@ -118,13 +118,13 @@ sides_after now sides left right = sides_stored now (sides_kept now sides) left 
 -- parts
 abbrev pub levels_new : Window → ℤ → List PartialMatchTree → List PartialMatchTree → List (List PartialMatchTree) → List PartialMatchTree
 levels_new window now first new [] = first
-levels_new window now first new (held ∷ levels) = levels_new window now (joins join.Repeats (kept window now held) new) new levels
+levels_new window now first new (held ∷ levels) = levels_new window now (match_joins join.Repeats (kept window now held) new) new levels
 
 -- the levels after the row
 abbrev pub levels_after : Window → ℤ → List PartialMatchTree → List PartialMatchTree → List (List PartialMatchTree) → List (List PartialMatchTree)
 levels_after window now first new [] = []
 levels_after window now first new (held ∷ levels) =
-    stored window now held first ∷ levels_after window now (joins join.Repeats (kept window now held) new) new levels
+    stored window now held first ∷ levels_after window now (match_joins join.Repeats (kept window now held) new) new levels
 
 -- this many empty levels
 abbrev pub no_levels : ℕ → List (List PartialMatchTree)
@@ -150,9 +150,9 @@ raised window now zero sets = []
 raised window now (suc above) sets = kept window now sets ∷ no_levels above
 
 -- the sets of a REPEATS; of REPEATS 0 there are none
-abbrev pub counted : ℕ → List PartialMatchTree → List PartialMatchTree
-counted zero held = []
-counted (suc n) held = held
+abbrev pub repeated_sets : ℕ → List PartialMatchTree → List PartialMatchTree
+repeated_sets zero held = []
+repeated_sets (suc n) held = held
 
 -- the partial matches that end at a row
 abbrev pub step_new : Row → List Bool → State → List PartialMatchTree
@@ -161,7 +161,7 @@ step_new row truths (a_join j l r sides) = joins_new j row.last sides (step_new 
 step_new row truths (a_choice l r) = map (held_with First) (step_new row truths l) ++ map (held_with Second) (step_new row truths r)
 step_new row truths (a_limit part) = step_new row truths part
 step_new row truths (a_chain part count window levels) =
-    counted count (levels_new window row.last (map (held_with Single) (step_new row truths part)) (step_new row truths part) levels)
+    repeated_sets count (levels_new window row.last (map (held_with Single) (step_new row truths part)) (step_new row truths part) levels)
 
 -- the state after it
 abbrev pub step_state : Row → List Bool → State → State
@@ -175,10 +175,10 @@ step_state row truths (a_chain part count window levels) =
     (levels_after window row.last (map (held_with Single) (step_new row truths part)) (step_new row truths part) levels)
 
 -- a chain of leaves of which none holds
-abbrev pub IsNonmatching : List Bool → State → Type 0
-IsNonmatching truths (a_leaf leaf window) = truth_at truths leaf ≡ false
-IsNonmatching truths (a_choice l r) = IsNonmatching truths l × IsNonmatching truths r
-IsNonmatching truths _ = ⊥
+abbrev pub IsNonmatchingChain : List Bool → State → Type 0
+IsNonmatchingChain truths (a_leaf leaf window) = truth_at truths leaf ≡ false
+IsNonmatchingChain truths (a_choice l r) = IsNonmatchingChain truths l × IsNonmatchingChain truths r
+IsNonmatchingChain truths _ = ⊥
 
 -- empty stores of a node
 abbrev pub empty_sides : Window → Window → SideStores

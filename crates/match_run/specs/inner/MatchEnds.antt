@@ -8,18 +8,18 @@ use Rattle.match_input.specs.declared.read_end.ReadEnd.TheVariants as read
 use Rattle.match_run.specs.declared.match_end.MatchEnd.{MatchEnd}
 use Rattle.match_run.specs.declared.match_end.MatchEnd.TheVariants.{Input, ReadFault, WriteFault, OverLimit, NoMemory}
 
-abbrev pub end_of_read : ReadEnd → MatchEnd
-end_of_read (read.Input line why) = Input line why
-end_of_read read.ReadFault = ReadFault
-end_of_read read.Ended = NoMemory
-end_of_read read.NoMemory = NoMemory
+abbrev pub match_end_of_read : ReadEnd → MatchEnd
+match_end_of_read (read.Input line why) = Input line why
+match_end_of_read read.ReadFault = ReadFault
+match_end_of_read read.Ended = NoMemory
+match_end_of_read read.NoMemory = NoMemory
 
 -- what a running matcher may answer to rows in order
-abbrev pub MayEnd : MatchRefusal → Type 0
-MayEnd (refusal.Stopped (ending.OverLimit number retained_limit)) = ⊤
-MayEnd (refusal.Stopped (ending.OutOfOrder last now)) = ⊥
-MayEnd (refusal.Stopped ending.NoMemory) = ⊤
-MayEnd (refusal.Ended before) = ⊥
+abbrev pub MayEndMatching : MatchRefusal → Type 0
+MayEndMatching (refusal.Stopped (ending.OverLimit number retained_limit)) = ⊤
+MayEndMatching (refusal.Stopped (ending.OutOfOrder last now)) = ⊥
+MayEndMatching (refusal.Stopped ending.NoMemory) = ⊤
+MayEndMatching (refusal.Ended before) = ⊥
 
 abbrev pub end_of_match : MatchRefusal → MatchEnd
 end_of_match (refusal.Stopped (ending.OverLimit number retained_limit)) = OverLimit number retained_limit

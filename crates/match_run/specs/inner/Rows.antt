@@ -13,7 +13,7 @@ use Rattle.match_bindings.specs.NumberedPattern.{numbered_pattern}
 use Rattle.match_bindings.specs.BindTree.{BindTree}
 use Rattle.match_bindings.specs.Log.{IsInOrder}
 use Rattle.match_stream.specs.declared.ending.Ending.TheVariants as ending
-use Rattle.match_stream.specs.MatcherState.{MatcherState, Represents, Falls}
+use Rattle.match_stream.specs.MatcherState.{MatcherState, MatcherRepresents, Falls}
 use Rattle.match_stream.specs.Answer.{AreAnswers, IsOverLimit, joined_answers}
 use Rattle.match_input.specs.declared.batch.Batch.{Batch}
 use Rattle.match_input.specs.Reading.{BundleOf}
@@ -24,7 +24,7 @@ use Rattle.match_run.specs.declared.tally.Tally.{Tally}
 use Rattle.match_run.specs.declared.match_end.MatchEnd.{MatchEnd}
 use Rattle.match_run.specs.declared.match_end.MatchEnd.TheVariants.{Done, Input, ReadFault, WriteFault, OverLimit, NoMemory}
 
--- ---- what is counted
+-- ---- what is with_bindings
 
 abbrev pub no_tally : Tally
 no_tally = record { observations = 0; bindings = 0; last = 0 }
@@ -34,8 +34,8 @@ abbrev pub last_counted : ℕ → ℕ → ℕ → ℕ
 last_counted last number zero = last
 last_counted last number (suc more) = number
 
-abbrev pub counted : Tally → ℕ → ℕ → Tally
-counted tally number bindings = record {
+abbrev pub with_bindings : Tally → ℕ → ℕ → Tally
+with_bindings tally number bindings = record {
   observations = tally.observations + 1;
   bindings = tally.bindings + bindings;
   last = last_counted tally.last number bindings;
@@ -50,9 +50,9 @@ pub record HasAnswers (p : Pattern) (retained_limit : ℕ) (log : List LogEntry)
   pub answers_are : AreAnswers (numbered_pattern p) log answers
 
 -- a matcher and a tally after a log with these answers
-pub record IsAfter (p : Pattern) (retained_limit : ℕ) (state : MatcherState) (tally : Tally) (log : List LogEntry) (answers : List (List BindTree)) : Type 0 where
+pub record IsAfterLog (p : Pattern) (retained_limit : ℕ) (state : MatcherState) (tally : Tally) (log : List LogEntry) (answers : List (List BindTree)) : Type 0 where
   pub rows : HasAnswers p retained_limit log answers
-  pub represents : Represents state log
+  pub represents : MatcherRepresents state log
   pub observations_are : tally.observations ≡ length log
   pub bindings_are : tally.bindings ≡ length (joined_answers answers)
   pub few : tally.bindings ≤ length log * 2 ^ 64
@@ -68,7 +68,7 @@ so_far matcher tally = record { matcher = matcher; tally = tally }
 
 -- after this log, for the pattern and the limit of the matcher
 abbrev pub IsAt : Progress → List LogEntry → List (List BindTree) → Type 0
-IsAt run log answers = IsAfter run.matcher.pattern run.matcher.retained_limit run.matcher run.tally log answers
+IsAt run log answers = IsAfterLog run.matcher.pattern run.matcher.retained_limit run.matcher run.tally log answers
 
 -- after some log
 abbrev pub IsAtSome : Progress → Type 0
@@ -76,15 +76,15 @@ IsAtSome run = (log : List LogEntry) × (answers : List (List BindTree)) × IsAt
 
 -- ---- observations
 
-abbrev pub row_of : Observation → List Bool → LogEntry
-row_of o truths = record { first = o.first; last = o.last; truths = truths }
+abbrev pub log_row : Observation → List Bool → LogEntry
+log_row o truths = record { first = o.first; last = o.last; truths = truths }
 
 -- an observation adds its row, with this answer
 pub record AddsRow (p : Pattern) (retained_limit : ℕ) (objects : List Data) (o : Observation) (log : List LogEntry) (answers : List (List BindTree))
     (state : MatcherState) (tally : Tally) (answer : List BindTree) : Type 0 where
   pub truths : List Bool
   pub are : AreTruths objects o.roots (plain_pattern p) truths
-  pub behind : IsAfter p retained_limit state tally (log ++ row_of o truths ∷ []) (answers ++ answer ∷ [])
+  pub behind : IsAfterLog p retained_limit state tally (log ++ log_row o truths ∷ []) (answers ++ answer ∷ [])
 
 -- its row exceeds the limit
 pub record IsOverLimitAt (p : Pattern) (retained_limit : ℕ) (objects : List Data) (o : Observation) (log : List LogEntry) (state : MatcherState)
@@ -93,7 +93,7 @@ pub record IsOverLimitAt (p : Pattern) (retained_limit : ℕ) (objects : List Da
   pub are : AreTruths objects o.roots (plain_pattern p) truths
   pub numbered : number ≡ length log + 1
   pub retained_limit_is : named ≡ retained_limit
-  pub over_limit : IsOverLimit (numbered_pattern p) (log ++ row_of o truths ∷ []) retained_limit
+  pub over_limit : IsOverLimit (numbered_pattern p) (log ++ log_row o truths ∷ []) retained_limit
   pub ended : state.ended ≡ Some (ending.OverLimit number retained_limit)
 
 -- what an end at an observation says
@@ -113,11 +113,11 @@ pub record AddsRows (p : Pattern) (retained_limit : ℕ) (objects : List Data) (
   pub own : List LogEntry
   pub own_answers : List (List BindTree)
   pub entries : AreEntriesOf (plain_pattern p) objects observations own
-  pub behind : IsAfter p retained_limit state tally (log ++ own) (answers ++ own_answers)
+  pub behind : IsAfterLog p retained_limit state tally (log ++ own) (answers ++ own_answers)
   pub text_is : text ≡ listing_text (joined_answers own_answers)
 
 -- a part of a text is written, and the rest is buffered
-pub record IsBuffered (text pending : List ℕ) (first written : Option (List ℕ)) : Type 0 where
+pub record IsPartBuffered (text pending : List ℕ) (first written : Option (List ℕ)) : Type 0 where
   pub count : ℕ
   pub within : count ≤ length text
   pub written_is : written ≡ written_with (take count text) first
@@ -136,8 +136,8 @@ pub record ListsFirst (p : Pattern) (retained_limit : ℕ) (objects : List Data)
   pub text_is : text ≡ listing_text (joined_answers own_answers)
 
 -- a prefix of the lines of the first of them was written
-abbrev pub BreaksOff : Pattern → ℕ → List Data → List Observation → List LogEntry → List (List BindTree) → Option (List ℕ) → Option (List ℕ) → Type 0
-BreaksOff p retained_limit objects observations log answers first written =
+abbrev pub WritesListingPrefix : Pattern → ℕ → List Data → List Observation → List LogEntry → List (List BindTree) → Option (List ℕ) → Option (List ℕ) → Type 0
+WritesListingPrefix p retained_limit objects observations log answers first written =
     (text : List ℕ) × ListsFirst p retained_limit objects observations log answers text × WritesPrefix text first written
 
 -- one of them exceeds the limit
@@ -156,10 +156,10 @@ abbrev pub EndsAmong : Pattern → ℕ → List Data → List Observation → Li
 EndsAmong p retained_limit objects observations log answers state pending first written (Done seen bindings last) = ⊥
 EndsAmong p retained_limit objects observations log answers state pending first written (Input line why) = ⊥
 EndsAmong p retained_limit objects observations log answers state pending first written ReadFault = ⊥
-EndsAmong p retained_limit objects observations log answers state pending first written WriteFault = BreaksOff p retained_limit objects observations log answers first written
+EndsAmong p retained_limit objects observations log answers state pending first written WriteFault = WritesListingPrefix p retained_limit objects observations log answers first written
 EndsAmong p retained_limit objects observations log answers state pending first written (OverLimit number named) =
-    (text : List ℕ) × StopsAmong p retained_limit objects observations log answers state text number named × IsBuffered text pending first written
-EndsAmong p retained_limit objects observations log answers state pending first written NoMemory = BreaksOff p retained_limit objects observations log answers first written
+    (text : List ℕ) × StopsAmong p retained_limit objects observations log answers state text number named × IsPartBuffered text pending first written
+EndsAmong p retained_limit objects observations log answers state pending first written NoMemory = WritesListingPrefix p retained_limit objects observations log answers first written
 
 -- ---- a bundle, and what is written of it
 
@@ -175,16 +175,16 @@ abbrev pub EndsInBundle : Pattern → ℕ → List Data → List Observation →
 EndsInBundle p retained_limit objects observations log answers state written written_after (Done seen bindings last) = ⊥
 EndsInBundle p retained_limit objects observations log answers state written written_after (Input line why) = ⊥
 EndsInBundle p retained_limit objects observations log answers state written written_after ReadFault = ⊥
-EndsInBundle p retained_limit objects observations log answers state written written_after WriteFault = BreaksOff p retained_limit objects observations log answers written written_after
+EndsInBundle p retained_limit objects observations log answers state written written_after WriteFault = WritesListingPrefix p retained_limit objects observations log answers written written_after
 EndsInBundle p retained_limit objects observations log answers state written written_after (OverLimit number named) =
     (text : List ℕ) × StopsAmong p retained_limit objects observations log answers state text number named × (written_after ≡ written_with text written)
-EndsInBundle p retained_limit objects observations log answers state written written_after NoMemory = BreaksOff p retained_limit objects observations log answers written written_after
+EndsInBundle p retained_limit objects observations log answers state written written_after NoMemory = WritesListingPrefix p retained_limit objects observations log answers written written_after
 
 -- ---- the same, after any log
 
 -- an observation adds its row
-abbrev pub TakesRow : List Data → Observation → Progress → Progress → List BindTree → Type 0
-TakesRow objects o run after answer = (log : List LogEntry) (answers : List (List BindTree)) → IsAt run log answers
+abbrev pub TakesObservation : List Data → Observation → Progress → Progress → List BindTree → Type 0
+TakesObservation objects o run after answer = (log : List LogEntry) (answers : List (List BindTree)) → IsAt run log answers
     → AddsRow run.matcher.pattern run.matcher.retained_limit objects o log answers after.matcher after.tally answer
 
 -- or ends the run
@@ -193,14 +193,14 @@ StopsAtRow objects o run after end = (log : List LogEntry) (answers : List (List
     → EndsAtRow run.matcher.pattern run.matcher.retained_limit objects o log after end
 
 -- some observations of a bundle add their rows and their lines
-abbrev pub TakesRows : List Data → List Observation → Progress → Progress → List ℕ → Type 0
-TakesRows objects observations run after text = (log : List LogEntry) (answers : List (List BindTree)) → IsAt run log answers
+abbrev pub TakesObservations : List Data → List Observation → Progress → Progress → List ℕ → Type 0
+TakesObservations objects observations run after text = (log : List LogEntry) (answers : List (List BindTree)) → IsAt run log answers
     → AddsRows run.matcher.pattern run.matcher.retained_limit objects observations log answers after.matcher after.tally text
 
 -- and these lines are written or buffered
 abbrev pub GoesThrough : List Data → List Observation → Progress → Progress → List ℕ → Option (List ℕ) → Option (List ℕ) → Type 0
 GoesThrough objects observations run after pending first written =
-    (text : List ℕ) × TakesRows objects observations run after text × IsBuffered text pending first written
+    (text : List ℕ) × TakesObservations objects observations run after text × IsPartBuffered text pending first written
 
 -- or one of them ends the run
 abbrev pub StopsAtOne : List Data → List Observation → Progress → MatcherState → List ℕ → Option (List ℕ) → Option (List ℕ) → MatchEnd → Type 0
@@ -213,6 +213,6 @@ WritesBundle bundle run after written written_after = (log : List LogEntry) (ans
     → WritesRows run.matcher.pattern run.matcher.retained_limit bundle.objects bundle.observations log answers after.matcher after.tally written written_after
 
 -- or the run ends in it
-abbrev pub StopsInBundle : BundleOf → Progress → MatcherState → Option (List ℕ) → Option (List ℕ) → MatchEnd → Type 0
-StopsInBundle bundle run after written written_after end = (log : List LogEntry) (answers : List (List BindTree)) → IsAt run log answers
+abbrev pub StopsInBundleRows : BundleOf → Progress → MatcherState → Option (List ℕ) → Option (List ℕ) → MatchEnd → Type 0
+StopsInBundleRows bundle run after written written_after end = (log : List LogEntry) (answers : List (List BindTree)) → IsAt run log answers
     → EndsInBundle run.matcher.pattern run.matcher.retained_limit bundle.objects bundle.observations log answers after written written_after end

@@ -9,11 +9,11 @@ use Rattle.match_run.specs.declared.watch_end.WatchEnd.{WatchEnd}
 use Rattle.match_run.specs.declared.watch_end.WatchEnd.TheVariants.{Input, ReadFault, WriteFault, Stopped, NoMemory}
 
 -- where the reader ends
-abbrev pub end_of_read : {S : Type 0} → ReadEnd → WatchEnd S
-end_of_read (read.Input line why) = Input line why
-end_of_read read.ReadFault = ReadFault
-end_of_read read.Ended = NoMemory
-end_of_read read.NoMemory = NoMemory
+abbrev pub watch_end_of_read : {S : Type 0} → ReadEnd → WatchEnd S
+watch_end_of_read (read.Input line why) = Input line why
+watch_end_of_read read.ReadFault = ReadFault
+watch_end_of_read read.Ended = NoMemory
+watch_end_of_read read.NoMemory = NoMemory
 
 -- where the watcher ends
 abbrev pub end_of_see : {S : Type 0} → SeeEnd S → WatchEnd S

@@ -31,9 +31,9 @@ levels_state part levels = a_chain part levels.count levels.window (all_levels l
 abbrev pub leaves_of : Leaves → State
 leaves_of leaves = leaves_state leaves.first leaves.more leaves.window
 
-abbrev pub state_of : Node → State
-state_of (node.Leaves leaves) = leaves_of leaves
-state_of (node.Sides' how at_left left at_right right sides) = a_join how (state_of left) (state_of right) (side_stores (box_value sides))
-state_of (node.Either' at_left left at_right right) = a_choice (state_of left) (state_of right)
-state_of (node.Under' at_part part) = a_limit (state_of part)
-state_of (node.Repeats' at_part part levels) = levels_state (state_of part) (box_value levels)
+abbrev pub node_state : Node → State
+node_state (node.Leaves leaves) = leaves_of leaves
+node_state (node.Sides' how at_left left at_right right sides) = a_join how (node_state left) (node_state right) (side_stores (box_value sides))
+node_state (node.Either' at_left left at_right right) = a_choice (node_state left) (node_state right)
+node_state (node.Under' at_part part) = a_limit (node_state part)
+node_state (node.Repeats' at_part part levels) = levels_state (node_state part) (box_value levels)

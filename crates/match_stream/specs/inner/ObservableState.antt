@@ -5,8 +5,8 @@ use Rattle.match_bindings.specs.NumberedPattern.{numbered_pattern}
 use Rattle.match_stream.specs.declared.matcher.Matcher.TheInside.{Inside}
 use Rattle.match_stream.specs.MatcherState.{MatcherState}
 use Rattle.match_pruning.specs.inner.Steps.{contents_of}
-use Rattle.match_stream.specs.inner.Nodes.{state_of}
-use Rattle.match_stream.specs.inner.Shape.{fits}
+use Rattle.match_stream.specs.inner.Nodes.{node_state}
+use Rattle.match_stream.specs.inner.Shape.{state_fits}
 
 -- a matcher as plain data
 abbrev pub observable_state : Inside → MatcherState
@@ -16,9 +16,9 @@ observable_state matcher = record {
   ended = matcher.ended;
   rows = matcher.run.rows;
   last = matcher.run.last;
-  contents = contents_of (state_of matcher.run.node);
+  contents = contents_of (node_state matcher.run.node);
 }
 
 -- it has ended, or its nodes fit its pattern
 abbrev pub IsMade : Inside → Type 0
-IsMade matcher = (is_some matcher.ended || fits no_bounds (numbered_pattern matcher.pattern.now) (state_of matcher.run.node)) ≡ true
+IsMade matcher = (is_some matcher.ended || state_fits no_bounds (numbered_pattern matcher.pattern.now) (node_state matcher.run.node)) ≡ true

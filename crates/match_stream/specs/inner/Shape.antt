@@ -29,14 +29,14 @@ same_window a b = (same_count a.seconds b.seconds && same_time a.start b.start) 
 abbrev pub have_windows : SideStores → Window → Window → Bool
 have_windows sides left right = same_window sides.left_window left && same_window sides.right_window right
 
--- whether it fits this pattern under these qualifiers
-abbrev pub fits : Bounds → NumberedPattern → State → Bool
-fits above (Leaf k) (a_leaf leaf window) = nat_eq leaf k && same_window window (window_of above false)
-fits above (Both p q) (a_join join.Both l r sides) = (fits above p l && fits above q r) && have_windows sides (window_of above false) (window_of above false)
-fits above (Then p q) (a_join join.Then l r sides) = (fits above p l && fits above q r) && have_windows sides (window_of above false) (window_of above true)
-fits above (Either p q) (a_choice l r) = fits above p l && fits above q r
-fits above (Within p x) (a_limit part) = fits (within above x) p part
-fits above (Between p x y) (a_limit part) = fits (between above x y) p part
-fits above (Repeats p n) (a_chain part count window levels) =
-    (fits above p part && same_window window (window_of above false)) && (nat_eq count n && nat_eq (length levels) (n - 1))
-fits above _ _ = false
+-- whether it state_fits this pattern under these qualifiers
+abbrev pub state_fits : Bounds → NumberedPattern → State → Bool
+state_fits above (Leaf k) (a_leaf leaf window) = nat_eq leaf k && same_window window (window_of above false)
+state_fits above (Both p q) (a_join join.Both l r sides) = (state_fits above p l && state_fits above q r) && have_windows sides (window_of above false) (window_of above false)
+state_fits above (Then p q) (a_join join.Then l r sides) = (state_fits above p l && state_fits above q r) && have_windows sides (window_of above false) (window_of above true)
+state_fits above (Either p q) (a_choice l r) = state_fits above p l && state_fits above q r
+state_fits above (Within p x) (a_limit part) = state_fits (within above x) p part
+state_fits above (Between p x y) (a_limit part) = state_fits (between above x y) p part
+state_fits above (Repeats p n) (a_chain part count window levels) =
+    (state_fits above p part && same_window window (window_of above false)) && (nat_eq count n && nat_eq (length levels) (n - 1))
+state_fits above _ _ = false

@@ -7,7 +7,7 @@ use Rattle.match_pruning.specs.declared.join.Join.TheVariants as join
 use Rattle.match_pruning.specs.declared.row.Row.{Row}
 use Rattle.match_pruning.specs.PartialMatchTree.{PartialMatchTree}
 use Rattle.match_stream.specs.RetainedPart.{held_count}
-use Rattle.match_pruning.specs.inner.Steps.{held_with, joins, kept, State, a_leaf, a_join, a_choice, a_limit, a_chain, step_new, step_state, contents_of}
+use Rattle.match_pruning.specs.inner.Steps.{held_with, match_joins, kept, State, a_leaf, a_join, a_choice, a_limit, a_chain, step_new, step_state, contents_of}
 use Rattle.match_pruning.specs.inner.Needed.{PendingLeftTrees, needed}
 
 -- what its stores hold
@@ -27,7 +27,7 @@ AdmitsRight _ window now new = kept window now new ≡ new
 abbrev pub AdmitLevels : Window → ℤ → List PartialMatchTree → List PartialMatchTree → List (List PartialMatchTree) → Type 0
 AdmitLevels window now first new [] = ⊤
 AdmitLevels window now first new (held ∷ levels) =
-    (kept window now first ≡ first) × AdmitLevels window now (joins join.Repeats (kept window now held) new) new levels
+    (kept window now first ≡ first) × AdmitLevels window now (match_joins join.Repeats (kept window now held) new) new levels
 
 -- each store admits what is new below it
 abbrev pub Admits : Row → List Bool → State → Type 0

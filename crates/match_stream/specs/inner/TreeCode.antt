@@ -33,9 +33,9 @@ abbrev built : List (ℕ × ℕ) → List BindTree → List BindTree
 built [] trees = trees
 built (node ∷ more) trees = built more (with_node node.0 node.1 trees)
 
-abbrev first_of : List BindTree → BindTree
-first_of [] = Empty
-first_of (a ∷ trees) = a
+abbrev first_tree : List BindTree → BindTree
+first_tree [] = Empty
+first_tree (a ∷ trees) = a
 
 -- decoding the nodes of a tree gives the tree
 pub built-nodes : (x : BindTree) (more : List (ℕ × ℕ)) (trees : List BindTree) → built (nodes x more) trees ≡ built more (x ∷ trees)
@@ -49,4 +49,4 @@ built-nodes (More m a) more trees = built-nodes m (nodes a ((6, 0) ∷ more)) tr
 
 abbrev pub tree_code : Coded BindTree
 tree_code =
-    code_by (List (ℕ × ℕ)) (coded_list (coded× coded_ℕ coded_ℕ)) (λ x. nodes x []) (λ list. first_of (built list [])) (λ x. ap first_of (built-nodes x [] []))
+    code_by (List (ℕ × ℕ)) (coded_list (coded× coded_ℕ coded_ℕ)) (λ x. nodes x []) (λ list. first_tree (built list [])) (λ x. ap first_tree (built-nodes x [] []))

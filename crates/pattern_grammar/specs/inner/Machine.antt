@@ -6,7 +6,7 @@ use Rattle.pattern_lexer.specs.declared.token.TokenKind.TheVariants as kind
 use Rattle.pattern_grammar.specs.{declared.class.TokenClass.TokenClass, TokenClass.is_in, declared.stop.Stop.Stop, TokenClass.IsA}
 use Rattle.pattern_grammar.specs.declared.class.TokenClass.TheVariants.{Only, Root, Name, Index, Equality, Order, Textual, Ordered, Constant, Qualifying, Stepping}
 use Rattle.pattern_grammar.specs.declared.{depth.Counts.Counts, stop.Stop.TheVariants.Memory, stop.Stop.TheVariants.Syntax}
-use Rattle.pattern_grammar.specs.Depth.{how_many, EndsWithIn, FirstTooMany}
+use Rattle.pattern_grammar.specs.Depth.{class_count, EndsWithIn, FirstTooMany}
 
 -- a nonterminal whose first token decides the alternative
 pub data ExpectedLine : Type 0 where
@@ -145,21 +145,21 @@ pub record BeginsLine (class : TokenClass) (token : Token) (ts rest : List Token
   pub all_are : ts ≡ token ∷ rest
 
 -- the first token isn't of the class
-abbrev pub Lacks : TokenClass → List Token → Type 0
-Lacks class [] = Unit {0}
-Lacks class (t ∷ ts) = is_in class t.kind ≡ false
+abbrev pub LacksTokenClass : TokenClass → List Token → Type 0
+LacksTokenClass class [] = Unit {0}
+LacksTokenClass class (t ∷ ts) = is_in class t.kind ≡ false
 
 -- the first token is no operator but IN
 pub record LacksOperator (ts : List Token) : Type 0 where
-  pub equality : Lacks Equality ts
-  pub order : Lacks Order ts
-  pub textual : Lacks Textual ts
+  pub equality : LacksTokenClass Equality ts
+  pub order : LacksTokenClass Order ts
+  pub textual : LacksTokenClass Textual ts
 
 -- the first token is neither `(` nor EXISTS nor NOT
 pub record LacksTestWord (ts : List Token) : Type 0 where
-  pub round : Lacks (Only kind.RoundOpen) ts
-  pub exists : Lacks (Only kind.Exists) ts
-  pub not : Lacks (Only kind.Not) ts
+  pub round : LacksTokenClass (Only kind.RoundOpen) ts
+  pub exists : LacksTokenClass (Only kind.Exists) ts
+  pub not : LacksTokenClass (Only kind.Not) ts
 
 -- the tokens lead from the stack before them to the stack after them, if these follow
 pub record Leads (before after : List Expected → List Expected) (read rest : List Token) : Type 0 where
@@ -203,9 +203,9 @@ Refused Spells before ts (Syntax rest) = Stuck Spells before ts rest.now
 
 -- the counts are those of the tokens
 pub record CountsOf (ts : List Token) (counts : Counts) : Type 0 where
-  pub opened : counts.opened ≡ how_many (Only RoundOpen) ts
-  pub closed : counts.closed ≡ how_many (Only RoundClose) ts
-  pub qualifiers : counts.qualifiers ≡ how_many Qualifying ts
+  pub opened : counts.opened ≡ class_count (Only RoundOpen) ts
+  pub closed : counts.closed ≡ class_count (Only RoundClose) ts
+  pub qualifiers : counts.qualifiers ≡ class_count Qualifying ts
   pub after_in : IsTrue counts.after_in ↔ EndsWithIn ts
 
 -- the number of tokens before the first that exceeds a limit

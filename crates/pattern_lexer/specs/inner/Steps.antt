@@ -23,7 +23,7 @@ pub record IsRun (P : ℕ → Type 0) (whole front after : List ℕ) : Type 0 wh
   pub ends : ¬ HasAt 0 P after
 
 -- a letter or `_`, then such, digits and `-`: each name and keyword
-pub record IsName (text : List ℕ) : Type 0 where
+pub record IsNameOrKeyword (text : List ℕ) : Type 0 where
   pub starts : HasAt 0 IsWordStart text
   pub parts : All IsHyphenWordPart text
 

@@ -7,7 +7,7 @@ use Rattle.pattern_reader.specs.{declared.analysis.Analysis.Analysis, declared.v
 use Rattle.pattern_reader.specs.{LeafMeaning.Means, LeafMeaning.AllParts, LeafMeaning.AnyParts, declared.analysis.Chain.Chain}
 use Rattle.pattern_types.specs.Soundness.{IsSoundLeaf, AreSoundLeaves}
 use Rattle.pattern_reader.specs.ValueRefusal.{IsEarliestOf, Precedes}
-use Rattle.pattern_reader.specs.Refusals.{RefusalOfComparison, HasRoot, first_of}
+use Rattle.pattern_reader.specs.Refusals.{RefusalOfComparison, HasRoot, first_token}
 
 -- the value, or the earliest of its refusals
 pub record IsOutcome {T : Type 0} (IsThis : T → Type 0) (IsRefusal : ValueRefusal → Type 0) (outcome : Result T ValueRefusal) : Type 0 where
@@ -21,7 +21,7 @@ pub record IsLeafOf (text : List ℕ) (c : Comparison) (leaf : Leaf) : Type 0 wh
 
 -- the attributes of a comparison
 pub record IsAnalysis (text : List ℕ) (c : Comparison) (analysis : Analysis) : Type 0 where
-  pub at : analysis.at ≡ (first_of c).from
+  pub at : analysis.at ≡ (first_token c).from
   pub roots : (root : List ℕ) → Has analysis.roots root ↔ HasRoot text c root
   pub leaf : IsOutcome (IsLeafOf text c) (RefusalOfComparison text c) analysis.leaf
 
@@ -38,7 +38,7 @@ IsJoined join (Err p) (Err q) (Err r) = IsFirstOfTwo p q r
 IsJoined join _ _ _ = ⊥
 
 -- the sound operands of a chain of AND, which have a root kind in common
-pub record AreAll (text : List ℕ) (c : Comparison) (parts : List Leaf) : Type 0 where
+pub record AreRootedOperands (text : List ℕ) (c : Comparison) (parts : List Leaf) : Type 0 where
   pub means : AllParts text c (listed parts)
   pub sound : AreSoundLeaves (listed parts)
   pub rooted : (root : List ℕ) × HasRoot text c root
@@ -49,6 +49,6 @@ pub record AreAny (text : List ℕ) (c : Comparison) (parts : List Leaf) : Type 
   pub sound : AreSoundLeaves (listed parts)
 
 pub record IsChain (AreParts : List ℕ → Comparison → List Leaf → Type 0) (text : List ℕ) (c : Comparison) (chain : Chain) : Type 0 where
-  pub at : chain.at ≡ (first_of c).from
+  pub at : chain.at ≡ (first_token c).from
   pub roots : (root : List ℕ) → Has chain.roots root ↔ HasRoot text c root
   pub parts : IsOutcome (AreParts text c) (RefusalOfComparison text c) chain.parts

@@ -21,8 +21,8 @@ abbrev pub same_id : Id → Id → Bool
 same_id id other = bytes_eq id.kind other.kind && (id.number == other.number)
 
 -- the map has this position for the identifier, and is unchanged for all others
-abbrev pub Puts : Positions → Positions → Id → ℕ → Type 0
-Puts before after id at = (other : Id) → position_of after other ≡ (if same_id id other then Some at else position_of before other)
+abbrev pub PutsPosition : Positions → Positions → Id → ℕ → Type 0
+PutsPosition before after id at = (other : Id) → position_of after other ≡ (if same_id id other then Some at else position_of before other)
 
 -- the object at the position was modified later than this time
 abbrev pub Supersedes : List Data → Option ℕ → Option ℤ → Type 0
@@ -40,13 +40,13 @@ abbrev pub ArePositionsOf : List Data → Positions → Type 0
 ArePositionsOf objects positions = (id : Id) → IsPositionOf objects id (position_of positions id)
 
 -- the correct index: nothing for a few objects, else the positions of their latest versions
-abbrev pub IsIndexOf : List Data → Index → Type 0
-IsIndexOf objects Unindexed = ⊤
-IsIndexOf objects (Many positions) = ArePositionsOf objects positions
+abbrev pub IsIndexOfObjects : List Data → Index → Type 0
+IsIndexOfObjects objects Unindexed = ⊤
+IsIndexOfObjects objects (Many positions) = ArePositionsOf objects positions
 
 -- the invariant of a bundle's objects and its index
 pub record IsIndexed (objects : List Data) (index : Index) : Type 0 where
   pub counted : length objects ≤ MAX_OBJECTS
   pub unbroken : AreAllBreaks 0 objects []
   pub ordered : All IsOrdered objects
-  pub indexed : IsIndexOf objects index
+  pub indexed : IsIndexOfObjects objects index

@@ -6,7 +6,7 @@ use Rattle.stix_objects.specs.declared.form.Precision.TheVariants.{Any}
 use Rattle.stix_objects.specs.Properties.{IsTimestampAt}
 use Rattle.stix_bundles.specs.declared.last_time.LastTime.{LastTime}
 use Rattle.stix_bundles.specs.declared.observation.Observation.{Observation}
-use Rattle.stix_bundles.specs.Observations.{IsObservedData, IsObservedAt, IsObservationAt, ObservationAt, how_many}
+use Rattle.stix_bundles.specs.Observations.{IsObservedData, IsObservedAt, IsObservationAt, ObservationAt, observation_count}
 
 -- the last time is that of an observed-data of the objects
 pub record IsLastTimeOf (objects : List Data) (last_time : LastTime) : Type 0 where
@@ -21,7 +21,7 @@ pub record AreLastTimesBefore (objects : List Data) (end : ℕ) (last_times : Li
   pub before : All (λ m. m.at < end) last_times
   pub all : (at : ℕ) → at < end → IsObservedAt objects at → (m : LastTime) × Contains last_times m × (m.at ≡ at)
   pub once : IsDistinct (λ m n. m.at == n.at) last_times
-  pub count : length last_times ≡ how_many (take end objects)
+  pub count : length last_times ≡ observation_count (take end objects)
 
 -- the last times of all observed-data of the objects
 abbrev pub AreLastTimes : List Data → List LastTime → Type 0

@@ -37,8 +37,8 @@ IsReadError found NotJson = found ≡ None
 IsReadError found NoMemory = ⊤
 
 -- the name of a raw member
-abbrev pub name_of : RawMember → List ℕ
-name_of g = g.name
+abbrev pub member_name : RawMember → List ℕ
+member_name g = g.name
 
 -- the state after these members
 pub record AreFields (levels : ℕ) (done : List Member) (fields : Fields) : Type 0 where

@@ -11,20 +11,20 @@ use Rattle.stix_json.specs.declared.refusal.JsonRefusal.TheVariants.{TooDeep, No
 use Rattle.stix_json.specs.declared.read_error.ReadError.{ReadError}
 use Rattle.stix_json.specs.declared.read_error.ReadError.TheVariants.{NotJson as NoValue, NoMemory as OutOfMemory}
 use Rattle.stix_json.specs.Walk.{index_part}
-use Rattle.stix_json.specs.inner.ValueErrors.{under, path_of, value_error_under, refusal_at, number_value_error, value_error_here}
+use Rattle.stix_json.specs.inner.ValueErrors.{location_under, location_path, value_error_under, refusal_at, number_value_error, value_error_here}
 
 -- the error as seen from one part higher
 abbrev pub first_error_under : List ℕ → FirstError → FirstError
-first_error_under part (Deep location) = Deep (under part location)
+first_error_under part (Deep location) = Deep (location_under part location)
 first_error_under part (InvalidValue value_error) = InvalidValue (value_error_under part value_error)
 
 -- the error that counts of an earlier and a later one: the first that is too deep, else the first
-abbrev pub first_of : Option FirstError → Option FirstError → Option FirstError
-first_of None later = later
-first_of (Some (Deep location)) later = Some (Deep location)
-first_of (Some (InvalidValue value_error)) None = Some (InvalidValue value_error)
-first_of (Some (InvalidValue value_error)) (Some (Deep location)) = Some (Deep location)
-first_of (Some (InvalidValue value_error)) (Some (InvalidValue later)) = Some (InvalidValue value_error)
+abbrev pub deciding_error : Option FirstError → Option FirstError → Option FirstError
+deciding_error None later = later
+deciding_error (Some (Deep location)) later = Some (Deep location)
+deciding_error (Some (InvalidValue value_error)) None = Some (InvalidValue value_error)
+deciding_error (Some (InvalidValue value_error)) (Some (Deep location)) = Some (Deep location)
+deciding_error (Some (InvalidValue value_error)) (Some (InvalidValue later)) = Some (InvalidValue value_error)
 
 -- the first error of a value that may have this many levels of lists and objects
 abbrev mutual
@@ -41,15 +41,15 @@ abbrev mutual
   -- of the items from an index on
   pub items_first_error : ℕ → ℕ → Items → Option FirstError
   items_first_error levels at no_items = None
-  items_first_error levels at (item d ds) = first_of (option_map (first_error_under (index_part at)) (first_error levels d)) (items_first_error levels (at + 1) ds)
+  items_first_error levels at (item d ds) = deciding_error (option_map (first_error_under (index_part at)) (first_error levels d)) (items_first_error levels (at + 1) ds)
 
   pub members_first_error : ℕ → Members → Option FirstError
   members_first_error levels no_members = None
-  members_first_error levels (member name d ms) = first_of (option_map (first_error_under name) (first_error levels d)) (members_first_error levels ms)
+  members_first_error levels (member name d ms) = deciding_error (option_map (first_error_under name) (first_error levels d)) (members_first_error levels ms)
 
 -- the refusal of a whole value with this first error
 abbrev pub refusal_of_first_error : FirstError → JsonRefusal
-refusal_of_first_error (Deep location) = TooDeep (path_of location)
+refusal_of_first_error (Deep location) = TooDeep (location_path location)
 refusal_of_first_error (InvalidValue value_error) = refusal_at value_error
 
 -- the refusal of bytes that yield no value

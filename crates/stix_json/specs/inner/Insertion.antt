@@ -29,14 +29,14 @@ ends_with name q (x ∷ []) = bytes_eq (name x) q
 ends_with name q (x ∷ y ∷ ys) = ends_with name q (y ∷ ys)
 
 -- the first of these follows the name
-abbrev pub IsAfter : {X : Type 0} → (X → List ℕ) → List ℕ → List X → Type 0
-IsAfter name q [] = ⊤
-IsAfter name q (x ∷ xs) = slice_cmp nat_cmp q (name x) ≡ Less
+abbrev pub IsAfterName : {X : Type 0} → (X → List ℕ) → List ℕ → List X → Type 0
+IsAfterName name q [] = ⊤
+IsAfterName name q (x ∷ xs) = slice_cmp nat_cmp q (name x) ≡ Less
 
 -- the names are strictly ascending
 abbrev pub NamesAscend : {X : Type 0} → (X → List ℕ) → List X → Type 0
 NamesAscend name [] = ⊤
-NamesAscend name (x ∷ xs) = IsAfter name (name x) xs × NamesAscend name xs
+NamesAscend name (x ∷ xs) = IsAfterName name (name x) xs × NamesAscend name xs
 
 -- the names are sorted, and may repeat
 abbrev pub NamesAreSorted : {X : Type 0} → (X → List ℕ) → List X → Type 0

@@ -15,16 +15,16 @@ use Rattle.stix_json.specs.declared.refusal.JsonRefusal.TheVariants.{NotWhole, N
 use Rattle.stix_json.specs.Walk.{index_part}
 
 -- the location as seen from one part higher
-abbrev pub under : List ℕ → Location → Location
-under part Here = Below part
-under part (Below path) = Below (part ++ 46 ∷ path)
+abbrev pub location_under : List ℕ → Location → Location
+location_under part Here = Below part
+location_under part (Below path) = Below (part ++ 46 ∷ path)
 
-abbrev pub path_of : Location → List ℕ
-path_of Here = []
-path_of (Below path) = path
+abbrev pub location_path : Location → List ℕ
+location_path Here = []
+location_path (Below path) = path
 
 abbrev pub value_error_under : List ℕ → ValueError → ValueError
-value_error_under part value_error = record { reason = value_error.reason; location = under part value_error.location }
+value_error_under part value_error = record { reason = value_error.reason; location = location_under part value_error.location }
 
 -- the refusal of a whole value with this error
 abbrev pub refusal_for : Reason → List ℕ → JsonRefusal
@@ -33,7 +33,7 @@ refusal_for IsNull path = Null path
 refusal_for PastRange path = OutOfRange path
 
 abbrev pub refusal_at : ValueError → JsonRefusal
-refusal_at value_error = refusal_for value_error.reason (path_of value_error.location)
+refusal_at value_error = refusal_for value_error.reason (location_path value_error.location)
 
 abbrev pub whole_value_error : Option ℤ → Option Reason
 whole_value_error None = Some NoWhole
@@ -76,8 +76,8 @@ abbrev mutual
 
   pub items_too_deep : ℕ → ℕ → Items → Option Location
   items_too_deep left at no_items = None
-  items_too_deep left at (item d ds) = option_or (option_map (under (index_part at)) (too_deep left d)) (items_too_deep left (at + 1) ds)
+  items_too_deep left at (item d ds) = option_or (option_map (location_under (index_part at)) (too_deep left d)) (items_too_deep left (at + 1) ds)
 
   pub members_too_deep : ℕ → Members → Option Location
   members_too_deep left no_members = None
-  members_too_deep left (member name d ms) = option_or (option_map (under name) (too_deep left d)) (members_too_deep left ms)
+  members_too_deep left (member name d ms) = option_or (option_map (location_under name) (too_deep left d)) (members_too_deep left ms)

@@ -18,10 +18,10 @@ abbrev pub AddsOne : Row → Data → List Break → List Break → Type 0
 AddsOne row d before after = (outcome : Option BreakAt) × Checks row d outcome × (after ≡ with_break before outcome)
 
 -- the violations before, with those of the rows
-abbrev pub Adds : List Row → Data → List Break → List Break → Type 0
-Adds [] d before after = after ≡ before
-Adds (row ∷ rows) d before after =
-    (outcome : Option BreakAt) × Checks row d outcome × Adds rows d (with_break before outcome) after
+abbrev pub AddsBreaks : List Row → Data → List Break → List Break → Type 0
+AddsBreaks [] d before after = after ≡ before
+AddsBreaks (row ∷ rows) d before after =
+    (outcome : Option BreakAt) × Checks row d outcome × AddsBreaks rows d (with_break before outcome) after
 
 -- the common rows that apply to a type with this group and these own rows
 abbrev pub applicable_rows : Group → List Row → List CommonRow → List Row

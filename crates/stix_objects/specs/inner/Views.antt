@@ -70,14 +70,14 @@ row_view RowIn.Colour = colour
 row_view RowIn.ColourId = colour_id
 
 -- the group, if the flag is set
-abbrev pub only_if : Bool → Group → List Group
-only_if true group = group ∷ []
-only_if false group = []
+abbrev pub group_if : Bool → Group → List Group
+group_if true group = group ∷ []
+group_if false group = []
 
 -- some of the groups
 abbrev pub groups_view : GroupsIn → List Group
 groups_view groups =
-    only_if groups.domain Domain ++ (only_if groups.marking Marking ++ (only_if groups.observable Observable ++ only_if groups.other Other))
+    group_if groups.domain Domain ++ (group_if groups.marking Marking ++ (group_if groups.observable Observable ++ group_if groups.other Other))
 
 -- a row of several types
 abbrev pub common_view : CommonRowIn → CommonRow

@@ -13,5 +13,5 @@ pub record AreVersionsBefore (objects : List Data) (end : ℕ) (seen : History) 
   pub duplicates : AreDuplicatesBefore objects end seen.duplicates
 
 -- the violation, if the condition holds
-abbrev pub only_if : Bool → VersionBreak → List VersionBreak
-only_if broken break = if broken then break ∷ [] else []
+abbrev pub violation_if : Bool → VersionBreak → List VersionBreak
+violation_if broken break = if broken then break ∷ [] else []

@@ -10,7 +10,7 @@ use Rattle.taxii_service.specs.Exchanges.{Exchange, IsExchange}
 use Rattle.taxii_server.specs.declared.receive_end.ReceiveEnd.{ReceiveEnd}
 use Rattle.taxii_server.specs.declared.receive_end.ReceiveEnd.TheVariants.{AtEnd, Refused, NoMemory, Failed}
 use Rattle.taxii_server.specs.Environment.{Environment}
-use Rattle.taxii_server.specs.Connections.{is_out_of_memory, Pass}
+use Rattle.taxii_server.specs.Connections.{ends_out_of_memory, Pass}
 
 -- the request had one exchange, and its answer was written, or less than all of it
 pub record Answers {E : Type 0} (config : Config) (before : State) (request : Request) (is_last : Bool) (environment environment_now : Environment) (written written_now : Option (List ℕ))
@@ -22,7 +22,7 @@ pub record Answers {E : Type 0} (config : Config) (before : State) (request : Re
   pub after_is : exchange.after ≡ after
   pub passes : Pass (exchange ∷ []) environment environment_now
   pub close : Bool
-  pub close_is : close ≡ (request.close || is_out_of_memory exchange.course || is_last)
+  pub close_is : close ≡ (request.close || ends_out_of_memory exchange.course || is_last)
   pub text : List ℕ
   pub text_is : IsAnswerText exchange.answer close text
   pub writes : MatchResult result

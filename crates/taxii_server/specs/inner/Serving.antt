@@ -7,7 +7,7 @@ use Rattle.taxii_server.specs.Environment.{LinkView, Environment}
 use Rattle.taxii_server.specs.Connections.{Connection, Pass}
 use Rattle.taxii_server.specs.declared.connection.TheConstants.{MAX_REQUESTS}
 use Rattle.taxii_server.specs.declared.served.Served.{Served}
-use Rattle.taxii_server.specs.Serving.{Client, exchanges_of, HaveConnections, PassThrough}
+use Rattle.taxii_server.specs.Serving.{Client, exchanges_of, HaveConnections, PassThroughDoor}
 
 -- the client of a link had its connection, and the link was returned
 pub record ServesClient {L : Type 0} (view : L → LinkView) (config : Config) (before : State) (link : L) (environment environment_now : Environment)
@@ -25,7 +25,7 @@ pub record SoFar {L : Type 0} (view : L → LinkView) (config : Config) (before 
   pub clients : List (Client L)
   pub connections : HaveConnections view config before clients now
   pub passes : Pass (exchanges_of clients) environment environment_now
-  pub through : PassThrough port clients door door_now
+  pub through : PassThroughDoor port clients door door_now
   pub count : served.connections ≡ length clients
   pub requests : served.requests ≡ length (exchanges_of clients)
   pub few : served.requests ≤ MAX_REQUESTS * served.connections

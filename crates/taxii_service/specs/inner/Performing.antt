@@ -9,7 +9,7 @@ use Rattle.taxii_routes.specs.declared.query.Query.{Query}
 use Rattle.taxii_routes.specs.declared.route.Route.{Route}
 use Rattle.taxii_service.specs.declared.operation.Operation.{Operation as Made}
 use Rattle.taxii_service.specs.declared.operation.Operation.TheVariants as made
-use Rattle.taxii_exchange.specs.Statuses.{body_of}
+use Rattle.taxii_exchange.specs.Statuses.{kept_status_body}
 use Rattle.taxii_service.specs.declared.state.State.{State}
 use Rattle.taxii_service.specs.Resource.{Resource, Status, resource_of}
 use Rattle.taxii_service.specs.Operation.{Operation, Read, Add, Remove, Does}
@@ -23,14 +23,14 @@ operation_of (made.Remove info id) = Remove info.now (id_of id)
 
 -- the status that is read is kept
 abbrev pub HasStatus : State → Resource → Type 0
-HasStatus state resource = (id : List ℕ) → resource ≡ Status id → body_of id state.statuses ≢ None
+HasStatus state resource = (id : List ℕ) → resource ≡ Status id → kept_status_body id state.statuses ≢ None
 
 -- an answer and a state with other rows
 abbrev pub ChangesBy : (Answer → State → Type 0) → State → Type 0
 ChangesBy Rule before = (answer : Answer) × (after : State) × Rule answer after × (after.library.rows ≢ before.library.rows)
 
-abbrev pub Changes : Config → State → ℕ → List ℕ → Query → Operation → Type 0
-Changes config before moment body query operation = ChangesBy (Does config before moment body query operation) before
+abbrev pub MethodChanges : Config → State → ℕ → List ℕ → Query → Operation → Type 0
+MethodChanges config before moment body query operation = ChangesBy (Does config before moment body query operation) before
 
 abbrev pub RouteChanges : Config → State → ℕ → Request → Route → List ℕ → Type 0
 RouteChanges config before moment request route text = ChangesBy (IsDone config before moment request route text) before

@@ -4,7 +4,7 @@ use Rattle.stix_json.specs.declared.entry.Entry.{Entry}
 use Rattle.stix_json.specs.declared.entry.Entry.TheVariants.{Good, Bad}
 use Rattle.stix_json.specs.DataOf.{data_of}
 use Rattle.stix_json.specs.Ordered.{IsOrdered}
-use Rattle.stix_json.specs.Refusal.{refusal_of}
+use Rattle.stix_json.specs.Refusal.{data_refusal}
 use Rattle.taxii_rows.specs.declared.described.Described.{Described}
 use Rattle.taxii_store.specs.Planned.{IsSound}
 use Rattle.taxii_bodies.specs.declared.details.Detail.{Detail}
@@ -13,9 +13,9 @@ use Rattle.taxii_service.specs.declared.posted.TheConstants.{MAX_DETAILS}
 use Rattle.taxii_service.specs.Posted.{IsKept, Fails, IsDetailOf}
 
 -- where the entry is a value, JSON's limits take it, and its names are in order
-abbrev pub IsTaken : Entry → Type 0
-IsTaken (Good value) = (refusal_of (data_of value) ≡ None) × IsOrdered (data_of value)
-IsTaken (Bad refusal) = ⊤
+abbrev pub IsTakenEntry : Entry → Type 0
+IsTakenEntry (Good value) = (data_refusal (data_of value) ≡ None) × IsOrdered (data_of value)
+IsTakenEntry (Bad refusal) = ⊤
 
 -- one more object
 pub record AddsObject (entry : Entry) (old new : Posted) : Type 0 where
@@ -40,5 +40,5 @@ pub record AddsFailure (moment : ℕ) (entry : Entry) (old new : Posted) : Type 
   pub count : new.failure_count ≡ old.failure_count + 1
 
 -- one more entry
-abbrev pub Adds : ℕ → Entry → Posted → Posted → Type 0
-Adds moment entry old new = AddsObject entry old new ⊎ AddsFailure moment entry old new
+abbrev pub AddsEntry : ℕ → Entry → Posted → Posted → Type 0
+AddsEntry moment entry old new = AddsObject entry old new ⊎ AddsFailure moment entry old new

@@ -30,7 +30,7 @@ HasIdsWhere (Some ids) None = ⊥
 HasIdsWhere (Some ids) (Some set) = HasIds ids set.ids.items
 
 -- what the query asks of the collection and of the one object, if any
-pub record Asks (collection : ℕ) (only : Option Id) (query : Query) (asked : RowFilter) : Type 0 where
+pub record AsksOfCollection (collection : ℕ) (only : Option Id) (query : Query) (asked : RowFilter) : Type 0 where
   pub collection_is : asked.collection ≡ collection
   pub only_is : option_map (λ id. id.now) asked.only ≡ only
   pub kinds_are : HasTextsWhere query.kinds asked.kinds

@@ -2,7 +2,7 @@
 -- to the moment once their number is known.
 use Rattle.std.specs.Prelude.{◌≡◌, ⊤, ℕ, pos, ◌+◌, ◌-◌, ◌≤◌, ◌<◌, cond, nat_lt, List, [], ◌∷◌, ◌++◌, length, map, All, None, MatchOption}
 use Rattle.taxii_rows.specs.declared.described.Described.{Described}
-use Rattle.taxii_rows.specs.Described.{row_of}
+use Rattle.taxii_rows.specs.Described.{stored_row_of}
 use Rattle.taxii_rows.specs.StoreState.{StoreState}
 use Rattle.taxii_index.specs.Presence.{duplicate_of}
 use Rattle.taxii_rows.specs.declared.stored_row.StoredRow.{StoredRow}
@@ -33,9 +33,9 @@ abbrev pub next_date : ℕ → List StoredRow → ℕ
 next_date watermark new = watermark + 1 + length new
 
 -- what the next object makes of the outcomes and the new rows of a draft
-abbrev pub Places : StoreState → ℕ → Described → List AddOutcome → List StoredRow → List AddOutcome → List StoredRow → Type 0
-Places state collection object outcomes new outcomes_now new_now = MatchOption (duplicate_of collection object (state.rows ++ new))
-    ((outcomes_now ≡ outcomes ++ Added (next_date state.watermark new) ∷ []) × (new_now ≡ new ++ row_of object (next_date state.watermark new) collection ∷ []))
+abbrev pub PlacesObject : StoreState → ℕ → Described → List AddOutcome → List StoredRow → List AddOutcome → List StoredRow → Type 0
+PlacesObject state collection object outcomes new outcomes_now new_now = MatchOption (duplicate_of collection object (state.rows ++ new))
+    ((outcomes_now ≡ outcomes ++ Added (next_date state.watermark new) ∷ []) × (new_now ≡ new ++ stored_row_of object (next_date state.watermark new) collection ∷ []))
     (λ row. (outcomes_now ≡ outcomes ++ Present row.date ∷ []) × (new_now ≡ new))
 
 -- the next object is new, and there is no date for it

@@ -1,7 +1,7 @@
 use Rattle.std.proofs.Common.{ℕ, [], sym, subst}
 use Rattle.flow_edges.specs.Streams.{streams}
-use Rattle.match_input.specs.Ahead.{ReaderState}
-use Rattle.alert_window.specs.WatchState.{Represents}
+use Rattle.match_input.specs.Ahead.{InputReaderState}
+use Rattle.alert_window.specs.WatchState.{WatchRepresents}
 use Rattle.match_run.specs.Reading.{HasRead}
 use Rattle.command_alerts.specs.Telling.{AnswersAlerts}
 use Rattle.command_alerts.specs.inner.Seeing.{AlerterState}
@@ -12,7 +12,7 @@ pub follow-requires-clause-reads : goal.follow-requires-clause-reads
 follow-requires-clause-reads g c =
     let left = g.I.Source.left c.args.input.now in
     let began = g.I.Source.began c.args.input.now in
-    (left, [], subst (λ (r : ReaderState). HasRead left r left began []) (sym c.in_ok-reader.ensures) (c.begins_with_none.ensures left began))
+    (left, [], subst (λ (r : InputReaderState). HasRead left r left began []) (sym c.in_ok-reader.ensures) (c.begins_with_none.ensures left began))
 
 pub returns-clause-end : goal.returns-clause-end
 returns-clause-end g c =
@@ -22,8 +22,8 @@ returns-clause-end g c =
     let before = streams left began written in
     let after = streams (g.I.Source.left c.follow.new.input) (g.I.Source.began c.follow.new.input) (g.O.Sink.written c.follow.new.output) in
     let start = c.new-alerter.result in
-    let read = subst (λ (r : ReaderState). HasRead left r left began []) (sym c.in_ok-reader.ensures) (c.begins_with_none.ensures left began) in
-    let represents = subst (λ (s : AlerterState). Represents s.watch []) (sym c.new-alerter.ensures) c.in_ok-watch.ensures.represents in
+    let read = subst (λ (r : InputReaderState). HasRead left r left began []) (sym c.in_ok-reader.ensures) (c.begins_with_none.ensures left began) in
+    let represents = subst (λ (s : AlerterState). WatchRepresents s.watch []) (sym c.new-alerter.ensures) c.in_ok-watch.ensures.represents in
     let reported = end-reported c.alerts_persist.ensures start (record { represents = represents; order = tt }) left began written c.follow.new.watcher after c.follow.result
     (c.follow.ensures.end left [] read) in
     let of_pattern = subst (λ (s : AlerterState). AnswersAlerts s.pattern s.watch.n s.watch.x before after c.follow.result) c.new-alerter.ensures reported in

@@ -3,9 +3,9 @@ use Rattle.flow_edges.specs.Flow.{WritesPrefix, written_with}
 use Rattle.flow_edges.specs.Streams.{streams}
 use Rattle.stix_ids.specs.Kind.{IsKind}
 use Rattle.hunt_feed.specs.declared.hunted.Skipped.{Skipped}
-use Rattle.hunt_report.specs.Lines.{skipped_text}
+use Rattle.hunt_report.specs.Lines.{skipped_lines}
 use Rattle.hunt_report.specs.Hunting.{IsHuntable}
-use Rattle.command_hunt.specs.Tasks.{task_of}
+use Rattle.command_hunt.specs.Tasks.{hunt_task}
 use Rattle.command_hunt.proofs.HuntLemmas.{ends-unread}
 use Rattle.command_hunt.proofs.run.hunt_feed.Goals as goal
 
@@ -21,17 +21,17 @@ pub returns-in-Err-WriteFault-clause-end : goal.returns-in-Err-WriteFault-clause
 returns-in-Err-WriteFault-clause-end g c feed gathers =
     let written = g.O.Sink.written c.args.output.now in
     let now = g.O.Sink.written c.write_skipped.new.output in
-    inl (ends-unread c.answers_are_the_hits.ensures (task_of c.args.request.now) _ feed c.in-Ok.hunt (c.in-Ok.ensures.hunt feed gathers) _ _ now
+    inl (ends-unread c.answers_are_the_hits.ensures (hunt_task c.args.request.now) _ feed c.in-Ok.hunt (c.in-Ok.ensures.hunt feed gathers) _ _ now
     (record { left_is = refl; began_is = refl })
-    (subst (λ (s : List Skipped). WritesPrefix (skipped_text s) written now) c.as_slice.ensures c.in-Err-WriteFault.ensures.err))
+    (subst (λ (s : List Skipped). WritesPrefix (skipped_lines s) written now) c.as_slice.ensures c.in-Err-WriteFault.ensures.err))
 
 pub returns-clause-end : goal.returns-clause-end
 returns-clause-end g c feed gathers =
     let written = g.O.Sink.written c.args.output.now in
     let now = g.O.Sink.written c.write_skipped.new.output in
-    inr (inl (ends-unread c.answers_are_the_hits.ensures (task_of c.args.request.now) _ feed c.in-Ok.hunt (c.in-Ok.ensures.hunt feed gathers) _ _ now
+    inr (inl (ends-unread c.answers_are_the_hits.ensures (hunt_task c.args.request.now) _ feed c.in-Ok.hunt (c.in-Ok.ensures.hunt feed gathers) _ _ now
     (record { left_is = refl; began_is = refl })
-    (subst (λ (s : List Skipped). WritesPrefix (skipped_text s) written now) c.as_slice.ensures c.in-Err-NoMemory.ensures.err)))
+    (subst (λ (s : List Skipped). WritesPrefix (skipped_lines s) written now) c.as_slice.ensures c.in-Err-NoMemory.ensures.err)))
 
 pub returns-in-Ok-write_skipped-clause-end : goal.returns-in-Ok-write_skipped-clause-end
 returns-in-Ok-write_skipped-clause-end g c feed gathers =
@@ -43,5 +43,5 @@ returns-in-Ok-write_skipped-clause-end g c feed gathers =
       hunt = c.in-Ok.hunt;
       hunt_is = c.in-Ok.ensures.hunt feed gathers;
       hunted_is = c.as_slice-hunted.ensures;
-      written_is = subst (λ (s : List Skipped). now ≡ written_with (skipped_text s) written) c.as_slice.ensures c.in-Ok-write_skipped.ensures.ok;
+      written_is = subst (λ (s : List Skipped). now ≡ written_with (skipped_lines s) written) c.as_slice.ensures c.in-Ok-write_skipped.ensures.ok;
     })

@@ -1,5 +1,5 @@
 use Rattle.std.proofs.Common.{Some, refl}
-use Rattle.command_hunt.specs.Tasks.{task_of}
+use Rattle.command_hunt.specs.Tasks.{hunt_task}
 use Rattle.command_hunt.proofs.HuntLemmas.{unfed-ends}
 use Rattle.command_hunt.proofs.run.hunt_file.Goals as goal
 
@@ -15,7 +15,7 @@ returns-in-Ok-clause-end g c file_is =
 
 pub returns-in-Err-clause-end : goal.returns-in-Err-clause-end
 returns-in-Err-clause-end g c file_is = (
-  unfed-ends (g.F.Files.contents c.args.files.now) (task_of c.args.request.now) c.args.name.now file_is c.in-Err.end
+  unfed-ends (g.F.Files.contents c.args.files.now) (hunt_task c.args.request.now) c.args.name.now file_is c.in-Err.end
       (λ line why is. c.in-Err.ensures.refused line why (cc)),
   refl,
 )

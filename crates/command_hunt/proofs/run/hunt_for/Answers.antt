@@ -3,7 +3,7 @@ use Rattle.flow_edges.specs.Streams.{streams}
 use Rattle.match_run.specs.Reading.{bundle_of}
 use Rattle.hunt_report.specs.Rows.{rows_of}
 use Rattle.hunt_report.specs.Hunting.{IsHuntable}
-use Rattle.command_hunt.specs.Tasks.{task_of}
+use Rattle.command_hunt.specs.Tasks.{hunt_task}
 use Rattle.command_hunt.specs.Telling.{AnswersHunt}
 use Rattle.command_hunt.proofs.HuntLemmas.{ends-skipping, prefix-whole, first-ends, seen-behind, later-ends, report-ends, same-hunted-behind, takes-first}
 use Rattle.command_hunt.proofs.run.hunt_for.Goals as goal
@@ -11,13 +11,13 @@ use Rattle.command_hunt.proofs.run.hunt_for.Goals as goal
 pub returns-in-Err-clause-end : goal.returns-in-Err-clause-end
 returns-in-Err-clause-end g c before far begun skipped =
     let written = g.O.Sink.written c.args.output.now in
-    inr (inr (inr (inl (ends-skipping c.answers_are_the_hits.ensures (task_of c.args.request.now) before (bundle_of c.args.first.now) skipped.hunt skipped.hunt_is
+    inr (inr (inr (inl (ends-skipping c.answers_are_the_hits.ensures (hunt_task c.args.request.now) before (bundle_of c.args.first.now) skipped.hunt skipped.hunt_is
     (g.I.Source.left c.args.input.now) (g.I.Source.began c.args.input.now) before.written written begun refl
     (prefix-whole _ before.written written skipped.written_is)))))
 
 pub returns-in-Err-see-clause-end : goal.returns-in-Err-see-clause-end
 returns-in-Err-see-clause-end g c before far begun skipped =
-    let task = task_of c.args.request.now in
+    let task = hunt_task c.args.request.now in
     let first = bundle_of c.args.first.now in
     let left = g.I.Source.left c.args.input.now in
     let began = g.I.Source.began c.args.input.now in
@@ -35,7 +35,7 @@ report-requires g c =
 
 pub returns-in-Done-clause-end : goal.returns-in-Done-clause-end
 returns-in-Done-clause-end g c before far begun skipped =
-    let task = task_of c.args.request.now in
+    let task = hunt_task c.args.request.now in
     let first = bundle_of c.args.first.now in
     let written = g.O.Sink.written c.args.output.now in
     let written_next = g.O.Sink.written c.see.new.output in
@@ -58,7 +58,7 @@ returns g c = record {
       let first = bundle_of c.args.first.now in
       let one = c.in_default.ensures.sees in
       let after = streams (g.I.Source.left c.follow.new.input) (g.I.Source.began c.follow.new.input) (g.O.Sink.written c.follow.new.output) in
-      later-ends c.answers_are_the_hits.ensures (task_of c.args.request.now) before first.objects skipped.hunt skipped.hunt_is (g.O.Sink.written c.args.output.now) skipped.written_is
+      later-ends c.answers_are_the_hits.ensures (hunt_task c.args.request.now) before first.objects skipped.hunt skipped.hunt_is (g.O.Sink.written c.args.output.now) skipped.written_is
       c.in-Ok.hunter c.in-Ok.ensures.hunts (c.in-Ok.ensures.hunted ∙ skipped.hunted_is) (c.in-Ok.ensures.retained_limit ∙ c.from.ensures)
       None (first ∷ []) (λ more. refl) c.see.new.self one.0 (g.O.Sink.written c.see.new.output) (takes-first c.in-Ok.hunter c.see.new.self first one.0 one.1) one.2
       c.follow.new.watcher after c.follow.result c.in_default-follow.not-Done

@@ -1,16 +1,16 @@
 use Rattle.std.proofs.Common.{rules, [], All, Some, inl, inr, refl, sym, ap, subst, ◌∙◌}
 use Rattle.flow_edges.specs.Streams.{streams}
-use Rattle.match_input.specs.Ahead.{ReaderState}
+use Rattle.match_input.specs.Ahead.{InputReaderState}
 use Rattle.match_run.proofs.PendingLemmas.{written_with-nil}
 use Rattle.hunt_report.specs.Rows.{rows_of}
 use Rattle.hunt_report.specs.Hunting.{IsHuntable}
-use Rattle.command_hunt.specs.Tasks.{task_of}
+use Rattle.command_hunt.specs.Tasks.{hunt_task}
 use Rattle.command_hunt.proofs.HuntLemmas.{takes-none, prefix-whole, ends-unread, read-nothing, seen-behind, later-ends, report-ends, same-hunted-all}
 use Rattle.command_hunt.proofs.run.hunt_log.Goals as goal
 
 pub returns-in-Err-clause-end : goal.returns-in-Err-clause-end
 returns-in-Err-clause-end g c before feed unread skipped =
-    inr (inl (ends-unread c.answers_are_the_hits.ensures (task_of c.args.request.now) before feed skipped.hunt skipped.hunt_is
+    inr (inl (ends-unread c.answers_are_the_hits.ensures (hunt_task c.args.request.now) before feed skipped.hunt skipped.hunt_is
     (g.I.Source.left c.args.input.now) (g.I.Source.began c.args.input.now) (g.O.Sink.written c.args.output.now) unread
     (prefix-whole _ before.written (g.O.Sink.written c.args.output.now) skipped.written_is)))
 
@@ -28,10 +28,10 @@ follow-requires-clause-ready g c = record {
 }
 
 pub follow-requires-clause-seen : goal.follow-requires-clause-seen
-follow-requires-clause-seen g c = c.in-Ok.ensures.hunts.engine.rows_are ∙ sym (ap (λ (r : ReaderState). r.observations) c.requires.start)
+follow-requires-clause-seen g c = c.in-Ok.ensures.hunts.engine.rows_are ∙ sym (ap (λ (r : InputReaderState). r.observations) c.requires.start)
 
 pub follow-requires-clause-last : goal.follow-requires-clause-last
-follow-requires-clause-last g c = c.in-Ok.ensures.hunts.engine.last_is ∙ sym (ap (λ (r : ReaderState). r.last) c.requires.start)
+follow-requires-clause-last g c = c.in-Ok.ensures.hunts.engine.last_is ∙ sym (ap (λ (r : InputReaderState). r.last) c.requires.start)
 
 pub report-requires : goal.report-requires
 report-requires g c =
@@ -42,7 +42,7 @@ report-requires g c =
 
 pub returns-in-Done-clause-end : goal.returns-in-Done-clause-end
 returns-in-Done-clause-end g c before feed unread skipped =
-    let task = task_of c.args.request.now in
+    let task = hunt_task c.args.request.now in
     let start = c.in-Ok.hunter in
     let written = g.O.Sink.written c.args.output.now in
     let after = streams (g.I.Source.left c.follow.new.input) (g.I.Source.began c.follow.new.input) (g.O.Sink.written c.follow.new.output) in
@@ -63,7 +63,7 @@ returns g c = record {
       let start = c.in-Ok.hunter in
       let written = g.O.Sink.written c.args.output.now in
       let after = streams (g.I.Source.left c.follow.new.input) (g.I.Source.began c.follow.new.input) (g.O.Sink.written c.follow.new.output) in
-      later-ends c.answers_are_the_hits.ensures (task_of c.args.request.now) before feed skipped.hunt skipped.hunt_is written skipped.written_is
+      later-ends c.answers_are_the_hits.ensures (hunt_task c.args.request.now) before feed skipped.hunt skipped.hunt_is written skipped.written_is
       start c.in-Ok.ensures.hunts (c.in-Ok.ensures.hunted ∙ skipped.hunted_is) (c.in-Ok.ensures.retained_limit ∙ c.from-retained_limit.ensures)
       (Some feed) [] (λ more. refl) start [] written (takes-none start) (written_with-nil written) c.follow.new.watcher after c.follow.result c.in_default.not-Done
       (c.follow.ensures.end before.left [] (read-nothing c.begins_with_none.ensures c.args.reader.now c.requires.start before.left (g.I.Source.left c.args.input.now)

@@ -3,7 +3,7 @@ use Rattle.std.proofs.lemmas.List.{map-append}
 use Rattle.clap.specs.Words.{first_of}
 use Rattle.command_line.specs.CommandLines.{AreCollectionsOf, PlainCollection}
 use Rattle.command_line.specs.Request.{plain_collection}
-use Rattle.command_line.specs.inner.Rows.{rows_in, with_argument, arguments_at}
+use Rattle.command_line.specs.inner.Rows.{parsed_rows, with_argument, arguments_at}
 use Rattle.command_line.proofs.CollectionLemmas.{are_collections-append, bad_argument}
 use Rattle.command_line.proofs.HasLemmas.{Text}
 use Rattle.command_line.proofs.ArgumentsLemmas.{no_text, one_more_argument, texts_of, arguments_around}
@@ -12,7 +12,7 @@ use Rattle.command_line.proofs.serve.collections_in.Goals as goal
 pub loop-name-preserved-in_default : goal.loop-name-preserved-in_default
 loop-name-preserved-in_default c =
     let names = c.args.names.now in
-    let rows = rows_in c.args.values.now in
+    let rows = parsed_rows c.args.values.now in
     let i = c.loop-name.name-index in
     let name = (get_or names i no_text).now in
     let none : first_of name rows ≡ None = sym c.value_of.ensures ∙ ap option_copied c.in_default.is in
@@ -23,7 +23,7 @@ loop-name-preserved-in_default c =
 pub returns-in_default-collection_of-clause-none : goal.returns-in_default-collection_of-clause-none
 returns-in_default-collection_of-clause-none c = λ collections all.
     let names = c.args.names.now in
-    let rows = rows_in c.args.values.now in
+    let rows = parsed_rows c.args.values.now in
     let i = c.loop-name.name-index in
     let name = (get_or names i no_text).now in
     let here : first_of name rows ≡ Some c.in-Some.argument.now = sym c.value_of.ensures ∙ ap option_copied c.in-Some.is in
@@ -36,7 +36,7 @@ returns-in_default-collection_of-clause-none c = λ collections all.
 pub loop-name-preserved : goal.loop-name-preserved
 loop-name-preserved c =
     let names = c.args.names.now in
-    let rows = rows_in c.args.values.now in
+    let rows = parsed_rows c.args.values.now in
     let i = c.loop-name.name-index in
     let name = (get_or names i no_text).now in
     let here : first_of name rows ≡ Some c.in-Some.argument.now = sym c.value_of.ensures ∙ ap option_copied c.in-Some.is in

@@ -6,7 +6,7 @@ use Rattle.command_line.specs.CommandLines.{AreCollectionsOf, IsBase, IsFile, Pl
 use Rattle.command_line.specs.Request.{plain_collection}
 use Rattle.command_line.specs.declared.request.CollectionRequest.{CollectionRequest}
 use Rattle.command_line.specs.inner.Forms.{collection_names}
-use Rattle.command_line.specs.inner.Rows.{IsTextOrNone, rows_in, arguments_at}
+use Rattle.command_line.specs.inner.Rows.{IsTextOrNone, parsed_rows, arguments_at}
 use Rattle.command_line.proofs.CollectionLemmas.{same_collections}
 use Rattle.command_line.proofs.DistinctLemmas.{ids, plain_ids}
 use Rattle.command_line.proofs.HasLemmas.{Text}
@@ -27,8 +27,8 @@ none_left collections none some = let bad = rw none at some in absurd (omega ari
 
 pub returns-then-is_empty-clause-none : goal.returns-then-is_empty-clause-none
 returns-then-is_empty-clause-none c = λ service asked.
-    let found : AreCollectionsOf (arguments_at collection_names (rows_in c.args.values.now)) (map plain_collection c.in-Some-2.collections) = rw c.in-Some-2.is at c.in_ok-collections.ensures.some in
-    let same = same_collections (arguments_at collection_names (rows_in c.args.values.now)) service.collections (map plain_collection c.in-Some-2.collections) asked.collections_are found in
+    let found : AreCollectionsOf (arguments_at collection_names (parsed_rows c.args.values.now)) (map plain_collection c.in-Some-2.collections) = rw c.in-Some-2.is at c.in_ok-collections.ensures.some in
+    let same = same_collections (arguments_at collection_names (parsed_rows c.args.values.now)) service.collections (map plain_collection c.in-Some-2.collections) asked.collections_are found in
     let differ : IsDistinct nat_eq (ids c.in-Some-2.collections)
     = subst (IsDistinct nat_eq) (ap (map (λ (collection : PlainCollection). collection.id)) same ∙ plain_ids c.in-Some-2.collections) asked.differ in
     elim c.then-is_empty.branch [
@@ -40,7 +40,7 @@ returns-then-is_empty-clause-none c = λ service asked.
 
 pub returns-clause-some : goal.returns-clause-some
 returns-clause-some c =
-    let rows = rows_in c.args.values.now in
+    let rows = parsed_rows c.args.values.now in
     let store = option_map (λ file. file.now) c.in-Some-file_in.store in
     let base = option_map (λ url. url.now) c.in-Some-base_in.base in
     let found : AreCollectionsOf (arguments_at collection_names rows) (map plain_collection c.in-Some-2.collections) = rw c.in-Some-2.is at c.in_ok-collections.ensures.some in

@@ -1,7 +1,7 @@
 use Rattle.std.proofs.Common.{Ok, refl, subst, arith}
 use Rattle.taxii_client.specs.Environment.{link_view}
 use Rattle.taxii_client.specs.declared.target.Target.{Target}
-use Rattle.taxii_client.specs.Filling.{environment}
+use Rattle.taxii_client.specs.Filling.{copy_environment}
 use Rattle.taxii_client.specs.Endings.{Copies, EndsCopy}
 use Rattle.command_mirror.specs.Arguments.{copying_of}
 use Rattle.command_mirror.proofs.EndLemmas.{concluded, stop_never_six}
@@ -11,8 +11,8 @@ use Rattle.command_mirror.proofs.run.answer.Goals as goal
 pub returns-in-Ok-copy-clause-ends : goal.returns-in-Ok-copy-clause-ends
 returns-in-Ok-copy-clause-ends g c =
     let view = link_view g.D.Link.Source.left g.D.Link.Sink.written g.D.Link.Source.faults g.D.Link.Sink.faults in
-    let before = environment (g.D.Dial.observable c.args.dial.now) (g.D.Dial.faults c.args.dial.now) (g.K.Keeper.kept c.args.keeper.now) (g.C.Clock.moments c.args.clock.now) in
-    let now = environment (g.D.Dial.observable c.copy.new.dial) (g.D.Dial.faults c.copy.new.dial) (g.K.Keeper.kept c.copy.new.keeper) (g.C.Clock.moments c.copy.new.clock) in
+    let before = copy_environment (g.D.Dial.observable c.args.dial.now) (g.D.Dial.faults c.args.dial.now) (g.K.Keeper.kept c.args.keeper.now) (g.C.Clock.moments c.args.clock.now) in
+    let now = copy_environment (g.D.Dial.observable c.copy.new.dial) (g.D.Dial.faults c.copy.new.dial) (g.K.Keeper.kept c.copy.new.keeper) (g.C.Clock.moments c.copy.new.clock) in
     concluded _ view before now (g.O.Sink.written c.args.output.now) (g.O.Sink.written c.conclude.new.output) (copying_of c.args.request.now) c.in-Ok-copy.totals c.conclude.result
     (subst (λ (t : Target). Copies view (record { target = t; file = c.args.request.now.store.file.now; tries = c.args.request.now.store.tries }) before now (Ok c.in-Ok-copy.totals))
     c.in-Ok.ensures c.in-Ok-copy.ensures.copies)
@@ -28,8 +28,8 @@ returns-in-Ok-copy-clause-store g c =
 pub returns-clause-ends : goal.returns-clause-ends
 returns-clause-ends g c =
     let view = link_view g.D.Link.Source.left g.D.Link.Sink.written g.D.Link.Source.faults g.D.Link.Sink.faults in
-    let before = environment (g.D.Dial.observable c.args.dial.now) (g.D.Dial.faults c.args.dial.now) (g.K.Keeper.kept c.args.keeper.now) (g.C.Clock.moments c.args.clock.now) in
-    let now = environment (g.D.Dial.observable c.copy.new.dial) (g.D.Dial.faults c.copy.new.dial) (g.K.Keeper.kept c.copy.new.keeper) (g.C.Clock.moments c.copy.new.clock) in (
+    let before = copy_environment (g.D.Dial.observable c.args.dial.now) (g.D.Dial.faults c.args.dial.now) (g.K.Keeper.kept c.args.keeper.now) (g.C.Clock.moments c.args.clock.now) in
+    let now = copy_environment (g.D.Dial.observable c.copy.new.dial) (g.D.Dial.faults c.copy.new.dial) (g.K.Keeper.kept c.copy.new.keeper) (g.C.Clock.moments c.copy.new.clock) in (
       subst (λ (t : Target). EndsCopy view (record { target = t; file = c.args.request.now.store.file.now; tries = c.args.request.now.store.tries }) before now c.in-Err-copy.stop)
           c.in-Ok.ensures c.in-Err-copy.ensures.copies,
       refl,

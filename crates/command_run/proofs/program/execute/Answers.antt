@@ -1,16 +1,16 @@
 use Rattle.std.proofs.Common.{inl, inr, refl, subst, sym, arith}
 use Rattle.command_line.specs.declared.request.Request.{Request}
-use Rattle.command_line.specs.CommandLines.{texts, IsCommandLine}
+use Rattle.command_line.specs.CommandLines.{argument_texts, IsCommandLine}
 use Rattle.command_line.specs.Request.{plain_request, plain_service}
-use Rattle.command_match.specs.Tasks.{request_of}
-use Rattle.command_run.specs.Requests.{IsMatchLine}
+use Rattle.command_match.specs.Tasks.{match_task}
+use Rattle.command_run.specs.Requests.{IsMatchRequest}
 use Rattle.command_run.proofs.RunEndingsLemmas.{match_isn't_usage, check_statuses, show_isn't_usage, make_statuses, serve_statuses, match-counts, check-counts, show-counts, make-counts, show-input, make-input, serve-input, serve-output, serve-door, serve-keeper, early, early-rows, match_reads, check_reads}
 use Rattle.command_run.proofs.program.execute.Goals as goal
 
 pub returns-in-Ok-Match-clause-end : goal.returns-in-Ok-Match-clause-end
 returns-in-Ok-Match-clause-end g c =
-    let line = subst (λ (r : Request). IsCommandLine (texts c.args.arguments.now) (plain_request r)) c.in-Ok-Match.field-0-is c.in-Ok-Match.ensures.ok in record {
-      request = request_of c.in-Ok-Match.request;
+    let line = subst (λ (r : Request). IsCommandLine (argument_texts c.args.arguments.now) (plain_request r)) c.in-Ok-Match.field-0-is c.in-Ok-Match.ensures.ok in record {
+      request = match_task c.in-Ok-Match.request;
       command = record { whole = c.in-Ok-Match.request.whole; mode_is = refl; line = line };
       match_ends = c.match_bindings.ensures.end;
     }
@@ -18,7 +18,7 @@ returns-in-Ok-Match-clause-end g c =
 pub returns-in-Ok-Show-clause-end : goal.returns-in-Ok-Show-clause-end
 returns-in-Ok-Show-clause-end g c = record {
   pattern = c.in-Ok-Show.pattern.now;
-  command = subst (λ (r : Request). IsCommandLine (texts c.args.arguments.now) (plain_request r)) c.in-Ok-Show.field-0-is c.in-Ok-Show.ensures.ok;
+  command = subst (λ (r : Request). IsCommandLine (argument_texts c.args.arguments.now) (plain_request r)) c.in-Ok-Show.field-0-is c.in-Ok-Show.ensures.ok;
   show_ends = c.show.ensures.end (g.I.Source.left c.args.input.now) (g.I.Source.began c.args.input.now);
   unread = refl;
 }
@@ -26,7 +26,7 @@ returns-in-Ok-Show-clause-end g c = record {
 pub returns-in-Ok-Serve-clause-end : goal.returns-in-Ok-Serve-clause-end
 returns-in-Ok-Serve-clause-end g c = record {
   service = plain_service c.in-Ok-Serve.request;
-  command = subst (λ (r : Request). IsCommandLine (texts c.args.arguments.now) (plain_request r)) c.in-Ok-Serve.field-0-is c.in-Ok-Serve.ensures.ok;
+  command = subst (λ (r : Request). IsCommandLine (argument_texts c.args.arguments.now) (plain_request r)) c.in-Ok-Serve.field-0-is c.in-Ok-Serve.ensures.ok;
   serve_ends = c.serve.ensures.ends;
   unread = refl;
 }
@@ -82,16 +82,16 @@ returns-in-Ok-Match-clause-untouched g c = λ is. elim is [ inl two ↦ absurd (
 
 pub returns-in-Ok-Match-clause-unasked : goal.returns-in-Ok-Match-clause-unasked
 returns-in-Ok-Match-clause-unasked g c =
-    let line = subst (λ (r : Request). IsCommandLine (texts c.args.arguments.now) (plain_request r)) c.in-Ok-Match.field-0-is c.in-Ok-Match.ensures.ok in
-    let task : IsMatchLine (texts c.args.arguments.now) (request_of c.in-Ok-Match.request) = record { whole = c.in-Ok-Match.request.whole; mode_is = refl; line = line } in
-    (λ asks. absurd (match_reads c.one_request.ensures _ (request_of c.in-Ok-Match.request) task asks), λ _. (refl, refl, refl))
+    let line = subst (λ (r : Request). IsCommandLine (argument_texts c.args.arguments.now) (plain_request r)) c.in-Ok-Match.field-0-is c.in-Ok-Match.ensures.ok in
+    let task : IsMatchRequest (argument_texts c.args.arguments.now) (match_task c.in-Ok-Match.request) = record { whole = c.in-Ok-Match.request.whole; mode_is = refl; line = line } in
+    (λ asks. absurd (match_reads c.one_request.ensures _ (match_task c.in-Ok-Match.request) task asks), λ _. (refl, refl, refl))
 
 pub returns-in-Ok-Check-clause-untouched : goal.returns-in-Ok-Check-clause-untouched
 returns-in-Ok-Check-clause-untouched g c = λ is. elim is [ inl two ↦ absurd ((check_statuses _).0 two) | inr three ↦ absurd ((check_statuses _).1 three) ]
 
 pub returns-in-Ok-Check-clause-unasked : goal.returns-in-Ok-Check-clause-unasked
 returns-in-Ok-Check-clause-unasked g c =
-    let line = subst (λ (r : Request). IsCommandLine (texts c.args.arguments.now) (plain_request r)) c.in-Ok-Check.field-0-is c.in-Ok-Check.ensures.ok in
+    let line = subst (λ (r : Request). IsCommandLine (argument_texts c.args.arguments.now) (plain_request r)) c.in-Ok-Check.field-0-is c.in-Ok-Check.ensures.ok in
     (λ asks. absurd (check_reads c.one_request.ensures _ line asks), λ _. (refl, refl, refl))
 
 pub returns-in-Ok-Show-clause-untouched : goal.returns-in-Ok-Show-clause-untouched

@@ -8,7 +8,7 @@ use Rattle.match_bindings.specs.NumberedPattern.{numbered_pattern}
 use Rattle.match_stream.specs.Answer.{IsOverLimit}
 use Rattle.hunt_engine.specs.declared.found.Hit.{Hit}
 use Rattle.hunt_engine.specs.LazyMatcherState.{LazyMatcherState, Follows}
-use Rattle.hunt_engine.specs.inner.Following.{TakesRow, log_with}
+use Rattle.hunt_engine.specs.inner.Following.{FollowsLastRow, log_with}
 use Rattle.hunt_engine.specs.inner.Round.{TookSome}
 use Rattle.hunt_engine.proofs.PositionLemmas.{get_number, there}
 use Rattle.hunt_engine.proofs.StepLemmas.{untouched, took_more}
@@ -65,6 +65,6 @@ loop-position-preserved c =
     let next = took_more c.args.row.now c.args.retained_limit bracket_ranges c.args.marks.now affected i c.args.lazy_matchers.now c.loop-position.lazy_matchers c.loop-position.found.items c.loop-position.invariant c.requires.ascend position (get_number affected i (omega arith))
     (get_or c.loop-position.lazy_matchers position c.index-lazy_matchers-at.result) c.take.new.self
     (slice_get-get_or c.loop-position.lazy_matchers position c.index-lazy_matchers-at.result (omega (arith, within, count))) (omega (arith, within, count)) bracket_range.0 bracket_range.1 c.in-Ok.binds
-    (λ p log follows ends. subst (λ (t : List Bool). TakesRow p c.args.retained_limit (log_with c.args.row.now t log) c.take.new.self (map tree_of c.in-Ok.binds)) truths (c.in-Ok.ensures.took p log follows ends)) in
+    (λ p log follows ends. subst (λ (t : List Bool). FollowsLastRow p c.args.retained_limit (log_with c.args.row.now t log) c.take.new.self (map tree_of c.in-Ok.binds)) truths (c.in-Ok.ensures.took p log follows ends)) in
     subst (λ (xs : List Hit). TookSome c.args.row.now c.args.retained_limit bracket_ranges c.args.marks.now affected (i + 1) c.args.lazy_matchers.now (set c.loop-position.lazy_matchers position c.take.new.self) xs)
     (sym c.in_ok-add_found-in-Ok.ensures) next

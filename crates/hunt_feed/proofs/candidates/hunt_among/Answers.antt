@@ -3,7 +3,7 @@ use Rattle.std.proofs.lemmas.Bool.{false≢true}
 use Rattle.std.proofs.lemmas.List.{append-nil, nil_from_length}
 use Rattle.hunt_feed.specs.declared.kept.Kept.{Kept}
 use Rattle.hunt_feed.specs.Gathering.{Gathered}
-use Rattle.hunt_feed.specs.inner.Hunting.{IsLast, IsValid, IsHuntAmong}
+use Rattle.hunt_feed.specs.inner.Hunting.{IsLast, IsValidIndicator, IsHuntAmong}
 use Rattle.hunt_feed.proofs.HuntingLemmas.{Laws, next_of, whole_hunt, hunt_passed, hunt_judged}
 use Rattle.hunt_feed.proofs.candidates.hunt_among.Goals as goal
 use Rattle.hunt_feed.proofs.candidates.hunt_among.Goals.{else-is_last-via-then-is_last+else-is_valid, else-is_last-via-else-is_last}
@@ -31,7 +31,7 @@ loop-indicator-preserved c =
     let are : c.args.kept.items ≡ (seen ++ kept ∷ []) ++ rest =
     c.loop-indicator.invariant.0 ∙ ap (λ ks. seen ++ ks) c.in-Some.ensures.steps.0 ∙ sym (append_assoc seen (kept ∷ []) rest) in
     let laws : Laws = record { one_id = c.one_id.ensures; one_meaning = c.one_meaning.ensures.one; one_timestamp = c.one_timestamp.ensures } in
-    let not : ¬ (IsLast c.args.versions.now.entries kept × IsValid c.args.moment kept) = elim c.else-is_last.branch [
+    let not : ¬ (IsLast c.args.versions.now.entries kept × IsValidIndicator c.args.moment kept) = elim c.else-is_last.branch [
       | else-is_last-via-then-is_last+else-is_valid w ↦ λ passes. false≢true (sym w.if-is_valid.false ∙ w.is_valid.ensures.1 passes.1)
       | else-is_last-via-else-is_last w ↦ λ passes. false≢true (sym w.if-is_last.false ∙ c.is_last.ensures.1 passes.0)
     ] in (

@@ -1,7 +1,7 @@
 use Rattle.std.proofs.Common.{◌≡◌, List, true, refl, sym, subst}
 use Rattle.std.proofs.lemmas.Bool.{false≢true}
 use Rattle.pattern_types.specs.declared.leaf.Leaf.{Leaf}
-use Rattle.pattern_types.specs.PlainLeaf.{listed}
+use Rattle.pattern_types.specs.PlainLeaf.{leaves_of_list}
 use Rattle.match_comparisons.proofs.ContainsLemmas.{drop_next, drop_whole}
 use Rattle.hunt_index.specs.Definite.{AreDefinite}
 use Rattle.hunt_index.proofs.PartsLemmas.{definite_any, definite_at}
@@ -29,10 +29,10 @@ are_definite-loop-part-preserved t c = λ rest.
     let part = c.part-item.result in
     let not = c.if-not-is_definite.false in
     let is : c.is_definite.result ≡ true = cc in
-    c.loop-part.invariant (subst (λ (ls : List Leaf). AreDefinite (listed ls)) (sym (drop_next parts i part c.loop-part-test.true c.part-item.is)) (c.is_definite.ensures.0 is, rest))
+    c.loop-part.invariant (subst (λ (ls : List Leaf). AreDefinite (leaves_of_list ls)) (sym (drop_next parts i part c.loop-part-test.true c.part-item.is)) (c.is_definite.ensures.0 is, rest))
 
 pub are_definite-returns : goal.are_definite-returns
 are_definite-returns t c = (
-  λ is. c.loop-part.invariant (subst (λ (ls : List Leaf). AreDefinite (listed ls)) (sym (drop_whole c.args.parts.now c.loop-part.part-index c.loop-part-test.false)) tt),
+  λ is. c.loop-part.invariant (subst (λ (ls : List Leaf). AreDefinite (leaves_of_list ls)) (sym (drop_whole c.args.parts.now c.loop-part.part-index c.loop-part-test.false)) tt),
   λ all. refl,
 )

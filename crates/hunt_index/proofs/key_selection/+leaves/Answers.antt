@@ -1,6 +1,6 @@
 use Rattle.std.proofs.Common.{◌+◌, inr, List, Option, drop, sym, subst}
 use Rattle.pattern_types.specs.declared.leaf.Leaf.{Leaf}
-use Rattle.pattern_types.specs.PlainLeaf.{plain_leaf, listed}
+use Rattle.pattern_types.specs.PlainLeaf.{plain_leaf, leaves_of_list}
 use Rattle.match_comparisons.specs.Tests.{HoldsAt, SomeHold}
 use Rattle.hunt_index.specs.Definite.{IsDefinite}
 use Rattle.hunt_index.specs.declared.index_key.IndexKey.{IndexKey}
@@ -74,8 +74,8 @@ pub index_keys_of_some-returns-clause-needed : goal.index_keys_of_some-returns-c
 index_keys_of_some-returns-clause-needed t c =
     let parts = c.args.parts.now in
     let still = subst (λ (ls : List Leaf). StillSome parts ls c.loop-part.index_keys.items) (drop_whole parts c.loop-part.part-index c.loop-part-test.false) c.loop-part.invariant.0 in
-    subst (AreIndexKeys (λ objects root. SomeHold objects root (listed parts))) (sym c.from_vec.ensures) (some_over parts c.loop-part.index_keys.items still)
+    subst (AreIndexKeys (λ objects root. SomeHold objects root (leaves_of_list parts))) (sym c.from_vec.ensures) (some_over parts c.loop-part.index_keys.items still)
 
 pub index_keys_of_some-returns-clause-sufficient : goal.index_keys_of_some-returns-clause-sufficient
 index_keys_of_some-returns-clause-sufficient t c = λ definite.
-    subst (AreSufficient (λ objects root. SomeHold objects root (listed c.args.parts.now))) (sym c.from_vec.ensures) (c.loop-part.invariant.1 definite).sufficient
+    subst (AreSufficient (λ objects root. SomeHold objects root (leaves_of_list c.args.parts.now))) (sym c.from_vec.ensures) (c.loop-part.invariant.1 definite).sufficient

@@ -4,12 +4,12 @@ use Rattle.std.proofs.lemmas.Bool.{false≢true}
 use Rattle.pattern_types.specs.declared.constant.Constant.{Constant}
 use Rattle.pattern_types.specs.declared.check.Check.{Check}
 use Rattle.pattern_types.specs.declared.path.Step.{Step}
-use Rattle.match_comparisons.specs.Tests.{Meets, last_of}
+use Rattle.match_comparisons.specs.Tests.{MeetsCheck, last_property}
 use Rattle.hunt_index.specs.declared.key.Key.TheVariants.{Any}
-use Rattle.hunt_index.specs.inner.Keys.{Fits}
+use Rattle.hunt_index.specs.inner.Keys.{FitsKey}
 use Rattle.hunt_index.specs.Definite.{ArePlain}
 use Rattle.hunt_index.specs.declared.key.Key.{Key}
-use Rattle.hunt_index.specs.inner.IndexKeys.{HasIndexKey, AreBy, Represents, AnswersSome}
+use Rattle.hunt_index.specs.inner.IndexKeys.{HasIndexKey, AreBy, KeyRepresents, AnswersSome}
 use Rattle.hunt_index.proofs.ListLemmas.{ok_follows}
 use Rattle.hunt_index.proofs.IndexKeyLemmas.{front_index_keys, value_index_keys, whole_front, weaker, equal_sufficient, among_sufficient}
 use Rattle.hunt_index.proofs.key_selection.index_keys_of_test.Goals as goal
@@ -40,10 +40,10 @@ returns-in-Among-clause-needed c =
     ok_follows c.index_keys_by_value.result
     (λ index_keys all. value_index_keys test c.if-test.false front index_keys whole c.plain_prefix-front.ensures.plain
     (λ value meets.
-    let some = subst (λ (check : Check). Meets (last_of test.path) value check) c.in-Among.is meets in
+    let some = subst (λ (check : Check). MeetsCheck (last_property test.path) value check) c.in-Among.is meets in
     let has = all some.0 (subst (λ (l : List Constant). Contains l some.0) (sym c.as_slice.ensures) some.1) in
-    weaker test.path.kind front (Represents some.0) (λ own. Fits own value) index_keys (λ own stands. stands (last_of test.path) value some.2)
-    (subst (λ (kind : List ℕ). HasIndexKey kind front (Represents some.0) index_keys) c.as_str-kind.ensures has))) c.index_keys_by_value.ensures.has
+    weaker test.path.kind front (KeyRepresents some.0) (λ own. FitsKey own value) index_keys (λ own stands. stands (last_property test.path) value some.2)
+    (subst (λ (kind : List ℕ). HasIndexKey kind front (KeyRepresents some.0) index_keys) c.as_str-kind.ensures has))) c.index_keys_by_value.ensures.has
 
 pub returns-in-Equal-clause-sufficient : goal.returns-in-Equal-clause-sufficient
 returns-in-Equal-clause-sufficient c =
@@ -91,7 +91,7 @@ returns-in-Equal-clause-needed c =
     ok_follows c.one_index_key-in-Equal.result
     (λ index_keys has. value_index_keys test c.if-test.false front index_keys whole c.plain_prefix-front.ensures.plain
     (λ value meets.
-    let equal = subst (λ (check : Check). Meets (last_of test.path) value check) c.in-Equal.is meets in
-    weaker test.path.kind front (λ (k : Key). k ≡ own) (λ k. Fits k value) index_keys
-    (λ k is. subst (λ (k : Key). Fits k value) (sym is) (c.key_of.ensures.stands (last_of test.path) value equal))
+    let equal = subst (λ (check : Check). MeetsCheck (last_property test.path) value check) c.in-Equal.is meets in
+    weaker test.path.kind front (λ (k : Key). k ≡ own) (λ k. FitsKey k value) index_keys
+    (λ k is. subst (λ (k : Key). FitsKey k value) (sym is) (c.key_of.ensures.stands (last_property test.path) value equal))
     (subst (λ (kind : List ℕ). HasIndexKey kind front (λ (k : Key). k ≡ own) index_keys) c.as_str-kind.ensures has))) c.one_index_key-in-Equal.ensures.has

@@ -2,7 +2,7 @@ use Rattle.std.proofs.Common.{◌≡◌, ◌∙◌, ℕ, pos, List, [], ◌∷�
 use Rattle.std.specs.Prelude.{codes}
 use Rattle.serde_json.specs.Data.{number, object}
 use Rattle.serde_json.specs.Find.{of_integer}
-use Rattle.stix_ids.specs.Identifier.{IsCanonicalTextOf}
+use Rattle.stix_ids.specs.Identifier.{IsCanonicalIdText}
 use Rattle.stix_json.specs.DataOf.{Member, members_of}
 use Rattle.hunt_report.specs.Sightings.{text_member, sighting_data}
 use Rattle.hunt_report.proofs.object.object_of.Goals as goal
@@ -42,7 +42,7 @@ returns c =
       last = last.text;
       last_is = last.fact;
       id = id.text;
-      id_is = subst (λ (kind : List ℕ). IsCanonicalTextOf id.text (record { kind = kind; number = c.args.seen.now.indicator.now.number })) c.in_ok-kind.ensures id.fact;
+      id_is = subst (λ (kind : List ℕ). IsCanonicalIdText id.text (record { kind = kind; number = c.args.seen.now.indicator.now.number })) c.in_ok-kind.ensures id.fact;
       of = of.text;
       of_is = of.fact;
       is = whole ∙ ap (λ (n : ℕ). sighting_data n created.text first.text id.text last.text modified.text of.text) c.count_of.ensures;

@@ -3,7 +3,7 @@ use Rattle.std.specs.Prelude.{min}
 use Rattle.serde_json.specs.Data.{Data}
 use Rattle.stix_objects.specs.Breaks.{AreBreaksOf}
 use Rattle.hunt_report.specs.declared.seen.TheConstants.{MAX_COUNT}
-use Rattle.hunt_report.specs.Sightings.{IsVersionText, version_digits}
+use Rattle.hunt_report.specs.Sightings.{IsVersionInstantText, version_digits}
 use Rattle.hunt_report.proofs.AnswerLemmas.{ok_follows}
 use Rattle.hunt_report.proofs.SightingLemmas.{few_digits, many_digits, breaks_none}
 use Rattle.hunt_report.proofs.object.sighting.Goals as goal
@@ -13,7 +13,7 @@ returns-clause-unbroken c =
     let seen = c.args.seen.now in
     let times = c.written_reads_back-2.ensures in
     let read = c.written_reads_back.ensures in
-    let Millis = λ (text : List ℕ) (instant : ℤ) (is : IsVersionText instant text).
+    let Millis = λ (text : List ℕ) (instant : ℤ) (is : IsVersionInstantText instant text).
     times.millis (version_digits instant) instant text (many_digits instant) (few_digits instant) is in
     ok_follows c.object_of.result
     (λ json is. subst (λ (d : Data). AreBreaksOf d []) (sym is.is)

@@ -3,7 +3,7 @@ use Rattle.flow_edges.specs.Flow.{written_with, WritesPrefix}
 use Rattle.match_run.proofs.PendingLemmas.{fails_so}
 use Rattle.match_run.specs.Buffered.{IsBuffered}
 use Rattle.hunt_report.specs.HitSummaries.{begun_by, report_of}
-use Rattle.hunt_report.specs.inner.Reporting.{end_of}
+use Rattle.hunt_report.specs.inner.Reporting.{report_end}
 use Rattle.hunt_report.proofs.ReportLemmas.{report, report-whole, part_of_report}
 use Rattle.hunt_report.proofs.report.write_report.Goals as goal
 
@@ -22,7 +22,7 @@ returns-in_err-add-clause-err g c rows hits hunts =
     let way = subst (λ (p : List ℕ). IsBuffered [] p written written) (sym c.new-pending.ensures) (c.parts_are_buffered.ensures.none written) in
     let far = c.in_ok-begun.ensures.ok written way in
     let line : begun_by far.texts ++ c.as_bytes.result.now ≡ report_of far.texts =
-    ap (λ (e : List ℕ). begun_by far.texts ++ e) (c.as_bytes.ensures.value ∙ c.end_of-end.ensures ∙ ap end_of far.begun_is) ∙ report-whole far.texts in
+    ap (λ (e : List ℕ). begun_by far.texts ++ e) (c.as_bytes.ensures.value ∙ c.end_of-end.ensures ∙ ap report_end far.begun_is) ∙ report-whole far.texts in
     fails_so c.from_residual-in_err-add.result (
       report_of far.texts,
       inl (report c.args.moment rows hits c.args.hunter.now hunts far.texts far.reports),
@@ -36,7 +36,7 @@ returns-in_err-write-clause-err g c rows hits hunts =
     let way = subst (λ (p : List ℕ). IsBuffered [] p written written) (sym c.new-pending.ensures) (c.parts_are_buffered.ensures.none written) in
     let far = c.in_ok-begun.ensures.ok written way in
     let line : begun_by far.texts ++ c.as_bytes.result.now ≡ report_of far.texts =
-    ap (λ (e : List ℕ). begun_by far.texts ++ e) (c.as_bytes.ensures.value ∙ c.end_of-end.ensures ∙ ap end_of far.begun_is) ∙ report-whole far.texts in
+    ap (λ (e : List ℕ). begun_by far.texts ++ e) (c.as_bytes.ensures.value ∙ c.end_of-end.ensures ∙ ap report_end far.begun_is) ∙ report-whole far.texts in
     fails_so c.from_residual-in_err-write.result (
       report_of far.texts,
       inl (report c.args.moment rows hits c.args.hunter.now hunts far.texts far.reports),
@@ -51,7 +51,7 @@ returns-clause-ok g c rows hits hunts =
     let way = subst (λ (p : List ℕ). IsBuffered [] p written written) (sym c.new-pending.ensures) (c.parts_are_buffered.ensures.none written) in
     let far = c.in_ok-begun.ensures.ok written way in
     let line : begun_by far.texts ++ c.as_bytes.result.now ≡ report_of far.texts =
-    ap (λ (e : List ℕ). begun_by far.texts ++ e) (c.as_bytes.ensures.value ∙ c.end_of-end.ensures ∙ ap end_of far.begun_is) ∙ report-whole far.texts in (
+    ap (λ (e : List ℕ). begun_by far.texts ++ e) (c.as_bytes.ensures.value ∙ c.end_of-end.ensures ∙ ap report_end far.begun_is) ∙ report-whole far.texts in (
       report_of far.texts,
       report c.args.moment rows hits c.args.hunter.now hunts far.texts far.reports,
       c.in_ok-write.ensures.all (begun_by far.texts ++ c.as_bytes.result.now) written (c.in_ok-add.ensures.ok (begun_by far.texts) written far.way)

@@ -7,30 +7,30 @@ use Rattle.match_bindings.specs.declared.spanned_bind.SpannedBind.{SpannedBind}
 use Rattle.match_bindings.specs.declared.bind.Bind.TheVariants.{One as Only}
 use Rattle.match_bindings.specs.BindTree.{BindTree, One}
 use Rattle.match_bindings.specs.Log.{Observed, observed_in}
-use Rattle.match_bindings.specs.inner.Candidates.{SpannedTree, hold, spanned_trees, spanned_tree, span_of, span_if, fits, one_if, ones}
+use Rattle.match_bindings.specs.inner.Candidates.{SpannedTree, spanned_binding, spanned_trees, spanned_tree, span_of, span_if, span_fits, one_if, ones}
 use Rattle.match_bindings.proofs.BindTreeLemmas.{tree_one}
 use Rattle.match_bindings.proofs.ListLemmas.{map_append}
 use Rattle.match_bindings.proofs.IsBindingTestLemmas.{passed, failed}
 use Rattle.match_bindings.proofs.candidates.found_at_leaf.Goals.{in-Some+then-fits+in_ok-push, in-Some+else-fits, in_default}
 use Rattle.match_bindings.proofs.candidates.found_at_leaf.Goals as goal
 
-ones_more : (o : Observed) (w : Bounds) (k n : ℕ) → ones o w k (n + 1) ≡ ones o w k n ++ one_if (o.holds k (n + 1)) w (hold o (One (n + 1)))
+ones_more : (o : Observed) (w : Bounds) (k n : ℕ) → ones o w k (n + 1) ≡ ones o w k n ++ one_if (o.holds k (n + 1)) w (spanned_binding o (One (n + 1)))
 ones_more o w k n =
     let e : n + 1 ≡ suc n = omega arith in
-    ap (ones o w k) e ∙ ap (λ m. ones o w k n ++ one_if (o.holds k m) w (hold o (One m))) (sym e)
+    ap (ones o w k) e ∙ ap (λ m. ones o w k n ++ one_if (o.holds k m) w (spanned_binding o (One m))) (sym e)
 
-one_held : (b : Bool) (w : Bounds) (x : BindTree) (s t : Span) → span_if b s ≡ Some t → fits w t ≡ true →
+one_held : (b : Bool) (w : Bounds) (x : BindTree) (s t : Span) → span_if b s ≡ Some t → span_fits w t ≡ true →
     one_if b w (record { tree = x; span = s }) ≡ record { tree = x; span = t } ∷ []
 one_held b w x s t h k =
     let parts = passed b s t h in
-    let fit : fits w s ≡ true = ap (fits w) parts.1 ∙ k in
+    let fit : span_fits w s ≡ true = ap (span_fits w) parts.1 ∙ k in
     let yes_it_is = parts.0 in
     rw (yes_it_is, fit) (ap (λ (u : Span). record { tree = x; span = u } ∷ []) parts.1)
 
-one_unfit : (b : Bool) (w : Bounds) (x : BindTree) (s t : Span) → span_if b s ≡ Some t → fits w t ≡ false → one_if b w (record { tree = x; span = s }) ≡ []
+one_unfit : (b : Bool) (w : Bounds) (x : BindTree) (s t : Span) → span_if b s ≡ Some t → span_fits w t ≡ false → one_if b w (record { tree = x; span = s }) ≡ []
 one_unfit b w x s t h k =
     let parts = passed b s t h in
-    let fit : fits w s ≡ false = ap (fits w) parts.1 ∙ k in
+    let fit : span_fits w s ≡ false = ap (span_fits w) parts.1 ∙ k in
     let yes_it_is = parts.0 in
     rw (yes_it_is, fit) refl
 
@@ -38,11 +38,11 @@ one_none : (b : Bool) (w : Bounds) (x : BindTree) (s : Span) → span_if b s ≡
 one_none b w x s h = let isnt = failed b s h in rw isnt refl
 
 -- nothing is added
-stays : (o : Observed) (w : Bounds) (k n : ℕ) (us : List SpannedTree) → us ≡ ones o w k n → one_if (o.holds k (n + 1)) w (hold o (One (n + 1))) ≡ [] → us ≡ ones o w k (n + 1)
+stays : (o : Observed) (w : Bounds) (k n : ℕ) (us : List SpannedTree) → us ≡ ones o w k n → one_if (o.holds k (n + 1)) w (spanned_binding o (One (n + 1))) ≡ [] → us ≡ ones o w k (n + 1)
 stays o w k n us h none = h ∙ sym (append-nil (ones o w k n)) ∙ ap (λ z. ones o w k n ++ z) (sym none) ∙ sym (ones_more o w k n)
 
 -- one is added
-grows : (o : Observed) (w : Bounds) (k n : ℕ) (us : List SpannedTree) (x : SpannedTree) → us ≡ ones o w k n → one_if (o.holds k (n + 1)) w (hold o (One (n + 1))) ≡ x ∷ [] →
+grows : (o : Observed) (w : Bounds) (k n : ℕ) (us : List SpannedTree) (x : SpannedTree) → us ≡ ones o w k n → one_if (o.holds k (n + 1)) w (spanned_binding o (One (n + 1))) ≡ x ∷ [] →
     us ++ x ∷ [] ≡ ones o w k (n + 1)
 grows o w k n us x h one = ap (λ z. z ++ x ∷ []) h ∙ ap (λ z. ones o w k n ++ z) (sym one) ∙ sym (ones_more o w k n)
 

@@ -2,7 +2,7 @@ use Rattle.std.proofs.Common.{arith, List, reverse, subst, ap}
 use Rattle.std.proofs.lemmas.Bool.{false≢true}
 use Rattle.stix_bundles.specs.Objects.{data_in}
 use Rattle.match_comparisons.specs.declared.frame.Frame.{Frame}
-use Rattle.match_comparisons.specs.inner.Frames.{LeftIn, Fits, weight}
+use Rattle.match_comparisons.specs.inner.Frames.{LeftIn, HasFrameSpace, weight}
 use Rattle.match_comparisons.proofs.WalkLemmas.{pushed, none_there, Same, same_itself, same_through}
 use Rattle.match_comparisons.proofs.walk.next_value.Goals as goal
 
@@ -12,7 +12,7 @@ loop-frame-init c = (c.requires, omega arith, same_itself (LeftIn (data_in c.arg
 pub visit-requires : goal.visit-requires
 visit-requires c =
     let is = pushed c.pop.new.self.items c.loop-frame.frames.items c.in-Some.frame c.in-Some.ensures.items in
-    subst Fits is c.loop-frame.invariant.0
+    subst HasFrameSpace is c.loop-frame.invariant.0
 
 pub returns-in-Some-visit-clause-some : goal.returns-in-Some-visit-clause-some
 returns-in-Some-visit-clause-some c =

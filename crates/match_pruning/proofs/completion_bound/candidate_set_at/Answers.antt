@@ -12,7 +12,7 @@ use Rattle.match_bindings.specs.BindTree.{tree_of}
 use Rattle.match_pruning.specs.declared.partial_match.PartialMatch.{PartialMatch}
 use Rattle.match_pruning.specs.PartialMatchTree.{PartialMatchTree}
 use Rattle.match_pruning.specs.inner.Numbers.{numbers}
-use Rattle.match_pruning.specs.inner.Picks.{HasAt}
+use Rattle.match_pruning.specs.inner.Picks.{HasNumberAt}
 use Rattle.match_pruning.specs.inner.PartialMatches.{partial_match_tree, partial_match_trees}
 use Rattle.match_pruning.specs.inner.CompletionBounds.{may_precede}
 use Rattle.match_pruning.proofs.CompletionBoundLemmas.{of_next, of_some}
@@ -20,7 +20,7 @@ use Rattle.match_pruning.proofs.completion_bound.candidate_set_at.Goals as goal
 use Rattle.match_pruning.proofs.completion_bound.candidate_set_at.Goals.{then-eq+then-may_precede+in_ok-push_numbers+in-Some+in_ok-push+else-are_many, else-eq, else-eq-via-then-eq+else-may_precede, else-eq-via-else-eq}
 
 -- what was found is found among more
-more_found : (old new : List ℕ) (place : ℕ) (left : PartialMatchTree) → HasAt old place left.tree → ((n : ℕ) → Contains old n → Contains new n) → HasAt new place left.tree
+more_found : (old new : List ℕ) (place : ℕ) (left : PartialMatchTree) → HasNumberAt old place left.tree → ((n : ℕ) → Contains old n → Contains new n) → HasNumberAt new place left.tree
 more_found old new place left at kept = record { number = at.number; there = at.there; among = kept at.number at.among }
 
 -- what a look-up gives
@@ -48,7 +48,7 @@ loop-left-preserved c = λ left more may e.
                 let all : w.deref.result.now ≡ numbers (tree_of d.bind)
                 = w.deref.ensures.value ∙ w.in_ok-push_numbers.ensures ∙ ap (λ (z : List ℕ). z ++ numbers (tree_of d.bind)) w.clear.ensures.items in
                 let there = read_at w.deref.result.now place w.get.result w.in-Some.number w.get.ensures.lookup.1 w.get.ensures.lookup.3 w.in-Some.is in
-                subst (λ (q : PartialMatchTree). HasAt new place q.tree) (ap partial_match_tree c.left-item.is ∙ is) (record {
+                subst (λ (q : PartialMatchTree). HasNumberAt new place q.tree) (ap partial_match_tree c.left-item.is ∙ is) (record {
                   number = number;
                   there = ap (λ (z : List ℕ). slice_get z place) (sym all) ∙ there;
                   among = added number (Contains-append_right older (number ∷ []) number (zero, omega arith, refl));
@@ -57,7 +57,7 @@ loop-left-preserved c = λ left more may e.
       | else-eq w ↦ (
           let items : new ≡ older = ap (λ v. v.items) w.found-is in
           elim cases [
-            | inl old ↦ subst (λ (z : List ℕ). HasAt z place left.tree) (sym items) (before left old may e)
+            | inl old ↦ subst (λ (z : List ℕ). HasNumberAt z place left.tree) (sym items) (before left old may e)
             | inr is ↦ absurd (
                 let same : partial_match_tree d ≡ left = ap partial_match_tree c.left-item.is ∙ is in
                 elim w.else-eq.branch [

@@ -1,7 +1,7 @@
 use Rattle.std.proofs.Common.{◌≡◌, List, [], ◌∷◌, ◌++◌, length, map, sym, ap, subst, ◌∙◌, arith}
 use Rattle.std.proofs.lemmas.List.{length-map}
 use Rattle.match_bindings.specs.BindTree.{tree_of}
-use Rattle.match_run.specs.inner.Rows.{counted, IsAfter, row_of, EndsAtRow}
+use Rattle.match_run.specs.inner.Rows.{with_bindings, IsAfterLog, log_row, EndsAtRow}
 use Rattle.match_run.specs.declared.tally.Tally.{Tally}
 use Rattle.match_run.specs.declared.match_end.MatchEnd.{MatchEnd}
 use Rattle.match_run.proofs.RowsLemmas.{behind-more}
@@ -27,8 +27,8 @@ returns-in-Ok-clause-row c objects are log answers b =
     record {
       truths = truths;
       are = are;
-      behind = subst (λ (t : Tally). IsAfter m.pattern m.retained_limit c.take.new.self t (log ++ row_of o truths ∷ []) (answers ++ binds ∷ []))
-          (sym (c.count.ensures ∙ ap (counted c.args.tally.now o.number) count))
+      behind = subst (λ (t : Tally). IsAfterLog m.pattern m.retained_limit c.take.new.self t (log ++ log_row o truths ∷ []) (answers ++ binds ∷ []))
+          (sym (c.count.ensures ∙ ap (with_bindings c.args.tally.now o.number) count))
           (behind-more m.pattern m.retained_limit m c.take.new.self c.args.tally.now log answers o truths binds b
           c.requires.number (omega (arith, count)) answered.represents answered.order answered.answers answered.within_limit);
     }

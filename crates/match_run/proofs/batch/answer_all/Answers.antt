@@ -6,7 +6,7 @@ use Rattle.match_bindings.specs.declared.bind.Bind.{Bind}
 use Rattle.match_bindings.specs.BindTree.{tree_of}
 use Rattle.flow_edges.specs.Flow.{WritesPrefix}
 use Rattle.match_run.specs.Listing.{listing_text}
-use Rattle.match_run.specs.inner.Rows.{so_far, IsBuffered, BreaksOff, TakesRows, StopsAtOne}
+use Rattle.match_run.specs.inner.Rows.{so_far, IsPartBuffered, WritesListingPrefix, TakesObservations, StopsAtOne}
 use Rattle.match_run.specs.Reading.{MayFollow}
 use Rattle.match_run.proofs.PendingLemmas.{way-start, way-stopped}
 use Rattle.match_run.proofs.RowsLemmas.{found_in, truths_of, row_below, drop_here, take_here, all_here, none-seen, turn-rows, turn-end, ends-none, cut-rows, ends-cut, turn-behind, turn-follow}
@@ -29,7 +29,7 @@ loop-at-init g c = record {
   goes = (
     [],
     none-seen (data_in c.args.batch.now.bundle) (so_far c.args.matcher.now c.args.tally.now),
-    subst (λ (p : List ℕ). IsBuffered [] p (g.O.Sink.written c.args.output.now) (g.O.Sink.written c.args.output.now)) (sym c.requires.empty) (way-start (g.O.Sink.written c.args.output.now)),
+    subst (λ (p : List ℕ). IsPartBuffered [] p (g.O.Sink.written c.args.output.now) (g.O.Sink.written c.args.output.now)) (sym c.requires.empty) (way-start (g.O.Sink.written c.args.output.now)),
   );
   quiet = refl;
 }
@@ -64,9 +64,9 @@ loop-at-preserved g c =
           (subst (λ (os : List Observation). MayFollow old.last (old.rows + 1) os) here invariant.follow);
       goes = (
         text ++ listing_text binds,
-        subst (λ (os : List Observation). TakesRows objects os first (so_far new later) (text ++ listing_text binds)) (sym seen)
+        subst (λ (os : List Observation). TakesObservations objects os first (so_far new later) (text ++ listing_text binds)) (sym seen)
             (turn-rows objects (take i items) o first old new tally later text invariant.pattern invariant.most invariant.goes.1 binds row),
-        lent (λ (bs : List Bind). IsBuffered (text ++ listing_text (map tree_of bs)) c.add_lines.new.pending.items begun (g.O.Sink.written c.add_lines.new.output))
+        lent (λ (bs : List Bind). IsPartBuffered (text ++ listing_text (map tree_of bs)) c.add_lines.new.pending.items begun (g.O.Sink.written c.add_lines.new.output))
             (c.in-Ok-add_lines.ensures.ok text begun invariant.goes.2),
       );
       quiet = c.in-Ok-add_lines.ensures.causes.quiet (λ failed. cc failed) ∙ invariant.quiet;
@@ -125,5 +125,5 @@ returns-in-Err-add_lines-clause-end g c log answers b =
     (c.in-Err-add_lines.ensures.err text begun invariant.goes.2) in
     ends-cut c.args.matcher.now.pattern c.args.matcher.now.retained_limit objects c.args.batch.now.observations log answers new c.add_lines.new.pending.items begun written
     c.in-Err-add_lines.end c.in-Err-add_lines.ensures.end
-    (subst (λ (os : List Observation). BreaksOff c.args.matcher.now.pattern c.args.matcher.now.retained_limit objects os log answers begun written) (sym whole)
+    (subst (λ (os : List Observation). WritesListingPrefix c.args.matcher.now.pattern c.args.matcher.now.retained_limit objects os log answers begun written) (sym whole)
     (cut-rows objects (take i items ++ o ∷ []) (drop (i + 1) items) first (so_far new later) (text ++ listing_text binds) begun written rows cut log answers b))

@@ -2,7 +2,7 @@ use Rattle.std.proofs.Common.{◌≡◌, ◌++◌, ◌∷◌, [], Err, length, r
 use Rattle.match_pruning.specs.declared.stop.Stop.TheVariants as stop
 use Rattle.match_stream.specs.RetainedPart.{held_count}
 use Rattle.match_pruning.specs.inner.PartialMatches.{partial_match_trees}
-use Rattle.match_pruning.specs.inner.Steps.{levels_new, levels_after, stored, joins, kept}
+use Rattle.match_pruning.specs.inner.Steps.{levels_new, levels_after, stored, match_joins, kept}
 use Rattle.match_pruning.specs.declared.join.Join.TheVariants as join
 use Rattle.match_stream.specs.inner.Totals.{AdmitLevels}
 use Rattle.match_stream.specs.inner.Nodes.{store_list, store_lists}
@@ -43,7 +43,7 @@ returns-in_err-above-clause-over_limit c = λ e a.
     = sym c.loop-store.invariant.rest ∙ ap (λ z. c.loop-store.yielded ++ z) c.in-Some.ensures.steps.0 in
     let whole : store_lists c.args.stores.items ≡ ys ++ x ∷ rest = ap store_lists split ∙ map_append store_list c.loop-store.yielded (c.in-Some.store ∷ c.next.new.self.rest.items) in
     let sets = ap (λ z. length (stored w t x z)) c.loop-store.invariant.new in
-    let all = ap length (needed_all t (joins join.Repeats (kept w t x) new)) in
+    let all = ap length (needed_all t (match_joins join.Repeats (kept w t x) new)) in
     let full = made_full w t first new ys x rest c.args.budget.now.left c.loop-store.budget.left c.loop-store.invariant.counted (omega (arith, over, sets, all)) (subst (AdmitLevels w t first new) whole a) in
     let held = ap (λ z. held_count (levels_after w t first new z)) whole in
     let last = ap (λ z. length (levels_new w t first new z)) whole in

@@ -6,14 +6,14 @@ use Rattle.std.proofs.lemmas.List.Kept.{Contains-dedup_nat, Contains-from_dedup}
 use Rattle.std.proofs.lemmas.List.Sorted.{Contains-permutation, IsPermutation-sym}
 use Rattle.std.proofs.lemmas.Map.Keys.{IsStrictlyIncreasing-dedup}
 use Rattle.match_pruning.specs.inner.Steps.{contents_of}
-use Rattle.match_stream.specs.inner.Nodes.{state_of}
+use Rattle.match_stream.specs.inner.Nodes.{node_state}
 use Rattle.match_pruning.specs.inner.Numbers.{all_numbers}
 use Rattle.match_pruning.proofs.RowNumbersLemmas.{contains_kept}
 use Rattle.match_stream.proofs.row_numbers.kept_numbers.Goals as goal
 
 pub returns : goal.returns
 returns c =
-    let contents = contents_of (state_of c.args.node.now) in
+    let contents = contents_of (node_state c.args.node.now) in
     let is = dedup_is _ _ _ c.dedup.ensures.filtered in
     let moved = c.sort_unstable.ensures.permutation in
     let all = c.in_ok-push_node.ensures ∙ ap (λ (z : List ℕ). z ++ all_numbers contents) c.new-kept.ensures.items in

@@ -1,7 +1,7 @@
 use Rattle.std.proofs.Common.{Some, sym, ap, ◌∙◌, subst}
 use Rattle.std.specs.Option.{option_map}
 use Rattle.std.specs.declared.net.ip_addr.IpAddr.TheVariants as Ip
-use Rattle.pattern_types.specs.Block.{IsValid}
+use Rattle.pattern_types.specs.Block.{IsValidBlock}
 use Rattle.pattern_types.proofs.BlockTextLemmas.{block_of, block_of-valid, spells_exactly, spells_nothing, parsed_some, parsed_none}
 use Rattle.pattern_types.proofs.text.read_block.Goals as goal
 
@@ -32,7 +32,7 @@ returns-in_ok-read_length-in-V4-clause-exact c =
 
 pub returns-in_ok-read_length-in-V4-clause-valid : goal.returns-in_ok-read_length-in-V4-clause-valid
 returns-in_ok-read_length-in-V4-clause-valid c =
-    subst IsValid (sym c.v4_block.ensures) (block_of-valid (Ip.V4 c.in-V4.address) c.in_ok-read_length-in-V4.field-0 c.in_ok-read_length-in-V4.ensures.valid)
+    subst IsValidBlock (sym c.v4_block.ensures) (block_of-valid (Ip.V4 c.in-V4.address) c.in_ok-read_length-in-V4.field-0 c.in_ok-read_length-in-V4.ensures.valid)
 
 pub returns-in_err-read_length-in-V6-clause-exact : goal.returns-in_err-read_length-in-V6-clause-exact
 returns-in_err-read_length-in-V6-clause-exact c =
@@ -55,4 +55,4 @@ returns-in_ok-read_length-in-V6-clause-exact c =
 
 pub returns-in_ok-read_length-in-V6-clause-valid : goal.returns-in_ok-read_length-in-V6-clause-valid
 returns-in_ok-read_length-in-V6-clause-valid c =
-    subst IsValid (sym c.v6_block.ensures) (block_of-valid (Ip.V6 c.in-V6.address) c.in_ok-read_length-in-V6.field-0 c.in_ok-read_length-in-V6.ensures.valid)
+    subst IsValidBlock (sym c.v6_block.ensures) (block_of-valid (Ip.V6 c.in-V6.address) c.in_ok-read_length-in-V6.field-0 c.in_ok-read_length-in-V6.ensures.valid)

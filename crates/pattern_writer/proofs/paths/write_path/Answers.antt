@@ -3,13 +3,13 @@ use Rattle.std.specs.Prelude.{codes}
 use Rattle.std.proofs.lemmas.Grind.{common_steps}
 use Rattle.pattern_types.specs.declared.path.Step.{Step}
 use Rattle.pattern_writer.specs.Path.{IsFirstText, IsStepText, AreStepsText}
-use Rattle.pattern_writer.specs.Parts.{AreJoined, Adds}
+use Rattle.pattern_writer.specs.Parts.{AreJoined, AppendsText}
 use Rattle.pattern_writer.proofs.AddingLemmas.{ok_after, ok_sides, two_added}
 use Rattle.pattern_writer.proofs.paths.write_path.Goals as goal
 
 -- a first step and the others are the steps
-steps_added : {T E : Type 0} (r : Result T E) (steps : List Step) (first : Step) (old mid new : List ℕ) → 1 ≤ length steps → first ≡ get_or steps 0 first → Adds (IsFirstText first) old mid
-    → OnOk r (Adds (AreJoined [] IsStepText (take (length steps - 1) (drop 1 steps))) mid new) → OnOk r (Adds (AreStepsText steps) old new)
+steps_added : {T E : Type 0} (r : Result T E) (steps : List Step) (first : Step) (old mid new : List ℕ) → 1 ≤ length steps → first ≡ get_or steps 0 first → AppendsText (IsFirstText first) old mid
+    → OnOk r (AppendsText (AreJoined [] IsStepText (take (length steps - 1) (drop 1 steps))) mid new) → OnOk r (AppendsText (AreStepsText steps) old new)
 steps_added r [] first old mid new b e h k = absurd (omega arith)
 steps_added r (s ∷ ss) first old mid new b e h k =
     let all : take (length (s ∷ ss) - 1) ss ≡ ss = grind (arith, common_steps) in

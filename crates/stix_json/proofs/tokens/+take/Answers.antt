@@ -8,7 +8,7 @@ use Rattle.serde_json.specs.Data.{null, boolean, number, string, array, object, 
 use Rattle.serde_json.specs.Read.{of_json, of_items, of_members, converted}
 use Rattle.stix_json.specs.declared.raw_members.RawMember.{RawMember}
 use Rattle.stix_json.specs.inner.Insertion.{insert_all}
-use Rattle.stix_json.specs.inner.Checking.{IsCheckedAs, AreRawMembers, name_of}
+use Rattle.stix_json.specs.inner.Checking.{IsCheckedAs, AreRawMembers, member_name}
 use Rattle.stix_json.proofs.ValueErrorsLemmas.{data_of-String, data_of-Bool}
 use Rattle.stix_json.proofs.InsertionLemmas.{insert_pushed}
 use Rattle.stix_json.proofs.TokensLemmas.{converted-array, converted-object, item_read, item_refused, items_over, member_read, member_refused, key_refused, members_over, items_before, items_before-no_items, one_more_item, none_before, number_token}
@@ -211,8 +211,8 @@ take_members-members-preserved t c =
       omega (arith, l.invariant.1, less, lesser),
       put k d old,
       l.invariant.3 ∙ turn,
-      subst (λ (gs : List RawMember). AreRawMembers c.args.levels (put k d old) (insert_all name_of gs [])) (sym c.in_ok-push_member.ensures) (subst (AreRawMembers c.args.levels (put k d old)) (sym (insert_pushed name_of l.raw_members.items one []))
-          (gathered_insert c.args.levels k d old one (insert_all name_of l.raw_members.items []) c.in_ok-name-2.ensures found.2 l.invariant.4)),
+      subst (λ (gs : List RawMember). AreRawMembers c.args.levels (put k d old) (insert_all member_name gs [])) (sym c.in_ok-push_member.ensures) (subst (AreRawMembers c.args.levels (put k d old)) (sym (insert_pushed member_name l.raw_members.items one []))
+          (gathered_insert c.args.levels k d old one (insert_all member_name l.raw_members.items []) c.in_ok-name-2.ensures found.2 l.invariant.4)),
       omega (arith, l.invariant.5, less, lesser),
     )
 

@@ -3,7 +3,7 @@ use Rattle.json.specs.Json.{items, members, value, parse_map}
 use Rattle.serde_json.specs.Data.{Data, Members, no_members}
 use Rattle.serde_json.specs.Read.{of_items, of_members, converted}
 use Rattle.stix_json.specs.inner.Insertion.{insert_all}
-use Rattle.stix_json.specs.inner.Checking.{AreElements, AreRawMembers, name_of}
+use Rattle.stix_json.specs.inner.Checking.{AreElements, AreRawMembers, member_name}
 use Rattle.stix_json.proofs.TokensLemmas.{items_before}
 use Rattle.stix_json.proofs.tokens.+take.Given as goal
 
@@ -32,7 +32,7 @@ abbrev pub invariant-take_members-members : goal.invariant-take_members-members
 invariant-take_members-members l =
     (n : ℕ) × (length l.reader ≤ n) × (found : Members)
     × (converted (λ ms. of_members ms no_members) (members (value l.left) (length l.initial.reader) l.initial.reader) ≡ converted (λ ms. of_members ms found) (members (value l.left) n l.reader))
-    × AreRawMembers l.levels found (insert_all name_of l.raw_members.items []) × (length l.reader ≤ length l.initial.reader)
+    × AreRawMembers l.levels found (insert_all member_name l.raw_members.items []) × (length l.reader ≤ length l.initial.reader)
 
 abbrev pub decreases-take_members-members : goal.decreases-take_members-members
 decreases-take_members-members l = length l.reader

@@ -1,7 +1,7 @@
 use Rattle.std.proofs.Common.{List, map, drop, ◌+◌, refl}
 use Rattle.stix_json.specs.DataOf.{data_of}
 use Rattle.stix_objects.specs.declared.row.CommonRow.{CommonRow}
-use Rattle.stix_objects.specs.inner.Adding.{Adds, applicable_rows}
+use Rattle.stix_objects.specs.inner.Adding.{AddsBreaks, applicable_rows}
 use Rattle.stix_objects.specs.inner.Views.{row_view, common_view}
 use Rattle.stix_objects.proofs.ListLemmas.{close_at, close_end}
 use Rattle.stix_objects.proofs.AddingLemmas.{adds_applicable}
@@ -12,7 +12,7 @@ loop-common-preserved c =
     let d = data_of c.args.object.now in
     let own = map row_view c.args.own.now in
     λ after rest. c.loop-common.invariant after
-    (close_at (λ (commons : List CommonRow). Adds (applicable_rows c.args.group own (map common_view commons)) d c.loop-common.found after)
+    (close_at (λ (commons : List CommonRow). AddsBreaks (applicable_rows c.args.group own (map common_view commons)) d c.loop-common.found after)
     c.args.commons.now c.loop-common.common-index _ c.loop-common-test.true
     (adds_applicable _ (applicable_rows c.args.group own (map common_view (drop (c.loop-common.common-index + 1) c.args.commons.now))) d
     c.loop-common.found c.add_applicable.new.found after c.in_ok-add_applicable.ensures rest))
@@ -22,5 +22,5 @@ returns c =
     let d = data_of c.args.object.now in
     let own = map row_view c.args.own.now in
     c.loop-common.invariant c.loop-common.found
-    (close_end (λ (commons : List CommonRow). Adds (applicable_rows c.args.group own (map common_view commons)) d c.loop-common.found c.loop-common.found)
+    (close_end (λ (commons : List CommonRow). AddsBreaks (applicable_rows c.args.group own (map common_view commons)) d c.loop-common.found c.loop-common.found)
     c.args.commons.now c.loop-common.common-index c.loop-common-test.false refl)

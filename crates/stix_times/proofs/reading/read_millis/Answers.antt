@@ -4,7 +4,7 @@ use Rattle.std.proofs.lemmas.Result.{err_from_is_err_and}
 use Rattle.stix_times.specs.declared.refusal.TimeRefusal.TheVariants.{NotMillis}
 use Rattle.stix_times.specs.Parts.{timestamp_of}
 use Rattle.stix_times.specs.Timestamp.{Spells}
-use Rattle.stix_times.specs.Reading.{IsRefused, HasMillis}
+use Rattle.stix_times.specs.Reading.{IsRefusedTimestamp, HasMillis}
 use Rattle.stix_times.proofs.ReadingLemmas.{only_millis, refused, refused_millis}
 use Rattle.stix_times.proofs.reading.read_millis.Goals as goal
 
@@ -13,7 +13,7 @@ returns-in_err-parts-clause-only c =
     let s = c.args.text.now in
     let e = c.in_err-parts.field-0.0 in
     let p = err_from_is_err_and c.from_residual.result c.from_residual.ensures.1 in
-    rw (p.1, p.2) (λ other h. only_millis s other (Err e) h (refused_millis s e (subst (λ v. IsRefused v e) c.as_bytes.ensures.value c.in_err-parts.ensures.err)))
+    rw (p.1, p.2) (λ other h. only_millis s other (Err e) h (refused_millis s e (subst (λ v. IsRefusedTimestamp v e) c.as_bytes.ensures.value c.in_err-parts.ensures.err)))
 
 pub returns-in_err-instant-clause-only : goal.returns-in_err-instant-clause-only
 returns-in_err-instant-clause-only c =

@@ -2,12 +2,12 @@ use Rattle.std.proofs.Common.{◌≡◌, ◌≢◌, ◌⊎◌, inl, inr, ℕ, Li
 use Rattle.stix_ids.specs.declared.id.Id.{Id}
 use Rattle.stix_ids.specs.declared.refusal.IdRefusal.{IdRefusal}
 use Rattle.stix_ids.specs.declared.refusal.IdRefusal.TheVariants.{BadUuid, BadKind, NoMemory}
-use Rattle.stix_ids.specs.Identifier.{IsTextOf}
+use Rattle.stix_ids.specs.Identifier.{IsTextOfId}
 use Rattle.taxii_routes.proofs.members.identifier.Goals as goal
 
 -- a text that was refused for what it is, is no identifier's
 no_identifier : (text : List ℕ) (e bad : IdRefusal) → e ≡ bad → bad ≢ NoMemory
-    → ((id : Id) → IsTextOf text id → (◌≡◌ {A = Result Id IdRefusal} (Err e) (Ok id)) ⊎ (◌≡◌ {A = Result Id IdRefusal} (Err e) (Err NoMemory))) → (id : Id) → ¬ IsTextOf text id
+    → ((id : Id) → IsTextOfId text id → (◌≡◌ {A = Result Id IdRefusal} (Err e) (Ok id)) ⊎ (◌≡◌ {A = Result Id IdRefusal} (Err e) (Err NoMemory))) → (id : Id) → ¬ IsTextOfId text id
 no_identifier text e bad same other named id is = go (named id is)
   where
     go : (◌≡◌ {A = Result Id IdRefusal} (Err e) (Ok id)) ⊎ (◌≡◌ {A = Result Id IdRefusal} (Err e) (Err NoMemory)) → ⊥

@@ -3,7 +3,7 @@ use Rattle.std.specs.Prelude.{IfErr}
 use Rattle.std.proofs.lemmas.Result.{err_from_is_err_and}
 use Rattle.form_urlencoded.specs.Parse.{raw_pairs_left}
 use Rattle.taxii_routes.specs.declared.refusal.QueryRefusal.TheVariants.{NoMemory}
-use Rattle.taxii_routes.specs.Query.{pairs_of, IsRefusedAs}
+use Rattle.taxii_routes.specs.Query.{pairs_of, IsRefusedQuery}
 use Rattle.taxii_routes.proofs.ReadsLemmas.{Reads, reads_on, reads_stop}
 use Rattle.taxii_routes.proofs.query.read_query.Goals as goal
 
@@ -22,5 +22,5 @@ returns-in_err-add_pair-clause-err c =
     let e = c.in_err-add_pair.field-0.0 in
     let stops = reads_stop text (c.in-Some.name.now, c.in-Some.value.now) left c.loop-name.query e before c.in_err-add_pair.ensures.err in
     let p = err_from_is_err_and c.from_residual.result c.from_residual.ensures.1 in
-    subst (λ answer. IfErr answer (λ refusal. (refusal ≡ NoMemory) ⊎ IsRefusedAs (pairs_of text) refusal)) (sym p.1)
-    (subst (λ refusal. (refusal ≡ NoMemory) ⊎ IsRefusedAs (pairs_of text) refusal) (sym p.2) stops)
+    subst (λ answer. IfErr answer (λ refusal. (refusal ≡ NoMemory) ⊎ IsRefusedQuery (pairs_of text) refusal)) (sym p.1)
+    (subst (λ refusal. (refusal ≡ NoMemory) ⊎ IsRefusedQuery (pairs_of text) refusal) (sym p.2) stops)

@@ -15,10 +15,10 @@ returns-in_err-read_instant c =
 pub returns-then-nanos-ne0 : goal.returns-then-nanos-ne0
 returns-then-nanos-ne0 c =
     let fits : SFits w128 c.nanos-nanos.result = search rules in
-    no_micros c.args.text.now c.nanos-nanos.result fits (subst (time.IsTextOf c.args.text.now) (sym c.nanos-nanos.ensures.value) c.in_ok-read_instant.ensures) c.if-nanos-ne0.true
+    no_micros c.args.text.now c.nanos-nanos.result fits (subst (time.IsTextOfInstant c.args.text.now) (sym c.nanos-nanos.ensures.value) c.in_ok-read_instant.ensures) c.if-nanos-ne0.true
 
 pub returns : goal.returns
 returns c =
     let fits : SFits w128 c.nanos-nanos.result = search rules in
     found_micros c.args.text.now c.nanos-nanos.result c.try_from.result c.ok.result fits (subst IsInstant (sym c.nanos-nanos.ensures.value) c.nanos-nanos.ensures.range)
-    (subst (time.IsTextOf c.args.text.now) (sym c.nanos-nanos.ensures.value) c.in_ok-read_instant.ensures) c.if-nanos-ne0.false c.try_from.ensures c.ok.ensures.value
+    (subst (time.IsTextOfInstant c.args.text.now) (sym c.nanos-nanos.ensures.value) c.in_ok-read_instant.ensures) c.if-nanos-ne0.false c.try_from.ensures c.ok.ensures.value

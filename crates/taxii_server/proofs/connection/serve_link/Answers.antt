@@ -1,5 +1,5 @@
 use Rattle.std.proofs.Common.{◌∙◌, ◌+◌, inl, refl, arith}
-use Rattle.taxii_server.specs.Environment.{LinkView, link_view}
+use Rattle.taxii_server.specs.Environment.{LinkView, client_view}
 use Rattle.taxii_server.proofs.EndsLemmas.{finishes-leave, quiet-leave, finishes-answered, finishes-cut}
 use Rattle.taxii_server.proofs.EnvironmentLemmas.{sink_side, source_side}
 use Rattle.taxii_server.proofs.TakesLemmas.{next-in-time}
@@ -22,7 +22,7 @@ pub returns-in-Err-receive-clause-serves : goal.returns-in-Err-receive-clause-se
 returns-in-Err-receive-clause-serves g c =
     let read = sink_side (g.met.L.Link.unwritten c.loop-request.link) (g.met.L.Link.unwritten c.receive.new.link) c.in-Err-receive.ensures.unwritten in
     let wrote = source_side (g.met.L.Link.unread c.receive.new.link) (g.met.L.Link.unread c.write_closing_answer-in-Err-receive.new.link) c.write_closing_answer-in-Err-receive.ensures.unread in
-    let link : LinkView = link_view g.L.Source.left g.L.Source.began g.L.Sink.written g.L.Source.faults g.L.Sink.faults c.args.link.now in
+    let link : LinkView = client_view g.L.Source.left g.L.Source.began g.L.Sink.written g.L.Source.faults g.L.Sink.faults c.args.link.now in
     let so_far = so_far-received {link = link} c.later_bytes_change_nothing.ensures c.loop-request.invariant.so_far c.in-Err-receive.ensures.receives read.0 in
     let in_time = received-in-time {link = link} c.later_bytes_change_nothing.ensures g.L.Source.left g.L.Source.began
     c.loop-request.link c.receive.new.link c.loop-request.invariant.so_far c.loop-request.invariant.in_time c.in-Err-receive.ensures.in_time in
@@ -40,7 +40,7 @@ pub returns-in-Ok-true-clause-serves : goal.returns-in-Ok-true-clause-serves
 returns-in-Ok-true-clause-serves g c =
     let read = sink_side (g.met.L.Link.unwritten c.loop-request.link) (g.met.L.Link.unwritten c.receive.new.link) c.in-Ok-receive.ensures.unwritten in
     let wrote = source_side (g.met.L.Link.unread c.receive.new.link) (g.met.L.Link.unread c.answer.new.link) c.in-Ok-true.ensures.unread in
-    let link : LinkView = link_view g.L.Source.left g.L.Source.began g.L.Sink.written g.L.Source.faults g.L.Sink.faults c.args.link.now in
+    let link : LinkView = client_view g.L.Source.left g.L.Source.began g.L.Sink.written g.L.Source.faults g.L.Sink.faults c.args.link.now in
     let so_far = so_far-received {link = link} c.later_bytes_change_nothing.ensures c.loop-request.invariant.so_far c.in-Ok-receive.ensures.receives read.0 in
     let answers = rw c.loop-request.invariant.config at c.in-Ok-true.ensures.answers in
     finishes-answered {link = link} _ so_far (record { request = c.in-Ok-receive.request; is_last = _; answers = answers; first = c.in-Ok-receive.ensures.receives.gives; last = refl; few = c.loop-request.invariant.few }) wrote.0 c.in-Ok-true.field-0-test (
@@ -52,7 +52,7 @@ pub returns-in-Err-answer-clause-serves : goal.returns-in-Err-answer-clause-serv
 returns-in-Err-answer-clause-serves g c =
     let read = sink_side (g.met.L.Link.unwritten c.loop-request.link) (g.met.L.Link.unwritten c.receive.new.link) c.in-Ok-receive.ensures.unwritten in
     let wrote = source_side (g.met.L.Link.unread c.receive.new.link) (g.met.L.Link.unread c.answer.new.link) c.in-Err-answer.ensures.unread in
-    let link : LinkView = link_view g.L.Source.left g.L.Source.began g.L.Sink.written g.L.Source.faults g.L.Sink.faults c.args.link.now in
+    let link : LinkView = client_view g.L.Source.left g.L.Source.began g.L.Sink.written g.L.Source.faults g.L.Sink.faults c.args.link.now in
     let so_far = so_far-received {link = link} c.later_bytes_change_nothing.ensures c.loop-request.invariant.so_far c.in-Ok-receive.ensures.receives read.0 in
     let answers = rw c.loop-request.invariant.config at c.in-Err-answer.ensures.answers in
     let in_time = received-in-time {link = link} c.later_bytes_change_nothing.ensures g.L.Source.left g.L.Source.began
@@ -64,7 +64,7 @@ pub loop-request-preserved : goal.loop-request-preserved
 loop-request-preserved g c =
     let read = sink_side (g.met.L.Link.unwritten c.loop-request.link) (g.met.L.Link.unwritten c.receive.new.link) c.in-Ok-receive.ensures.unwritten in
     let wrote = source_side (g.met.L.Link.unread c.receive.new.link) (g.met.L.Link.unread c.answer.new.link) c.in-Ok-false.ensures.unread in
-    let link : LinkView = link_view g.L.Source.left g.L.Source.began g.L.Sink.written g.L.Source.faults g.L.Sink.faults c.args.link.now in
+    let link : LinkView = client_view g.L.Source.left g.L.Source.began g.L.Sink.written g.L.Source.faults g.L.Sink.faults c.args.link.now in
     let so_far = so_far-received {link = link} c.later_bytes_change_nothing.ensures c.loop-request.invariant.so_far c.in-Ok-receive.ensures.receives read.0 in
     let answers = rw c.loop-request.invariant.config at c.in-Ok-false.ensures.answers in
     let next : IsNextAnswer _ _ _ _ _ _ _ _ _ _ _ =

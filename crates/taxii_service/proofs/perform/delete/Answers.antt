@@ -1,11 +1,11 @@
 use Rattle.std.proofs.Common.{◌≡◌, ◌≢◌, ◌⊎◌, inl, inr, ℕ, List, [], None, refl, sym, ap, subst, ◌∙◌}
-use Rattle.stix_ids.specs.Identifier.{IsTextOf}
+use Rattle.stix_ids.specs.Identifier.{IsTextOfId}
 use Rattle.http_messages.specs.declared.status.Status.TheVariants.{Okay}
 use Rattle.taxii_bodies.specs.declared.problem.Problem.TheVariants.{StoreFault}
 use Rattle.taxii_exchange.specs.declared.refusal.Refusal.TheVariants.{NoMemory, Problem}
 use Rattle.taxii_exchange.specs.AnswersToRequests.{bare_answer}
 use Rattle.taxii_exchange.specs.Config.{collection_named}
-use Rattle.taxii_service.specs.Finding.{Names}
+use Rattle.taxii_service.specs.Finding.{NamesCollection}
 use Rattle.taxii_service.specs.Deleting.{AreDeleted, without_dates}
 use Rattle.taxii_service.specs.Step.{Deletes}
 use Rattle.taxii_service.specs.inner.Performing.{DeleteChanges}
@@ -30,7 +30,7 @@ returns-clause-ok g c =
       info = info;
       named = ap (λ (text : List ℕ). collection_named text config.collections) (sym c.as_str.ensures) ∙ sym c.in-Some.ensures;
       id = id;
-      text_of = subst (λ (text : List ℕ). IsTextOf text id) c.as_str-2.ensures c.in_ok-id.ensures;
+      text_of = subst (λ (text : List ℕ). IsTextOfId text id) c.as_str-2.ensures c.in_ok-id.ensures;
       dates = its.0;
       deleted = its.1;
       answer_is = its.2;
@@ -47,8 +47,8 @@ returns-clause-err g c =
     let object = c.in-Object.object in
     let info = c.in-Some.info.now in
     let id = c.in_ok-id.id in
-    let named : Names collection config.collections info = ap (λ (text : List ℕ). collection_named text config.collections) (sym c.as_str.ensures) ∙ sym c.in-Some.ensures in
-    let its = subst (λ (text : List ℕ). IsTextOf text id) c.as_str-2.ensures c.in_ok-id.ensures in
+    let named : NamesCollection collection config.collections info = ap (λ (text : List ℕ). collection_named text config.collections) (sym c.as_str.ensures) ∙ sym c.in-Some.ensures in
+    let its = subst (λ (text : List ℕ). IsTextOfId text id) c.as_str-2.ensures c.in_ok-id.ensures in
     if_err c.delete_object.result
     (λ refusal. (refusal ≡ NoMemory) ⊎ ((refusal ≡ Problem StoreFault) × ((dates : List ℕ) × (dates ≢ []) × AreDeleted before.library info.id id query dates)))
     (λ refusal. (refusal ≡ NoMemory) ⊎ ((refusal ≡ Problem StoreFault) × DeleteChanges config before route query))

@@ -5,7 +5,7 @@ use Rattle.taxii_bodies.specs.declared.problem.Problem.TheVariants.{StoreFault}
 use Rattle.taxii_exchange.specs.declared.refusal.Refusal.TheVariants.{NoMemory, Problem}
 use Rattle.taxii_exchange.specs.AnswersToRequests.{body_answer}
 use Rattle.taxii_exchange.specs.Config.{collection_named}
-use Rattle.taxii_service.specs.Finding.{Names}
+use Rattle.taxii_service.specs.Finding.{NamesCollection}
 use Rattle.taxii_service.specs.Adding.{IsAdding, CannotAdd, with_added}
 use Rattle.taxii_service.specs.Step.{Posts, CannotPost}
 use Rattle.taxii_service.specs.inner.Performing.{PostChanges}
@@ -22,7 +22,7 @@ returns-clause-ok g c =
     let id = c.in-Objects.id in
     let info = c.in-Some.info.now in
     let body = c.as_slice-body.result.now in
-    let named : Names id config.collections info = ap (λ (text : List ℕ). collection_named text config.collections) (sym c.as_str.ensures) ∙ sym c.in-Some.ensures in
+    let named : NamesCollection id config.collections info = ap (λ (text : List ℕ). collection_named text config.collections) (sym c.as_str.ensures) ∙ sym c.in-Some.ensures in
     if_ok c.add_objects.result
     (λ answer. (new : List StoredRow) × (text : List ℕ) × IsAdding before info.id moment body new text × (answer ≡ body_answer Accepted text)
     × (after ≡ with_added new text before))
@@ -49,7 +49,7 @@ returns-clause-err g c =
     let id = c.in-Objects.id in
     let info = c.in-Some.info.now in
     let body = c.as_slice-body.result.now in
-    let named : Names id config.collections info = ap (λ (text : List ℕ). collection_named text config.collections) (sym c.as_str.ensures) ∙ sym c.in-Some.ensures in
+    let named : NamesCollection id config.collections info = ap (λ (text : List ℕ). collection_named text config.collections) (sym c.as_str.ensures) ∙ sym c.in-Some.ensures in
     if_err c.add_objects.result
     (λ refusal. (refusal ≡ NoMemory) ⊎ (CannotAdd before info.id moment body refusal
     ⊎ ((refusal ≡ Problem StoreFault) × ((new : List StoredRow) × (text : List ℕ) × (new ≢ []) × IsAdding before info.id moment body new text))))

@@ -1,7 +1,7 @@
 use Rattle.std.proofs.Common.{◌<◌, ◌^◌, [], ◌∷◌, ◌++◌, length, All, Vec, Global, sym, ap, subst, ◌∙◌, append_assoc, arith}
 use Rattle.std.proofs.lemmas.List.Elements.{All-tail}
 use Rattle.stix_json.specs.declared.entry.Entry.{Entry}
-use Rattle.taxii_service.specs.inner.Posting.{IsTaken}
+use Rattle.taxii_service.specs.inner.Posting.{IsTakenEntry}
 use Rattle.taxii_service.proofs.HoldsLemmas.{holds_adds, sound_adds, holds_within}
 use Rattle.taxii_service.proofs.post_body.check_entries.Goals as goal
 
@@ -19,9 +19,9 @@ pub loop-entry-preserved : goal.loop-entry-preserved
 loop-entry-preserved c =
     let inv = c.loop-entry.invariant in
     let rest = c.next.new.self.rest.items in
-    let taken = subst (All IsTaken) c.in-Some.ensures.steps.0 inv.taken in record {
+    let taken = subst (All IsTakenEntry) c.in-Some.ensures.steps.0 inv.taken in record {
       items = inv.items ∙ ap (λ es. c.loop-entry.yielded ++ es) c.in-Some.ensures.steps.0 ∙ sym (append_assoc c.loop-entry.yielded (c.in-Some.entry ∷ []) rest);
-      taken = All-tail IsTaken c.in-Some.entry rest taken;
+      taken = All-tail IsTakenEntry c.in-Some.entry rest taken;
       holds = holds_adds c.args.moment c.loop-entry.yielded c.in-Some.entry c.loop-entry.posted c.add.new.self inv.holds c.in_ok-add.ensures;
       sound = sound_adds c.args.moment c.in-Some.entry c.loop-entry.posted c.add.new.self inv.sound c.in_ok-add.ensures;
     }

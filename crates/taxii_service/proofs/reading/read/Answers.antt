@@ -1,7 +1,7 @@
 use Rattle.std.proofs.Common.{◌≡◌, ◌⊎◌, inl, inr, ℕ, List, None, sym, subst}
 use Rattle.std.specs.Prelude.{IfErr}
 use Rattle.stix_ids.specs.declared.id.Id.{Id}
-use Rattle.stix_ids.specs.Identifier.{IsTextOf}
+use Rattle.stix_ids.specs.Identifier.{IsTextOfId}
 use Rattle.taxii_routes.specs.declared.route.Route.{Route}
 use Rattle.taxii_routes.specs.declared.route.Route.TheVariants.{Object, Versions}
 use Rattle.taxii_bodies.specs.declared.problem.Problem.TheVariants.{NotFound}
@@ -19,7 +19,7 @@ returns-in-Object-clause-err c =
     let collection = c.as_str-in-Object.result.now in
     let object = c.as_str-in-Object-2.result.now in
     let its = if_err c.read_object.result
-    (λ refusal. (refusal ≡ NoMemory) ⊎ ((refusal ≡ Problem NotFound) × ((collection_named collection infos ≡ None) ⊎ ((id : Id) → ¬ IsTextOf object id))))
+    (λ refusal. (refusal ≡ NoMemory) ⊎ ((refusal ≡ Problem NotFound) × ((collection_named collection infos ≡ None) ⊎ ((id : Id) → ¬ IsTextOfId object id))))
     (λ refusal. (refusal ≡ NoMemory) ⊎ ((refusal ≡ Problem NotFound) × IsNoResource c.args.config.now state (Object collection object)))
     (λ refusal why. elim why [
       | inl none ↦ inl none
@@ -37,7 +37,7 @@ returns-in-Versions-clause-err c =
     let collection = c.as_str-in-Versions.result.now in
     let object = c.as_str-in-Versions-2.result.now in
     let its = if_err c.read_versions.result
-    (λ refusal. (refusal ≡ NoMemory) ⊎ ((refusal ≡ Problem NotFound) × ((collection_named collection infos ≡ None) ⊎ ((id : Id) → ¬ IsTextOf object id))))
+    (λ refusal. (refusal ≡ NoMemory) ⊎ ((refusal ≡ Problem NotFound) × ((collection_named collection infos ≡ None) ⊎ ((id : Id) → ¬ IsTextOfId object id))))
     (λ refusal. (refusal ≡ NoMemory) ⊎ ((refusal ≡ Problem NotFound) × IsNoResource c.args.config.now state (Versions collection object)))
     (λ refusal why. elim why [
       | inl none ↦ inl none

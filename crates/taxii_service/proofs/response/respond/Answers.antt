@@ -2,7 +2,7 @@ use Rattle.std.proofs.Common.{◌≡◌, ◌⊎◌, inl, inr, ℕ, List, [], unw
 use Rattle.taxii_exchange.specs.declared.answer.Answer.{Answer}
 use Rattle.taxii_bodies.specs.declared.problem.Problem.TheVariants.{StoreFault}
 use Rattle.taxii_exchange.specs.AnswersToRequests.{answer_to_problem}
-use Rattle.taxii_routes.specs.Route.{IsPathOf}
+use Rattle.taxii_routes.specs.Route.{IsRoutePath}
 use Rattle.taxii_routes.specs.Target.{IsTargetOf}
 use Rattle.taxii_service.specs.declared.state.State.{State}
 use Rattle.taxii_service.specs.Step.{RouteStep, Step, FailsToKeep}
@@ -21,7 +21,7 @@ returns-in_default g c =
     let path = c.split_target.result.0.now in
     let query = option_map (λ text. text.now) c.split_target.result.1 in
     let target : IsTargetOf request.target path query = subst (λ (text : List ℕ). IsTargetOf text path query) c.as_str.ensures c.split_target.ensures in
-    let path_is : IsPathOf path route = c.in_ok-route.ensures.found c.in_default.not-None in
+    let path_is : IsRoutePath path route = c.in_ok-route.ensures.found c.in_default.not-None in
     let text : c.query_text-query.result.now ≡ unwrap_or query [] = c.query_text-query.ensures in
     let steps = λ (answer : Answer) (now : State) (step : RouteStep config before moment request route c.query_text-query.result.now answer now).
     let its = subst (λ (t : List ℕ). RouteStep config before moment request route t answer now) text step in

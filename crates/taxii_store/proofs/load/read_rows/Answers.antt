@@ -1,7 +1,7 @@
 use Rattle.std.proofs.Common.{◌≡◌, ℕ, ◌<◌, IfSome, sym, subst, ◌∙◌}
 use Rattle.taxii_rows.specs.Keeper.{Kept, row_after}
 use Rattle.taxii_store.specs.declared.load_refusal.LoadRefusal.TheVariants.{BadRow}
-use Rattle.taxii_store.specs.Loading.{IsFit, IsBadAfter}
+use Rattle.taxii_store.specs.Loading.{IsFitRow, IsBadAfter}
 use Rattle.taxii_store.specs.inner.Reading.{IsBadNext}
 use Rattle.taxii_store.proofs.AnswerLemmas.{handed_on}
 use Rattle.taxii_store.proofs.LoadLemmas.{AreGood, IsReadTo, good_pushed, read_pushed, read_whole, bad_told, if_both}
@@ -31,7 +31,7 @@ loop-rows-preserved g c =
     let loop = c.loop-rows in
     let row = c.in-Some.row in
     let observable = (g.K.Keeper.kept c.args.keeper.now).observable in
-    let fits = subst (λ found. IfSome found (λ one. (loop.after < one.date) × IsFit c.args.watermark one)) c.in-Some.is c.in_ok-row.ensures.fit in
+    let fits = subst (λ found. IfSome found (λ one. (loop.after < one.date) × IsFitRow c.args.watermark one)) c.in-Some.is c.in_ok-row.ensures.fit in
     let next = subst (λ (kept : Kept). IfSome kept.observable (λ state. c.in_ok-row.field-0 ≡ row_after loop.after state.rows)) loop.invariant.0 c.in_ok-row.ensures.next in
     let pushed = sym c.in_ok-push.ensures.ok in (
       c.in_ok-row.ensures.stays ∙ loop.invariant.0,

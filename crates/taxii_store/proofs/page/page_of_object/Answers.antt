@@ -4,8 +4,8 @@ use Rattle.std.specs.declared.alloc.Global.{Global}
 use Rattle.taxii_rows.specs.declared.stored_row.StoredRow.{StoredRow}
 use Rattle.taxii_index.specs.Index.{AreRowsOf}
 use Rattle.taxii_index.proofs.ListLemmas.{lent_at}
-use Rattle.taxii_store.specs.Meeting.{Meets}
-use Rattle.taxii_store.specs.inner.Asking.{Asks}
+use Rattle.taxii_store.specs.Meeting.{MeetsQuery}
+use Rattle.taxii_store.specs.inner.Asking.{AsksOfCollection}
 use Rattle.taxii_store.proofs.PageLemmas.{meeting, meeting_none, meeting_more, meeting_same, fits, page_whole, page_full, chosen_own}
 use Rattle.taxii_store.proofs.ChosenLemmas.{chosen_of_object, none_chosen, own_can, own_never}
 use Rattle.taxii_store.proofs.page.page_of_object.Goals.{then-row-after+then-meets+else-len-size+in_ok-push, else-row-after, else-row-after-via-then-row-after+else-meets, else-row-after-via-else-row-after}
@@ -86,19 +86,19 @@ loop-row-preserved c =
             ap (map now) pushed ∙ map-append now c.loop-row.rows.items (_ ∷ []) ∙ ap (λ (xs : List StoredRow). xs ++ row ∷ []) c.loop-row.invariant.0
                 ∙ sym (meeting_more rows collection (Some id) query walked i row here.0 here.1 meets),
             fits _ _ _ c.loop-row.invariant.1 (λ same. w.if-len-size.false (w.len.ensures ∙ c.loop-row.rows.ok.0 ∙ same)) grown,
-            subst (Asks collection (Some id) query) (sym w.asked-is) (w.meets.ensures.same collection (Some id) query c.loop-row.invariant.2),
+            subst (AsksOfCollection collection (Some id) query) (sym w.asked-is) (w.meets.ensures.same collection (Some id) query c.loop-row.invariant.2),
           )
       | else-row-after w ↦
           let kept = ap (λ (v : Vec (Bor StoredRow) Global). v.items) w.rows-is in
-          let observable : (¬ Meets rows collection (Some id) query row) × Asks collection (Some id) query c.if-row-after.asked = elim w.else-row-after.branch [
+          let observable : (¬ MeetsQuery rows collection (Some id) query row) × AsksOfCollection collection (Some id) query c.if-row-after.asked = elim w.else-row-after.branch [
             | else-row-after-via-then-row-after+else-meets v ↦
                 let can = own_can query after walked i row are.ascend here.0 here.1 c.cursor-after.ensures version v.if-row-after.true in (
                   λ meets. let wrong = subst IsTrue v.if-meets.false ((v.meets.ensures.meets collection (Some id) query c.loop-row.invariant.2 can).1 meets) in absurd (cc wrong),
-                  subst (Asks collection (Some id) query) (sym (w.asked-is ∙ v.asked-is)) (v.meets.ensures.same collection (Some id) query c.loop-row.invariant.2),
+                  subst (AsksOfCollection collection (Some id) query) (sym (w.asked-is ∙ v.asked-is)) (v.meets.ensures.same collection (Some id) query c.loop-row.invariant.2),
                 )
             | else-row-after-via-else-row-after v ↦ (
               own_never rows collection (Some id) query after walked i row are.ascend here.0 here.1 c.cursor-after.ensures v.if-row-after.false,
-              subst (Asks collection (Some id) query) (sym (w.asked-is ∙ v.asked-is)) c.loop-row.invariant.2,
+              subst (AsksOfCollection collection (Some id) query) (sym (w.asked-is ∙ v.asked-is)) c.loop-row.invariant.2,
             )
           ] in (
             ap (map now) kept ∙ c.loop-row.invariant.0 ∙ sym (meeting_same rows collection (Some id) query walked i row here.0 here.1 observable.0),

@@ -1,5 +1,5 @@
 use Rattle.std.proofs.Common.{◌≡◌, ◌≤◌, map, length, take, Some}
-use Rattle.taxii_store.specs.inner.Asking.{Asks}
+use Rattle.taxii_store.specs.inner.Asking.{AsksOfCollection}
 use Rattle.taxii_store.proofs.PageLemmas.{meeting}
 use Rattle.taxii_store.proofs.page.page_of_object.Given as goal
 
@@ -7,4 +7,4 @@ abbrev pub invariant-loop-row : goal.invariant-loop-row
 invariant-loop-row l =
     (map (λ row. row.now) l.rows.items ≡ meeting l.library.rows l.collection (Some l.id) l.query (take l.row-index (map (λ row. row.now) l.row-items)))
     × (length l.rows.items ≤ l.size)
-    × Asks l.collection (Some l.id) l.query l.asked
+    × AsksOfCollection l.collection (Some l.id) l.query l.asked

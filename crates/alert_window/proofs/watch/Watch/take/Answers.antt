@@ -3,8 +3,8 @@ use Rattle.std.proofs.Common.{◌≡◌, ◌≤◌, ◌+◌, ◌≤ℤ◌, ℤ, 
 use Rattle.std.specs.BTreeSet.{insert_key}
 use Rattle.alert_window.specs.declared.matching_row.MatchingRow.{MatchingRow}
 use Rattle.alert_window.specs.MatchingRows.{row_cmp}
-use Rattle.alert_window.specs.WatchState.{WatchState, AnswersRow, with_row}
-use Rattle.alert_window.specs.inner.Kept.{keep, IsReached}
+use Rattle.alert_window.specs.WatchState.{WatchState, AnswersAlertRow, with_window_row}
+use Rattle.alert_window.specs.inner.Kept.{keep, IsCountReached}
 use Rattle.alert_window.specs.contracts.watch.Watch.{the_view}
 use Rattle.alert_window.proofs.TakeLemmas.{Follows, not_later, answer_matching, answer_other}
 use Rattle.alert_window.proofs.watch.Watch.take.Goals as goal
@@ -38,17 +38,17 @@ returns-2-clause-answers c = λ log represents order.
           let kept : after.kept ≡ keep before.n (insert_key row_cmp before.kept (record { first = c.args.first; number = before.rows + 1 })) =
           ap (λ (s : WatchState). s.kept) joined ∙ ap (λ (k : ℕ). keep before.n (insert_key row_cmp before.kept (record { first = c.args.first; number = k }))) rows
           in
-          let reached : IsTrue c.if-holds.alert ↔ IsReached before.n before.x after.kept c.args.first c.args.last =
-          subst (λ (kept : List MatchingRow). IsTrue c.if-holds.alert ↔ IsReached before.n before.x kept c.args.first c.args.last) (sym kept_then)
-          (subst (λ (answer : Bool). IsTrue answer ↔ IsReached before.n before.x w.keep.new.self.kept c.args.first c.args.last) (sym w.alert-is) w.in_ok-alert.ensures.reached)
+          let reached : IsTrue c.if-holds.alert ↔ IsCountReached before.n before.x after.kept c.args.first c.args.last =
+          subst (λ (kept : List MatchingRow). IsTrue c.if-holds.alert ↔ IsCountReached before.n before.x kept c.args.first c.args.last) (sym kept_then)
+          (subst (λ (answer : Bool). IsTrue answer ↔ IsCountReached before.n before.x w.keep.new.self.kept c.args.first c.args.last) (sym w.alert-is) w.in_ok-alert.ensures.reached)
           in
-          subst (λ (h : Bool). AnswersRow before after (with_row log c.args.first c.args.last h) c.if-holds.alert) (sym w.if-holds.true)
+          subst (λ (h : Bool). AnswersAlertRow before after (with_window_row log c.args.first c.args.last h) c.if-holds.alert) (sym w.if-holds.true)
           (answer_matching before after log c.args.first c.args.last c.if-holds.alert some represents order c.requires.span later follows kept reached)
       | else-holds w ↦
           let joined = c.self-2.view_is ∙ w.self-is in
           let follows : Follows before after c.args.last = record { n = ap (λ (s : WatchState). s.n) joined; rows = rows; last_is = refl } in
           let kept : after.kept ≡ before.kept = ap (λ (s : WatchState). s.kept) joined in
-          subst (λ (h : Bool). AnswersRow before after (with_row log c.args.first c.args.last h) c.if-holds.alert) (sym w.if-holds.false)
-          (subst (λ (answer : Bool). AnswersRow before after (with_row log c.args.first c.args.last false) answer) (sym (w.alert-is ∙ w.if-holds.false))
+          subst (λ (h : Bool). AnswersAlertRow before after (with_window_row log c.args.first c.args.last h) c.if-holds.alert) (sym w.if-holds.false)
+          (subst (λ (answer : Bool). AnswersAlertRow before after (with_window_row log c.args.first c.args.last false) answer) (sym (w.alert-is ∙ w.if-holds.false))
           (answer_other before after log c.args.first c.args.last some represents order c.requires.span later follows kept))
     ]

@@ -1,5 +1,5 @@
 use Rattle.std.proofs.Common.{rules, ◌++◌, inl, refl, ap, Ok, IfErr, sym, ◌∙◌, arith}
-use Rattle.flow_lines.specs.Lines.{is_blank, StopsInLine}
+use Rattle.flow_lines.specs.Lines.{is_blank_text, StopsInLine}
 use Rattle.flow_lines.specs.inner.Reading.{lines_state}
 use Rattle.flow_lines.proofs.AccountsForLemmas.{accounts-start, accounts-then, continues, accounts-emptied, loses-passed_on, passed_on, stops-then}
 use Rattle.flow_lines.proofs.LastReadLemmas.{still_in_time, given_in_time}
@@ -43,7 +43,7 @@ lines-preserved g c =
       accounted = accounts-then _ _ _ _ _ _ c.lines.invariant.accounted (accounts-emptied _ _ _ _ _ _ _ c.clear.ensures.items c.in_ok-read_next.ensures.next.accounts);
       held = λ holds. (
         c.read_next.ensures.unread (c.lines.invariant.held holds).1 ∙ (c.lines.invariant.held holds).0,
-        c.in_ok-read_next.ensures.held c.if-not-branch.false (c.lines.invariant.held holds).1 (ap is_blank (sym c.deref.ensures.value) ∙ sym c.if-not-is_blank_line.ensures),
+        c.in_ok-read_next.ensures.held c.if-not-branch.false (c.lines.invariant.held holds).1 (ap is_blank_text (sym c.deref.ensures.value) ∙ sym c.if-not-is_blank_line.ensures),
       );
       in_time = still_in_time g.S.Source.began c.args.source.now c.lines.source c.read_next.new.source
           (c.args.self.now.line.items ++ c.args.self.now.read_buffer) c.lines.self.line.items c.lines.self.read_buffer c.read_next.new.self.read_buffer c.read_next.new.self.line.items _ _ _ _ _ _
@@ -68,7 +68,7 @@ returns-then-not-is_blank_line-clause-in_time g c unheld =
     (c.args.self.now.line.items ++ c.args.self.now.read_buffer) c.lines.self.line.items c.lines.self.read_buffer c.read_next.new.self.read_buffer c.read_next.new.self.line.items _ _ _ _ _ _
     c.lines.invariant.in_time c.lines.invariant.accounted c.in_ok-read_next.ensures.in_time
     (λ feed. c.in_ok-read_next.ensures.there feed (ap Ok c.if-not-branch.false)) (c.in_ok-read_next.ensures.next.counts c.if-not-branch.false)
-    (ap is_blank (sym c.deref.ensures.value) ∙ sym c.if-not-is_blank_line.ensures) unheld
+    (ap is_blank_text (sym c.deref.ensures.value) ∙ sym c.if-not-is_blank_line.ensures) unheld
 
 pub returns-in_err-read_next-clause-causes : goal.returns-in_err-read_next-clause-causes
 returns-in_err-read_next-clause-causes g c = counts_passed _ _ _ _ _ _ c.lines.invariant.quiet c.from_residual.ensures.1 c.in_err-read_next.ensures.causes

@@ -1,5 +1,5 @@
 use Rattle.std.proofs.Common.{◌≡◌, ◌+◌, arith, IfErr, refl}
-use Rattle.flow_lines.specs.Lines.{width}
+use Rattle.flow_lines.specs.Lines.{line_width}
 use Rattle.flow_lines.specs.inner.Reading.{lines_state, StopsReading}
 use Rattle.flow_lines.proofs.LinesAheadLemmas.{reads-next, ends-read, refuses-line}
 use Rattle.flow_lines.proofs.AccountsForLemmas.{accounts-read, accounts-none, accounts-part, passed_on, stops-part}
@@ -9,7 +9,7 @@ use Rattle.flow_lines.proofs.cursor.Cursor.read_next.Goals as goal
 
 pub returns-clause-next : goal.returns-clause-next
 returns-clause-next g c =
-    let wide : c.len.result + c.from.result ≡ width (record { bytes = c.read_line.new.line.items; terminated = c.in_ok-terminated.terminated }) = grind arith in
+    let wide : c.len.result + c.from.result ≡ line_width (record { bytes = c.read_line.new.line.items; terminated = c.in_ok-terminated.terminated }) = grind arith in
     record {
       next = reads-next c.args.self.now.read_buffer c.read_line.new.line.items c.read_line.new.read_buffer c.strip_return.new.line.items c.args.self.now.count c.args.self.now.given (c.len.result + c.from.result)
           (g.S.Source.left c.args.source.now) (g.S.Source.left c.read_line.new.source) c.in_ok-terminated.terminated c.in_ok-terminated.ensures.line wide c.if-width-eq0.false c.strip_return.ensures c.in_ok-terminated.ensures.small c.requires.numbered;
@@ -20,7 +20,7 @@ returns-clause-next g c =
 
 pub returns-then-width-eq0-clause-next : goal.returns-then-width-eq0-clause-next
 returns-then-width-eq0-clause-next g c =
-    let wide : c.len.result + c.from.result ≡ width (record { bytes = c.read_line.new.line.items; terminated = c.in_ok-terminated.terminated }) = grind arith in
+    let wide : c.len.result + c.from.result ≡ line_width (record { bytes = c.read_line.new.line.items; terminated = c.in_ok-terminated.terminated }) = grind arith in
     let ends = ends-read c.args.self.now.read_buffer c.read_line.new.line.items c.read_line.new.read_buffer c.args.self.now.count c.args.self.now.given (c.len.result + c.from.result)
     (g.S.Source.left c.args.source.now) (g.S.Source.left c.read_line.new.source) c.in_ok-terminated.terminated c.in_ok-terminated.ensures.line wide c.if-width-eq0.true c.requires.numbered c.requires.within in
     record {

@@ -1,5 +1,5 @@
 use Rattle.std.proofs.Common.{arith, ap, length, refl, subst, List, ℕ}
-use Rattle.http_messages.specs.inner.Searching.{IsSearched, IsFound, Needs}
+use Rattle.http_messages.specs.inner.Searching.{IsSearched, IsFoundFrame, Needs}
 use Rattle.http_messages.proofs.RequestCheckLemmas.{needs_now, same_room}
 use Rattle.http_messages.proofs.FrameLemmas.{needs_nothing}
 use Rattle.http_messages.proofs.SearchLemmas.{searched_none}
@@ -12,7 +12,7 @@ returns-then-as_slice-self-clause-first c =
 
 pub invariant_of-self-in-More : goal.invariant_of-self-in-More
 invariant_of-self-in-More c =
-    let found = subst (IsFound c.self.inside.max_body c.as_slice-2.result.now) c.in-More.is c.in_ok-found.ensures.found in record {
+    let found = subst (IsFoundFrame c.self.inside.max_body c.as_slice-2.result.now) c.in-More.is c.in_ok-found.ensures.found in record {
       searched = subst (λ (bytes : List ℕ). IsSearched bytes c.find_frame.new.search) c.as_slice-2.ensures c.find_frame.ensures.searched;
       needs = subst (λ (bytes : List ℕ). Needs c.self.inside.max_body bytes c.in-More.needed) c.as_slice-2.ensures found.1;
       room = same_room c.find_frame.new.spans c.self.inside.spans.items c.self.inside.spans.len _ (omega (arith, c.self.inside.spans.ok)) c.self.invariant.room;

@@ -3,7 +3,7 @@ use Rattle.std.proofs.Common.{◌≡◌, ◌+◌, ◌++◌, ◌∷◌, [], ℕ, 
 use Rattle.std.specs.Prelude.{Some, map, false}
 use Rattle.stix_bundles.specs.Objects.{data_in}
 use Rattle.match_stream.specs.MatcherState.{Falls}
-use Rattle.hunt_engine.specs.EngineLog.{Row, row_of}
+use Rattle.hunt_engine.specs.EngineLog.{ObservationRow, engine_row}
 use Rattle.hunt_engine.specs.EngineState.{EngineState, EngineRepresents}
 use Rattle.hunt_engine.specs.EngineAnswer.{ReportsRow}
 use Rattle.hunt_engine.specs.LazyMatcherState.{LazyMatcherState}
@@ -25,7 +25,7 @@ take_all-requires-clause-follow c =
 
 pub take_all-requires-clause-there : goal.take_all-requires-clause-there
 take_all-requires-clause-there c =
-    positions_inside c.self.inside (row_of c.args.observation.now (data_in c.args.bundle.now)) c.evaluate.new.marks c.in_ok-row_brackets.row_brackets.affected.items c.as_slice-4.result.now c.as_mut_slice-lazy_matchers.result.now c.sweep.new.lazy_matchers c.as_mut_slice-2.result.now
+    positions_inside c.self.inside (engine_row c.args.observation.now (data_in c.args.bundle.now)) c.evaluate.new.marks c.in_ok-row_brackets.row_brackets.affected.items c.as_slice-4.result.now c.as_mut_slice-lazy_matchers.result.now c.sweep.new.lazy_matchers c.as_mut_slice-2.result.now
     c.self.invariant (subst (λ (roots : List ℕ). IsEvaluated (data_in c.args.bundle.now) roots (leaves_of c.self.inside) c.self.inside.brackets.owners.items c.evaluate.new.marks c.in_ok-row_brackets.row_brackets.affected.items) c.as_slice-2.ensures c.in_ok-row_brackets.ensures.evaluated) c.as_slice-4.ensures.value c.as_mut_slice-lazy_matchers.ensures.value c.in_ok-self-inside.ensures (c.as_mut_slice-2.ensures.value ∙ lazy_matchers_written c.self.inside c.as_mut_slice-lazy_matchers.result.now c.sweep.new.lazy_matchers c.as_mut_slice-lazy_matchers.ensures.value c.as_mut_slice-lazy_matchers.ensures.len c.in_ok-self-inside.ensures)
 
 pub evaluate-requires-clause-right : goal.evaluate-requires-clause-right
@@ -38,40 +38,40 @@ pub clear-requires : goal.clear-requires
 clear-requires c = record {
   marked =
       marked_inside c.evaluate.new.marks c.as_mut_slice-3.result.now c.in_ok-row_brackets.row_brackets.matching.items c.as_slice-5.result.now c.in_ok-row_brackets.ensures.matching
-      (c.as_mut_slice-3.ensures.value ∙ marks_written c.self.inside (row_of c.args.observation.now (data_in c.args.bundle.now)) c.as_mut_slice.result.now c.evaluate.new.marks c.in_ok-row_brackets.row_brackets.affected.items c.self.invariant (subst (λ (roots : List ℕ). IsEvaluated (data_in c.args.bundle.now) roots (leaves_of c.self.inside) c.self.inside.brackets.owners.items c.evaluate.new.marks c.in_ok-row_brackets.row_brackets.affected.items) c.as_slice-2.ensures c.in_ok-row_brackets.ensures.evaluated) c.as_mut_slice.ensures.value c.as_mut_slice.ensures.len) c.as_slice-5.ensures.value;
+      (c.as_mut_slice-3.ensures.value ∙ marks_written c.self.inside (engine_row c.args.observation.now (data_in c.args.bundle.now)) c.as_mut_slice.result.now c.evaluate.new.marks c.in_ok-row_brackets.row_brackets.affected.items c.self.invariant (subst (λ (roots : List ℕ). IsEvaluated (data_in c.args.bundle.now) roots (leaves_of c.self.inside) c.self.inside.brackets.owners.items c.evaluate.new.marks c.in_ok-row_brackets.row_brackets.affected.items) c.as_slice-2.ensures c.in_ok-row_brackets.ensures.evaluated) c.as_mut_slice.ensures.value c.as_mut_slice.ensures.len) c.as_slice-5.ensures.value;
 }
 
 pub returns-in-Err-clause-over_limit : goal.returns-in-Err-clause-over_limit
 returns-in-Err-clause-over_limit c =
-    let m = c.self.inside in let r = row_of c.args.observation.now (data_in c.args.bundle.now) in
+    let m = c.self.inside in let r = engine_row c.args.observation.now (data_in c.args.bundle.now) in
     rw (← c.self.view_is)
     (λ rows st position number retained_limit e.
     let at = given_at m rows r c.evaluate.new.marks c.as_slice-3.result.now c.in_ok-row_brackets.row_brackets.affected.items c.as_slice-4.result.now c.as_mut_slice-lazy_matchers.result.now c.sweep.new.lazy_matchers c.as_mut_slice-2.result.now c.self.invariant st
     (record { span = c.requires.span; order = subst (λ (s : EngineState). Falls s.last c.args.observation.now.last → ⊥) (sym c.self.view_is) c.requires.order })
-    (subst (λ (roots : List ℕ). IsEvaluated (data_in c.args.bundle.now) roots (leaves_of c.self.inside) c.self.inside.brackets.owners.items c.evaluate.new.marks c.in_ok-row_brackets.row_brackets.affected.items) c.as_slice-2.ensures c.in_ok-row_brackets.ensures.evaluated) (c.as_slice-3.ensures.value ∙ marks_written c.self.inside (row_of c.args.observation.now (data_in c.args.bundle.now)) c.as_mut_slice.result.now c.evaluate.new.marks c.in_ok-row_brackets.row_brackets.affected.items c.self.invariant (subst (λ (roots : List ℕ). IsEvaluated (data_in c.args.bundle.now) roots (leaves_of c.self.inside) c.self.inside.brackets.owners.items c.evaluate.new.marks c.in_ok-row_brackets.row_brackets.affected.items) c.as_slice-2.ensures c.in_ok-row_brackets.ensures.evaluated) c.as_mut_slice.ensures.value c.as_mut_slice.ensures.len) c.as_slice-4.ensures.value c.as_mut_slice-lazy_matchers.ensures.value c.in_ok-self-inside.ensures (c.as_mut_slice-2.ensures.value ∙ lazy_matchers_written c.self.inside c.as_mut_slice-lazy_matchers.result.now c.sweep.new.lazy_matchers c.as_mut_slice-lazy_matchers.ensures.value c.as_mut_slice-lazy_matchers.ensures.len c.in_ok-self-inside.ensures) in
+    (subst (λ (roots : List ℕ). IsEvaluated (data_in c.args.bundle.now) roots (leaves_of c.self.inside) c.self.inside.brackets.owners.items c.evaluate.new.marks c.in_ok-row_brackets.row_brackets.affected.items) c.as_slice-2.ensures c.in_ok-row_brackets.ensures.evaluated) (c.as_slice-3.ensures.value ∙ marks_written c.self.inside (engine_row c.args.observation.now (data_in c.args.bundle.now)) c.as_mut_slice.result.now c.evaluate.new.marks c.in_ok-row_brackets.row_brackets.affected.items c.self.invariant (subst (λ (roots : List ℕ). IsEvaluated (data_in c.args.bundle.now) roots (leaves_of c.self.inside) c.self.inside.brackets.owners.items c.evaluate.new.marks c.in_ok-row_brackets.row_brackets.affected.items) c.as_slice-2.ensures c.in_ok-row_brackets.ensures.evaluated) c.as_mut_slice.ensures.value c.as_mut_slice.ensures.len) c.as_slice-4.ensures.value c.as_mut_slice-lazy_matchers.ensures.value c.in_ok-self-inside.ensures (c.as_mut_slice-2.ensures.value ∙ lazy_matchers_written c.self.inside c.as_mut_slice-lazy_matchers.result.now c.sweep.new.lazy_matchers c.as_mut_slice-lazy_matchers.ensures.value c.as_mut_slice-lazy_matchers.ensures.len c.in_ok-self-inside.ensures) in
     first_over_limit c.test_is_the_rule.ensures (map (λ h. h.pattern) m.hunted.now) m.retained_limit rows r (row_at m c.args.observation.now) (leaves_of m) m.brackets.owners.items m.brackets.bracket_ranges.items c.as_slice-3.result.now c.as_slice-4.result.now m.lazy_matchers.items
     c.as_mut_slice-2.result.now at position number retained_limit (c.in-Err.ensures.over_limit position number retained_limit e))
 
 pub returns-clause-reports : goal.returns-clause-reports
 returns-clause-reports c =
-    let m = c.self.inside in let r = row_of c.args.observation.now (data_in c.args.bundle.now) in
-    subst (λ (s : EngineState). (rows : List Row) → EngineRepresents s rows → ReportsRow s.patterns (rows ++ r ∷ []) c.in-Ok.found) c.self.view_is
+    let m = c.self.inside in let r = engine_row c.args.observation.now (data_in c.args.bundle.now) in
+    subst (λ (s : EngineState). (rows : List ObservationRow) → EngineRepresents s rows → ReportsRow s.patterns (rows ++ r ∷ []) c.in-Ok.found) c.self.view_is
     (λ rows st.
     let at = given_at m rows r c.evaluate.new.marks c.as_slice-3.result.now c.in_ok-row_brackets.row_brackets.affected.items c.as_slice-4.result.now c.as_mut_slice-lazy_matchers.result.now c.sweep.new.lazy_matchers c.as_mut_slice-2.result.now c.self.invariant st
     (record { span = c.requires.span; order = subst (λ (s : EngineState). Falls s.last c.args.observation.now.last → ⊥) (sym c.self.view_is) c.requires.order })
-    (subst (λ (roots : List ℕ). IsEvaluated (data_in c.args.bundle.now) roots (leaves_of c.self.inside) c.self.inside.brackets.owners.items c.evaluate.new.marks c.in_ok-row_brackets.row_brackets.affected.items) c.as_slice-2.ensures c.in_ok-row_brackets.ensures.evaluated) (c.as_slice-3.ensures.value ∙ marks_written c.self.inside (row_of c.args.observation.now (data_in c.args.bundle.now)) c.as_mut_slice.result.now c.evaluate.new.marks c.in_ok-row_brackets.row_brackets.affected.items c.self.invariant (subst (λ (roots : List ℕ). IsEvaluated (data_in c.args.bundle.now) roots (leaves_of c.self.inside) c.self.inside.brackets.owners.items c.evaluate.new.marks c.in_ok-row_brackets.row_brackets.affected.items) c.as_slice-2.ensures c.in_ok-row_brackets.ensures.evaluated) c.as_mut_slice.ensures.value c.as_mut_slice.ensures.len) c.as_slice-4.ensures.value c.as_mut_slice-lazy_matchers.ensures.value c.in_ok-self-inside.ensures (c.as_mut_slice-2.ensures.value ∙ lazy_matchers_written c.self.inside c.as_mut_slice-lazy_matchers.result.now c.sweep.new.lazy_matchers c.as_mut_slice-lazy_matchers.ensures.value c.as_mut_slice-lazy_matchers.ensures.len c.in_ok-self-inside.ensures) in
+    (subst (λ (roots : List ℕ). IsEvaluated (data_in c.args.bundle.now) roots (leaves_of c.self.inside) c.self.inside.brackets.owners.items c.evaluate.new.marks c.in_ok-row_brackets.row_brackets.affected.items) c.as_slice-2.ensures c.in_ok-row_brackets.ensures.evaluated) (c.as_slice-3.ensures.value ∙ marks_written c.self.inside (engine_row c.args.observation.now (data_in c.args.bundle.now)) c.as_mut_slice.result.now c.evaluate.new.marks c.in_ok-row_brackets.row_brackets.affected.items c.self.invariant (subst (λ (roots : List ℕ). IsEvaluated (data_in c.args.bundle.now) roots (leaves_of c.self.inside) c.self.inside.brackets.owners.items c.evaluate.new.marks c.in_ok-row_brackets.row_brackets.affected.items) c.as_slice-2.ensures c.in_ok-row_brackets.ensures.evaluated) c.as_mut_slice.ensures.value c.as_mut_slice.ensures.len) c.as_slice-4.ensures.value c.as_mut_slice-lazy_matchers.ensures.value c.in_ok-self-inside.ensures (c.as_mut_slice-2.ensures.value ∙ lazy_matchers_written c.self.inside c.as_mut_slice-lazy_matchers.result.now c.sweep.new.lazy_matchers c.as_mut_slice-lazy_matchers.ensures.value c.as_mut_slice-lazy_matchers.ensures.len c.in_ok-self-inside.ensures) in
     row_tells c.test_is_the_rule.ensures (map (λ h. h.pattern) m.hunted.now) m.retained_limit rows r (row_at m c.args.observation.now) (leaves_of m) m.brackets.owners.items m.brackets.bracket_ranges.items c.as_slice-3.result.now c.as_slice-4.result.now m.lazy_matchers.items
     c.as_mut_slice-2.result.now at c.take_all.new.lazy_matchers c.in-Ok.found c.in-Ok.ensures.took)
 
 pub returns-clause-represents : goal.returns-clause-represents
 returns-clause-represents c =
-    let m = c.self.inside in let r = row_of c.args.observation.now (data_in c.args.bundle.now) in
+    let m = c.self.inside in let r = engine_row c.args.observation.now (data_in c.args.bundle.now) in
     let after : EngineState = record { patterns = map (λ h. h.pattern) m.hunted.now; retained_limit = m.retained_limit; rows = m.rows + 1; last = Some c.args.observation.now.last; ended = false; lazy_matchers = c.take_all.new.lazy_matchers } in
     rw (← c.self.view_is)
     (λ rows st.
     let at = given_at m rows r c.evaluate.new.marks c.as_slice-3.result.now c.in_ok-row_brackets.row_brackets.affected.items c.as_slice-4.result.now c.as_mut_slice-lazy_matchers.result.now c.sweep.new.lazy_matchers c.as_mut_slice-2.result.now c.self.invariant st
     (record { span = c.requires.span; order = subst (λ (s : EngineState). Falls s.last c.args.observation.now.last → ⊥) (sym c.self.view_is) c.requires.order })
-    (subst (λ (roots : List ℕ). IsEvaluated (data_in c.args.bundle.now) roots (leaves_of c.self.inside) c.self.inside.brackets.owners.items c.evaluate.new.marks c.in_ok-row_brackets.row_brackets.affected.items) c.as_slice-2.ensures c.in_ok-row_brackets.ensures.evaluated) (c.as_slice-3.ensures.value ∙ marks_written c.self.inside (row_of c.args.observation.now (data_in c.args.bundle.now)) c.as_mut_slice.result.now c.evaluate.new.marks c.in_ok-row_brackets.row_brackets.affected.items c.self.invariant (subst (λ (roots : List ℕ). IsEvaluated (data_in c.args.bundle.now) roots (leaves_of c.self.inside) c.self.inside.brackets.owners.items c.evaluate.new.marks c.in_ok-row_brackets.row_brackets.affected.items) c.as_slice-2.ensures c.in_ok-row_brackets.ensures.evaluated) c.as_mut_slice.ensures.value c.as_mut_slice.ensures.len) c.as_slice-4.ensures.value c.as_mut_slice-lazy_matchers.ensures.value c.in_ok-self-inside.ensures (c.as_mut_slice-2.ensures.value ∙ lazy_matchers_written c.self.inside c.as_mut_slice-lazy_matchers.result.now c.sweep.new.lazy_matchers c.as_mut_slice-lazy_matchers.ensures.value c.as_mut_slice-lazy_matchers.ensures.len c.in_ok-self-inside.ensures) in
+    (subst (λ (roots : List ℕ). IsEvaluated (data_in c.args.bundle.now) roots (leaves_of c.self.inside) c.self.inside.brackets.owners.items c.evaluate.new.marks c.in_ok-row_brackets.row_brackets.affected.items) c.as_slice-2.ensures c.in_ok-row_brackets.ensures.evaluated) (c.as_slice-3.ensures.value ∙ marks_written c.self.inside (engine_row c.args.observation.now (data_in c.args.bundle.now)) c.as_mut_slice.result.now c.evaluate.new.marks c.in_ok-row_brackets.row_brackets.affected.items c.self.invariant (subst (λ (roots : List ℕ). IsEvaluated (data_in c.args.bundle.now) roots (leaves_of c.self.inside) c.self.inside.brackets.owners.items c.evaluate.new.marks c.in_ok-row_brackets.row_brackets.affected.items) c.as_slice-2.ensures c.in_ok-row_brackets.ensures.evaluated) c.as_mut_slice.ensures.value c.as_mut_slice.ensures.len) c.as_slice-4.ensures.value c.as_mut_slice-lazy_matchers.ensures.value c.in_ok-self-inside.ensures (c.as_mut_slice-2.ensures.value ∙ lazy_matchers_written c.self.inside c.as_mut_slice-lazy_matchers.result.now c.sweep.new.lazy_matchers c.as_mut_slice-lazy_matchers.ensures.value c.as_mut_slice-lazy_matchers.ensures.len c.in_ok-self-inside.ensures) in
     let took = c.in-Ok.ensures.took in let count = took.count in let swept = at.still.count in let many = st.count in
     let len : length c.as_mut_slice-lazy_matchers.result.now ≡ m.lazy_matchers.len = c.as_mut_slice-lazy_matchers.ensures.len in
     let one : length c.as_mut_slice-lazy_matchers.result.now ≡ length m.lazy_matchers.items = ap length c.as_mut_slice-lazy_matchers.ensures.value in

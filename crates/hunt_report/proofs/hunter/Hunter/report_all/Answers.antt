@@ -9,7 +9,7 @@ use Rattle.match_run.specs.Reading.{MayFollow}
 use Rattle.match_run.specs.Buffered.{IsBuffered}
 use Rattle.hunt_feed.specs.declared.hunted.Hunted.{Hunted}
 use Rattle.hunt_engine.specs.declared.found.Hit.{Hit}
-use Rattle.hunt_engine.specs.EngineLog.{row_of}
+use Rattle.hunt_engine.specs.EngineLog.{engine_row}
 use Rattle.hunt_engine.specs.Memo.{brackets_of, IsSoundMemo}
 use Rattle.hunt_report.specs.Hunting.{HunterState, patterns_of, TakesRows}
 use Rattle.hunt_report.specs.Lines.{hits_text}
@@ -52,7 +52,7 @@ pub add_hits-requires-clause-kinds : goal.add_hits-requires-clause-kinds
 add_hits-requires-clause-kinds g c =
     let o = c.observation-item.result in
     let objects = data_in c.args.batch.now.bundle in
-    let ready = ready-row (row_of o objects) c.loop-observation.self c.take.new.self c.in-Ok.hits c.loop-observation.invariant.ready c.in-Ok.ensures.row in
+    let ready = ready-row (engine_row o objects) c.loop-observation.self c.take.new.self c.in-Ok.hits c.loop-observation.invariant.ready c.in-Ok.ensures.row in
     subst (λ (s : HunterState). All (λ h. IsKind h.id.kind) s.hunted) (sym c.self-in-loop-observation.view_is) (kinds c.take.new.self.hunted ready.huntable)
 
 pub add_hits-requires-clause-inside : goal.add_hits-requires-clause-inside
@@ -105,7 +105,7 @@ loop-observation-preserved g c =
     let seen = take_here items i o c.loop-observation-test.true c.observation-item.is in
     let follow = subst (λ (os : List Observation). MayFollow between.engine.last (between.engine.rows + 1) os) here c.loop-observation.invariant.follow in
     record {
-      ready = ready-row (row_of o objects) between after c.in-Ok.hits c.loop-observation.invariant.ready row;
+      ready = ready-row (engine_row o objects) between after c.in-Ok.hits c.loop-observation.invariant.ready row;
       right = subst (λ (h : List Hunted). IsSoundMemo objects (brackets_of (patterns_of h)) c.take.new.memo) (sym row.hunted) c.in-Ok.ensures.right;
       sees = record {
         text = text;

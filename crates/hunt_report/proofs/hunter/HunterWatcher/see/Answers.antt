@@ -1,7 +1,7 @@
 use Rattle.match_run.proofs.PendingLemmas.{on_ok}
 use Rattle.match_run.specs.Reading.{bundle_of}
 use Rattle.hunt_report.specs.Hunting.{BeginsBundle, StopsInBundle}
-use Rattle.hunt_report.specs.inner.HitReporting.{HasCutLines}
+use Rattle.hunt_report.specs.inner.HitReporting.{HasCutHitLines}
 use Rattle.hunt_report.proofs.HunterLemmas.{ready-after, rows-after, last-after}
 use Rattle.hunt_report.proofs.HitReportingLemmas.{see-cut, see-all, see-part, see-fault}
 use Rattle.hunt_report.proofs.hunter.HunterWatcher.see.Goals as goal
@@ -16,7 +16,7 @@ returns-in_err-write-clause-end g c =
     let before = c.args.self.now in
     let bundle = bundle_of c.args.batch.now in
     let first = g.O.Sink.written c.args.output.now in
-    let uncut : ¬ HasCutLines c.report_all-told.result = λ cut. let yes = c.has_cut_lines.ensures.1 cut in let no = c.if-has_cut_lines.false in cc in
+    let uncut : ¬ HasCutHitLines c.report_all-told.result = λ cut. let yes = c.has_cut_lines.ensures.1 cut in let no = c.if-has_cut_lines.false in cc in
     see-fault (StopsInBundle before bundle) (BeginsBundle before bundle) first (g.O.Sink.written c.write.new.output)
     c.from_residual.result c.from_residual.ensures.1
     (see-part before bundle c.report_all-told.new.pending first (g.O.Sink.written c.report_all-told.new.output) c.report_all-told.new.self (g.O.Sink.written c.write.new.output)
@@ -44,6 +44,6 @@ returns-clause-last g c =
 pub returns-clause-end : goal.returns-clause-end
 returns-clause-end g c =
     let first = g.O.Sink.written c.args.output.now in
-    let uncut : ¬ HasCutLines c.report_all-told.result = λ cut. let yes = c.has_cut_lines.ensures.1 cut in let no = c.if-has_cut_lines.false in cc in
+    let uncut : ¬ HasCutHitLines c.report_all-told.result = λ cut. let yes = c.has_cut_lines.ensures.1 cut in let no = c.if-has_cut_lines.false in cc in
     see-all c.args.self.now (bundle_of c.args.batch.now) c.report_all-told.new.pending first (g.O.Sink.written c.report_all-told.new.output) (g.O.Sink.written c.write.new.output)
     (λ text way. c.in_ok-write.ensures.all text first way) c.report_all-told.result uncut c.report_all-told.ensures.end

@@ -6,7 +6,7 @@ use Rattle.match_pruning.specs.declared.join.Join.TheVariants as join
 use Rattle.match_pruning.specs.declared.pending_left.PendingLeft.{PendingLeft}
 use Rattle.match_pruning.specs.declared.partial_match.PartialMatch.{PartialMatch}
 use Rattle.match_pruning.specs.inner.PartialMatches.{partial_match_tree, partial_match_trees}
-use Rattle.match_pruning.specs.inner.Steps.{joined}
+use Rattle.match_pruning.specs.inner.Steps.{joined_matches}
 use Rattle.match_pruning.specs.inner.Needed.{PendingLeftTrees, is_needed}
 use Rattle.match_pruning.specs.inner.PendingLefts.{pending_left_trees, pending_lefts_of}
 use Rattle.match_pruning.proofs.NeededLemmas.{pending_lefts_more}
@@ -29,4 +29,4 @@ returns t c = λ greedy_completion h wants.
     let one = needed_by_one now (pending_left_trees x) (pending_lefts_of above) (partial_match_tree c.args.partial_match.now) greedy_completion c.args.self.now h (sym c.is_retained.ensures ∙ c.if-is_retained.false)
     (subst (λ (z : List PendingLeftTrees). is_needed now z greedy_completion ≡ true) (pending_lefts_more above x) by_pending_lefts) in
     let on = c.in_ok-take.ensures greedy_completion one.0 h (subst (λ (z : List PartialMatch). Contains (partial_match_trees z) one.0) (sym c.deref.ensures.value) one.1) one.2 in
-    c.in_ok-may.ensures (joined join.Then one.0 greedy_completion) on.1 one.3
+    c.in_ok-may.ensures (joined_matches join.Then one.0 greedy_completion) on.1 one.3

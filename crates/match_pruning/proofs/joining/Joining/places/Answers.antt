@@ -7,7 +7,7 @@ use Rattle.match_pruning.specs.declared.stop.Stop.TheVariants as stop
 use Rattle.match_pruning.specs.declared.partial_match.PartialMatch.{PartialMatch}
 use Rattle.match_pruning.specs.PartialMatchTree.{PartialMatchTree}
 use Rattle.match_pruning.specs.inner.PartialMatches.{partial_match_tree, partial_match_trees}
-use Rattle.match_pruning.specs.inner.Steps.{join_row}
+use Rattle.match_pruning.specs.inner.Steps.{match_join_row}
 use Rattle.match_pruning.specs.inner.Needed.{needed}
 use Rattle.match_pruning.specs.inner.PendingLefts.{pending_lefts_of}
 use Rattle.match_pruning.proofs.SkipIndexLemmas.{row_full, row_grown, up_to_place, up_to_end}
@@ -40,7 +40,7 @@ returns-in_err-pair-clause-over_limit c = λ e.
     c.loop-place-test.true (get_or_default places at 0 place c.loop-place-test.true) c.loop-place.invariant.passed c.if-done-place.true (omega (arith, low)) in
     let failed : c.pair.result ≡ Err stop.OverLimit = search rules in
     row_full c.args.self.now.join_filter.now.time ahead j x seconds place item c.args.self.now.join_filter.now.budget c.loop-place.out.items c.args.out.now.items low
-    (subst (λ (z : PartialMatch). c.args.self.now.join_filter.now.budget < length c.loop-place.out.items + length (needed c.args.self.now.join_filter.now.time ahead (join_row j x (partial_match_tree z ∷ [])))) c.index-seconds-place.is (c.pair.ensures.over_limit failed))
+    (subst (λ (z : PartialMatch). c.args.self.now.join_filter.now.budget < length c.loop-place.out.items + length (needed c.args.self.now.join_filter.now.time ahead (match_join_row j x (partial_match_tree z ∷ [])))) c.index-seconds-place.is (c.pair.ensures.over_limit failed))
     (c.loop-place.invariant.joined ∙ ap (λ (z : List PartialMatchTree). partial_match_trees c.args.out.now.items ++ z) (sym skipped))
 
 pub loop-place-preserved : goal.loop-place-preserved
@@ -58,10 +58,10 @@ loop-place-preserved c =
             joined =
                 ap (λ (v : Vec PartialMatch Global). partial_match_trees v.items) w.out-is
                 ∙ w.in_ok-pair.ensures.joined
-                ∙ ap (λ (z : PartialMatch). partial_match_trees c.loop-place.out.items ++ needed c.args.self.now.join_filter.now.time ahead (join_row j x (partial_match_tree z ∷ []))) w.index-seconds-place.is
+                ∙ ap (λ (z : PartialMatch). partial_match_trees c.loop-place.out.items ++ needed c.args.self.now.join_filter.now.time ahead (match_join_row j x (partial_match_tree z ∷ []))) w.index-seconds-place.is
                 ∙ row_grown c.args.self.now.join_filter.now.time ahead j x seconds place item old (partial_match_trees c.loop-place.out.items) low
                 (before.joined ∙ ap (λ (z : List PartialMatchTree). old ++ z) (sym skipped))
-                ∙ ap (λ n. old ++ needed c.args.self.now.join_filter.now.time ahead (join_row j x (partial_match_trees (take n seconds)))) (sym w.done-is);
+                ∙ ap (λ n. old ++ needed c.args.self.now.join_filter.now.time ahead (match_join_row j x (partial_match_trees (take n seconds)))) (sym w.done-is);
             within = omega (arith, w.done-is, low);
             passed = AllWithin-more (λ p. p < c.if-done-place.done) places 0 at
                 (λ k d low high. let under = before.passed k d low high in omega (arith, under, w.done-is, w.if-done-place.true))
@@ -69,7 +69,7 @@ loop-place-preserved c =
           })
       | else-done-place w ↦ record {
         joined = ap (λ (v : Vec PartialMatch Global). partial_match_trees v.items) w.out-is ∙ before.joined
-            ∙ ap (λ n. old ++ needed c.args.self.now.join_filter.now.time ahead (join_row j x (partial_match_trees (take n seconds)))) (sym w.done-is);
+            ∙ ap (λ n. old ++ needed c.args.self.now.join_filter.now.time ahead (match_join_row j x (partial_match_trees (take n seconds)))) (sym w.done-is);
         within = omega (arith, w.done-is, before.within);
         passed = AllWithin-more (λ p. p < c.if-done-place.done) places 0 at
             (λ k d low high. let under = before.passed k d low high in omega (arith, under, w.done-is))
@@ -86,4 +86,4 @@ returns-clause-joined c =
     (λ q wants. (c.args.self.now.told q wants).covered) c.requires.tried over before.passed before.within in
     before.joined
     ∙ ap (λ (z : List PartialMatchTree). partial_match_trees c.args.out.now.items ++ z) (sym rest)
-    ∙ ap (λ (z : List PartialMatch). partial_match_trees c.args.out.now.items ++ needed c.args.self.now.join_filter.now.time ahead (join_row j x (partial_match_trees z))) (take_all (length seconds) seconds (omega arith))
+    ∙ ap (λ (z : List PartialMatch). partial_match_trees c.args.out.now.items ++ needed c.args.self.now.join_filter.now.time ahead (match_join_row j x (partial_match_trees z))) (take_all (length seconds) seconds (omega arith))

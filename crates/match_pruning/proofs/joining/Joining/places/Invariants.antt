@@ -2,7 +2,7 @@ use Rattle.std.proofs.Common.{◌≡◌, ◌≤◌, ◌<◌, ◌++◌, length}
 use Rattle.std.specs.Prelude.{take}
 use Rattle.std.specs.List.{AllWithin}
 use Rattle.match_pruning.specs.inner.PartialMatches.{partial_match_tree, partial_match_trees}
-use Rattle.match_pruning.specs.inner.Steps.{join_row}
+use Rattle.match_pruning.specs.inner.Steps.{match_join_row}
 use Rattle.match_pruning.specs.inner.Needed.{needed}
 use Rattle.match_pruning.specs.inner.PendingLefts.{pending_lefts_of}
 use Rattle.match_pruning.proofs.joining.Joining.places.Given as goal
@@ -10,7 +10,7 @@ use Rattle.match_pruning.proofs.joining.Joining.places.Given as goal
 abbrev pub invariant-loop-place : goal.invariant-loop-place
 invariant-loop-place l = record {
   joined : partial_match_trees l.out.items
-      ≡ partial_match_trees l.fn.out.items ++ needed l.self.join_filter.now.time (pending_lefts_of l.self.join_filter.now.pending_lefts.now) (join_row l.self.how (partial_match_tree l.first) (partial_match_trees (take l.done l.seconds)));
+      ≡ partial_match_trees l.fn.out.items ++ needed l.self.join_filter.now.time (pending_lefts_of l.self.join_filter.now.pending_lefts.now) (match_join_row l.self.how (partial_match_tree l.first) (partial_match_trees (take l.done l.seconds)));
   within : l.done ≤ length l.seconds;
   passed : AllWithin (λ place. place < l.done) l.places 0 l.place-index;
 }

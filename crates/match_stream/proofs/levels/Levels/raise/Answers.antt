@@ -5,7 +5,7 @@ use Rattle.match_pruning.specs.declared.window.Window.{Window}
 use Rattle.match_pruning.specs.declared.partial_match.PartialMatch.{PartialMatch}
 use Rattle.match_pruning.specs.PartialMatchTree.{PartialMatchTree}
 use Rattle.match_pruning.specs.inner.PartialMatches.{partial_match_trees}
-use Rattle.match_pruning.specs.inner.Steps.{kept, levels_above, all_levels, no_levels, risen, raised, counted}
+use Rattle.match_pruning.specs.inner.Steps.{kept, levels_above, all_levels, no_levels, risen, raised, repeated_sets}
 use Rattle.match_stream.specs.inner.Nodes.{store_list, store_lists}
 use Rattle.match_stream.specs.RetainedPart.{held_count}
 use Rattle.match_stream.proofs.LevelLemmas.{raised_empty, raised_some}
@@ -23,7 +23,7 @@ full_kept w t count xs sets h = ap (λ k. xs ++ no_levels k) (none_above count x
 full_held : (w : Window) (t : ℤ) (count : ℕ) (xs : List (List PartialMatchTree)) (sets : List PartialMatchTree) → count - 1 ≤ length xs → held_count (raised w t (levels_above count xs) sets) ≡ 0
 full_held w t count xs sets h = ap (λ k. held_count (raised w t k sets)) (none_above count xs h)
 
-full_new : (count : ℕ) (xs : List (List PartialMatchTree)) (sets : List PartialMatchTree) → 0 < count → count - 1 ≤ length xs → sets ≡ counted count (risen (levels_above count xs) sets)
+full_new : (count : ℕ) (xs : List (List PartialMatchTree)) (sets : List PartialMatchTree) → 0 < count → count - 1 ≤ length xs → sets ≡ repeated_sets count (risen (levels_above count xs) sets)
 full_new zero xs sets some h = absurd (omega arith)
 full_new (suc n) xs sets some h = sym (ap (λ k. risen k sets) (none_above (suc n) xs h))
 
@@ -54,7 +54,7 @@ returns-then-len-self-clause-counted c =
 
 -- ---- nothing is new
 
-empty_new : (count k : ℕ) (sets : List PartialMatch) → length sets ≡ 0 → partial_match_trees sets ≡ counted count (risen k (partial_match_trees sets))
+empty_new : (count k : ℕ) (sets : List PartialMatch) → length sets ≡ 0 → partial_match_trees sets ≡ repeated_sets count (risen k (partial_match_trees sets))
 empty_new zero k [] h = refl
 empty_new (suc n) zero [] h = refl
 empty_new (suc n) (suc k) [] h = refl

@@ -10,8 +10,8 @@ use Rattle.match_pruning.specs.declared.store.Store.{Store}
 use Rattle.match_pruning.specs.PartialMatchTree.{PartialMatchTree}
 use Rattle.match_stream.specs.RetainedPart.{held_count}
 use Rattle.match_pruning.specs.inner.PartialMatches.{partial_match_trees}
-use Rattle.match_pruning.specs.inner.Steps.{held_with, levels_new, levels_after, all_levels, counted, risen}
-use Rattle.match_pruning.specs.inner.Needed.{chosen}
+use Rattle.match_pruning.specs.inner.Steps.{held_with, levels_new, levels_after, all_levels, repeated_sets, risen}
+use Rattle.match_pruning.specs.inner.Needed.{needed_trees}
 use Rattle.match_pruning.specs.inner.PendingLefts.{pending_lefts_of}
 use Rattle.match_stream.specs.inner.Totals.{AdmitLevels}
 use Rattle.match_stream.specs.inner.Nodes.{store_list, store_lists}
@@ -27,8 +27,8 @@ either None p q f g = g q
 
 made_by : (w : Window) (t : ℤ) (f g n : List PartialMatchTree) (ys made : List (List PartialMatchTree)) (sets : List PartialMatchTree) (left budget : ℕ) → f ≡ g →
     made ≡ levels_after w t f n ys → sets ≡ levels_new w t f n ys → left + held_count (levels_after w t f n ys) ≡ budget → Made w t g n ys made sets left budget
-made_by w t f g n ys made sets left budget e kept new counted =
-    subst (λ (z : List PartialMatchTree). Made w t z n ys made sets left budget) e (record { kept = kept; new = new; counted = counted })
+made_by w t f g n ys made sets left budget e kept new repeated_sets =
+    subst (λ (z : List PartialMatchTree). Made w t z n ys made sets left budget) e (record { kept = kept; new = new; counted = repeated_sets })
 
 pub returns-in_err-made-clause-over_limit : goal.returns-in_err-made-clause-over_limit
 returns-in_err-made-clause-over_limit c = λ e a.
@@ -95,7 +95,7 @@ returns-in_err-answer-in-Some-clause-over_limit c = λ e a.
     let over = c.step_last.ensures.over_limit failed in
     let all = last_counted w t f n count ys x made sets c.step_made.new.budget.left c.args.budget.now.left h m in
     let held = ap (λ z. held_count (levels_after w t f n (all_levels count z))) whole in
-    let new = ap length (last_new w t ahead f n count ys x h ∙ ap (λ z. chosen count t ahead (levels_new w t f n (all_levels count z))) (sym whole)) in
+    let new = ap length (last_new w t ahead f n count ys x h ∙ ap (λ z. needed_trees count t ahead (levels_new w t f n (all_levels count z))) (sym whole)) in
     omega (arith, over, all, held, new)
 
 pub returns-in_err-answer-in-None-clause-over_limit : goal.returns-in_err-answer-in-None-clause-over_limit
@@ -119,7 +119,7 @@ returns-in_ok-answer-in-Some-clause-new c =
     let ys = store_lists c.last_made-last.new.stores.items in let x = store_list c.in-Some.store in
     let whole = taken c.args.self.now.stores c.replace-stores.result c.last_made-last.new.stores.items c.in-Some.store c.replace-stores.ensures.value c.in-Some.ensures.last.0 in
     let h : length ys + 2 ≡ count = omega (arith, length-map c.last_made-last.new.stores.items store_list, c.in-Some.ensures.last.1) in
-    c.in_ok-answer-in-Some.ensures.new ∙ last_new w t ahead f n count ys x h ∙ ap (λ z. chosen count t ahead (levels_new w t f n (all_levels count z))) (sym whole)
+    c.in_ok-answer-in-Some.ensures.new ∙ last_new w t ahead f n count ys x h ∙ ap (λ z. needed_trees count t ahead (levels_new w t f n (all_levels count z))) (sym whole)
 
 pub returns-in_ok-answer-in-Some-clause-kept : goal.returns-in_ok-answer-in-Some-clause-kept
 returns-in_ok-answer-in-Some-clause-kept c =
@@ -166,7 +166,7 @@ returns-in_ok-answer-in-None-clause-new c =
     let more : 2 ≤ count → length xs + 1 < count = λ k. (let less = c.in-None.ensures.none.1 k in omega (arith, less, all, value)) in
     let up = all_new w t f n count xs made sets m.kept m.new in
     c.in_ok-answer-in-None.ensures.new
-    ∙ ap (λ k. counted count (risen (count - 1 - k) sets)) long
+    ∙ ap (λ k. repeated_sets count (risen (count - 1 - k) sets)) long
     ∙ risen_chosen w t ahead f n count xs sets (omega (arith, few, all)) more (ap (λ k. risen (count - 1 - k) sets) (sym long) ∙ up)
 
 pub returns-in_ok-answer-in-None-clause-kept : goal.returns-in_ok-answer-in-None-clause-kept

@@ -6,8 +6,8 @@ use Rattle.match_bindings.specs.NumberedPattern.{numbered_pattern}
 use Rattle.match_bindings.specs.Log.{observed_in}
 use Rattle.match_stream.specs.RetainedPart.{IsRetainedPart, time_of}
 use Rattle.match_pruning.specs.inner.Steps.{State, empty_state, contents_of}
-use Rattle.match_stream.specs.inner.Nodes.{state_of}
-use Rattle.match_stream.specs.inner.Shape.{fits}
+use Rattle.match_stream.specs.inner.Nodes.{node_state}
+use Rattle.match_stream.specs.inner.Shape.{state_fits}
 use Rattle.match_stream.proofs.LogLemmas.{empty_stands}
 use Rattle.match_stream.proofs.ShapeLemmas.{retained_from, fits_empty}
 use Rattle.match_stream.proofs.matcher.Matcher.new.Goals as goal
@@ -15,13 +15,13 @@ use Rattle.match_stream.proofs.matcher.Matcher.new.Goals as goal
 pub invariant_of-result : goal.invariant_of-result
 invariant_of-result c =
     let p = numbered_pattern c.args.pattern.now in
-    let e : state_of c.into_inner-node.result ≡ empty_state no_bounds p = ap state_of c.into_inner-node.ensures ∙ c.in_ok-boxed.ensures ∙ ap (λ (w : Bounds). empty_state w p) c.open.ensures in
-    ap (fits no_bounds p) e ∙ fits_empty p no_bounds
+    let e : node_state c.into_inner-node.result ≡ empty_state no_bounds p = ap node_state c.into_inner-node.ensures ∙ c.in_ok-boxed.ensures ∙ ap (λ (w : Bounds). empty_state w p) c.open.ensures in
+    ap (state_fits no_bounds p) e ∙ fits_empty p no_bounds
 
 pub returns-clause-represents : goal.returns-clause-represents
 returns-clause-represents c =
     let p = numbered_pattern c.args.pattern.now in
-    let e : state_of c.into_inner-node.result ≡ empty_state no_bounds p = ap state_of c.into_inner-node.ensures ∙ c.in_ok-boxed.ensures ∙ ap (λ (w : Bounds). empty_state w p) c.open.ensures in
+    let e : node_state c.into_inner-node.result ≡ empty_state no_bounds p = ap node_state c.into_inner-node.ensures ∙ c.in_ok-boxed.ensures ∙ ap (λ (w : Bounds). empty_state w p) c.open.ensures in
     record {
       runs = refl;
       rows = refl;

@@ -12,10 +12,10 @@ use Rattle.match_stream.specs.declared.matcher.Matcher.TheInside.{Inside}
 use Rattle.match_stream.specs.declared.run.Run.{Run}
 use Rattle.match_stream.specs.declared.ending.Ending.TheVariants as ending
 use Rattle.match_stream.specs.RetainedPart.{IsRetainedPart}
-use Rattle.match_stream.specs.MatcherState.{Represents, with_row, Falls}
+use Rattle.match_stream.specs.MatcherState.{MatcherRepresents, with_log_row, Falls}
 use Rattle.match_pruning.specs.inner.Steps.{State, contents_of}
-use Rattle.match_stream.specs.inner.Nodes.{state_of}
-use Rattle.match_stream.specs.inner.Shape.{fits}
+use Rattle.match_stream.specs.inner.Nodes.{node_state}
+use Rattle.match_stream.specs.inner.Shape.{state_fits}
 use Rattle.match_stream.specs.inner.Runs.{IsCleared, next_row, retained_after}
 use Rattle.match_stream.specs.inner.ObservableState.{observable_state, IsMade}
 use Rattle.match_stream.proofs.LogLemmas.{not_falls, length_more, last_of_more}
@@ -27,15 +27,15 @@ use Rattle.match_stream.proofs.TakeLemmas.{entry, runs_fits, stays_made, Goes, c
 use Rattle.match_stream.proofs.matcher.Matcher.take.Goals as goal
 
 -- what the matcher was, and is once what has expired is taken out
-goes : Rule → (m : Inside) (cleared : Run) (log : List LogEntry) (last : ℤ) → IsMade m → Represents (observable_state m) log → IsInOrder log → IsCleared m.run cleared last
-    → Goes (numbered_pattern m.pattern.now) (state_of cleared.node) cleared.rows log last
+goes : Rule → (m : Inside) (cleared : Run) (log : List LogEntry) (last : ℤ) → IsMade m → MatcherRepresents (observable_state m) log → IsInOrder log → IsCleared m.run cleared last
+    → Goes (numbered_pattern m.pattern.now) (node_state cleared.node) cleared.rows log last
 goes rule m cleared log last made st order c =
-    cleared_goes rule (numbered_pattern m.pattern.now) (state_of m.run.node) (state_of cleared.node) cleared.rows m.run.last log last
-    (runs_fits m.ended (fits no_bounds (numbered_pattern m.pattern.now) (state_of m.run.node)) st.runs made) (c.rows ∙ st.rows) st.last st.retained order c.order c.node
+    cleared_goes rule (numbered_pattern m.pattern.now) (node_state m.run.node) (node_state cleared.node) cleared.rows m.run.last log last
+    (runs_fits m.ended (state_fits no_bounds (numbered_pattern m.pattern.now) (node_state m.run.node)) st.runs made) (c.rows ∙ st.rows) st.last st.retained order c.order c.node
 
 -- the log is in order with the row
-in_order_then : (m : Inside) (log : List LogEntry) (first last : ℤ) (truths : List Bool) → first ≤ℤ last → Represents (observable_state m) log → IsInOrder log → ¬ (Falls m.run.last last)
-    → IsInOrder (with_row log first last truths)
+in_order_then : (m : Inside) (log : List LogEntry) (first last : ℤ) (truths : List Bool) → first ≤ℤ last → MatcherRepresents (observable_state m) log → IsInOrder log → ¬ (Falls m.run.last last)
+    → IsInOrder (with_log_row log first last truths)
 in_order_then m log first last truths span st order after =
     in_order_more log (entry first last truths) order span (not_falls log last (λ k. after (subst (λ (t : Option ℤ). Falls t last) (sym st.last) k)))
 
@@ -43,9 +43,9 @@ pub invariant_of-self-in-Ok : goal.invariant_of-self-in-Ok
 invariant_of-self-in-Ok c =
     let m = c.self.inside in let cleared = c.clear.new.self in let p = numbered_pattern m.pattern.now in
     let row = next_row cleared.rows c.args.first c.args.last in let truths = c.args.truths.now in
-    stays_made m.ended (fits no_bounds p (state_of m.run.node)) (fits no_bounds p (state_of c.take.new.self.node))
-    (λ made. ap (fits no_bounds p) c.in-Ok.ensures.took.node ∙ fits_step row truths p no_bounds (state_of cleared.node)
-    ∙ cleared_fits p c.args.last (state_of m.run.node) (state_of cleared.node) c.in_default-clear.ensures.cleared.node made)
+    stays_made m.ended (state_fits no_bounds p (node_state m.run.node)) (state_fits no_bounds p (node_state c.take.new.self.node))
+    (λ made. ap (state_fits no_bounds p) c.in-Ok.ensures.took.node ∙ fits_step row truths p no_bounds (node_state cleared.node)
+    ∙ cleared_fits p c.args.last (node_state m.run.node) (node_state cleared.node) c.in_default-clear.ensures.cleared.node made)
     c.self.invariant
 
 pub returns-in-Ok-clause-answers : goal.returns-in-Ok-clause-answers
@@ -63,10 +63,10 @@ returns-in-Ok-clause-answers c =
     record {
       represents = record {
         runs = st.runs;
-        rows = c.in-Ok.ensures.took.rows ∙ (let e : cleared.rows + 1 ≡ length (with_row log first last truths) = omega (arith, rows, same, more) in e);
+        rows = c.in-Ok.ensures.took.rows ∙ (let e : cleared.rows + 1 ≡ length (with_log_row log first last truths) = omega (arith, rows, same, more) in e);
         last = c.in-Ok.ensures.took.last ∙ sym (last_of_more log (entry first last truths));
-        retained = subst (λ (z : State). IsRetainedPart p (with_row log first last truths) (contents_of z)) (sym c.in-Ok.ensures.took.node)
-            (retained_then c.test_is_the_rule.ensures p (state_of cleared.node) cleared.rows log first last truths g);
+        retained = subst (λ (z : State). IsRetainedPart p (with_log_row log first last truths) (contents_of z)) (sym c.in-Ok.ensures.took.node)
+            (retained_then c.test_is_the_rule.ensures p (node_state cleared.node) cleared.rows log first last truths g);
       };
       order = in_order_then m log first last truths c.requires.span st order is.order;
       answers = answer_then c.test_is_the_rule.ensures c.sorted_bindings_ascend.ensures cleared p log first last truths g (map tree_of c.in-Ok.binds) c.in-Ok.ensures.binds;
@@ -92,10 +92,10 @@ returns-in-Err-take-clause-over_limit c =
     let n : number ≡ cleared.rows + 1 = over.0 in
     let caps : retained_limit ≡ cleared.retained_limit = over.1 in
     let g = goes c.test_is_the_rule.ensures m cleared log last c.self.invariant st order is in
-    let more_retained = over.2 (admits (next_row cleared.rows first last) truths (numbered_pattern m.pattern.now) no_bounds (state_of cleared.node) g.made).1 in
+    let more_retained = over.2 (admits (next_row cleared.rows first last) truths (numbered_pattern m.pattern.now) no_bounds (node_state cleared.node) g.made).1 in
     record {
       order = in_order_then m log first last truths c.requires.span st order is.order;
-      numbered = (let f : number ≡ length (with_row log first last truths) = omega (arith, rows, same_rows, more, n) in f);
+      numbered = (let f : number ≡ length (with_log_row log first last truths) = omega (arith, rows, same_rows, more, n) in f);
       retained_limit_is = caps ∙ same_retained_limit;
       over_limit = (
         retained_after cleared (next_row cleared.rows first last) truths,

@@ -1,6 +1,6 @@
 use Rattle.std.proofs.Common.{◌≡◌, Bool, true, false, not, ◌&&◌, cond, Some, None, refl, sym, ◌∙◌}
 use Rattle.stix_objects.specs.Row.{Row}
-use Rattle.stix_objects.specs.Breaks.{is_row_of}
+use Rattle.stix_objects.specs.Breaks.{is_rule_row_of}
 use Rattle.stix_objects.specs.inner.Views.{row_view}
 use Rattle.stix_objects.proofs.ListLemmas.{any_of_map}
 use Rattle.stix_objects.proofs.row.CommonRow.applicable.Goals as goal
@@ -27,10 +27,10 @@ pub returns-then-name_property : goal.returns-then-name_property
 returns-then-name_property c =
     let names = c.in-UnlessOwn.name.now in
     rw c.in-UnlessOwn.is (named _ _ (row_view c.in-UnlessOwn.row)
-    (sym (any_of_map (is_row_of names) row_view c.args.own.now) ∙ sym c.name_property.ensures ∙ c.if-name_property.true))
+    (sym (any_of_map (is_rule_row_of names) row_view c.args.own.now) ∙ sym c.name_property.ensures ∙ c.if-name_property.true))
 
 pub returns-else-name_property : goal.returns-else-name_property
 returns-else-name_property c =
     let names = c.in-UnlessOwn.name.now in
     rw c.in-UnlessOwn.is (stands _ _ (row_view c.in-UnlessOwn.row) (sym c.contains-in-UnlessOwn.ensures ∙ c.if-not-contains.false)
-    (sym (any_of_map (is_row_of names) row_view c.args.own.now) ∙ sym c.name_property.ensures ∙ c.if-name_property.false))
+    (sym (any_of_map (is_rule_row_of names) row_view c.args.own.now) ∙ sym c.name_property.ensures ∙ c.if-name_property.false))

@@ -1,6 +1,6 @@
 use Rattle.std.proofs.Common.{◌≡◌, Option, None, IfSome, refl, subst}
 use Rattle.stix_json.specs.DataOf.{data_of}
-use Rattle.stix_json.specs.Refusal.{refusal_of}
+use Rattle.stix_json.specs.Refusal.{data_refusal}
 use Rattle.taxii_rows.specs.declared.described.Described.{Described}
 use Rattle.taxii_rows.specs.Described.{Describes}
 use Rattle.taxii_store.specs.Planned.{IsSound}
@@ -18,7 +18,7 @@ pub returns : goal.returns
 returns c =
     let d = data_of c.args.object.now in
     let described = subst (Describes d) c.in-Some.is c.in_ok-described.ensures.described in
-    let sound = subst (λ (found : Option Described). IfSome found (λ one. refusal_of d ≡ None → IsSound one)) c.in-Some.is c.in_ok-described.ensures.sound in
+    let sound = subst (λ (found : Option Described). IfSome found (λ one. data_refusal d ≡ None → IsSound one)) c.in-Some.is c.in_ok-described.ensures.sound in
     record {
       object = c.in-Some.described;
       kept = (c.requires.unbroken, described);

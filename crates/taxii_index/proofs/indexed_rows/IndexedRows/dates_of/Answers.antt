@@ -4,7 +4,7 @@ use Rattle.std.proofs.lemmas.List.Elements.{All-contains}
 use Rattle.taxii_rows.specs.declared.stored_row.StoredRow.{StoredRow}
 use Rattle.taxii_rows.specs.StoreState.{dates_of, AscendFrom}
 use Rattle.taxii_index.specs.Keys.{IsIn64Bits}
-use Rattle.taxii_index.specs.Names.{id_of}
+use Rattle.taxii_index.specs.Names.{id_of_number}
 use Rattle.taxii_index.specs.Index.{version_key, LeadsToObject}
 use Rattle.taxii_index.proofs.ObjectLemmas.{ascend_once, each_once, date_of_each}
 use Rattle.taxii_index.proofs.indexed_rows.IndexedRows.dates_of.Goals as goal
@@ -19,7 +19,7 @@ returns-clause-every c =
     let bits = subst (λ (rows : List StoredRow). (row : StoredRow) → Contains rows row → IsIn64Bits (version_key c.self.inside.index.secret row)) c.self.view_is
     (λ row here. All-contains (λ (r : StoredRow). IsIn64Bits (version_key c.self.inside.index.secret r)) c.self.inside.rows.items row c.self.invariant.1.bits here) in
     let leads = subst (λ (rows : List StoredRow). LeadsToObject c.self.inside.index.secret c.args.collection c.args.id.now rows c.of_object-keys.result) c.self.view_is
-    (subst (λ (kind : List ℕ). LeadsToObject c.self.inside.index.secret c.args.collection (id_of c.args.id.now.number kind) c.self.inside.rows.items c.of_object-keys.result) c.as_str.ensures
+    (subst (λ (kind : List ℕ). LeadsToObject c.self.inside.index.secret c.args.collection (id_of_number c.args.id.now.number kind) c.self.inside.rows.items c.of_object-keys.result) c.as_str.ensures
     (c.of_object-keys.ensures c.self.inside.rows.items c.self.invariant.1)) in
     λ row here its. each_once c.in_ok-dates.dates.items c.sort.new.self.items c.dedup.new.self.items c.sort.ensures.permutation c.dedup.ensures.filtered row.date
     (subst (λ (dates : List _). Contains dates row.date) (sym c.in_ok-dates.ensures)
