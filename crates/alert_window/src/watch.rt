@@ -71,7 +71,8 @@ impl Watch {
         requires span { first ≤ℤ last }
         requires room { self.old.rows + 1 < 2 ^ 64 }
         ensures answers { (log : List LogEntry) → WatchRepresents self.old log → IsInOrder log
-            → IfOk result (AnswersAlertRow self.old self.new (with_window_row log first last holds)) }
+            → IfOk result (AnswersAlertRow self.old self.new
+            (with_window_row log first last holds)) }
         ensures out_of_order { (before now : ℤ) → (result ≡ Err (refused.OutOfOrder before now))
             ↔ ((self.old.last ≡ Some before) × (now ≡ last) × (now <ℤ before)) }
         // After an error the watch is unchanged.

@@ -29,7 +29,8 @@ pub fn answer_about<O: Sink, E: Sink>(
     ensures nothing { (result ≡ None) ↔ AsksNothing (argument_texts arguments.now) }
     ensures untouched { result ≡ None → (output.new ≡ output.old) × (faults.new ≡ faults.old) }
     // status 0 means that the text was written, 6 that a prefix of it was
-    ensures written { IfSome result (λ status. IsAnsweredAbout about.now (argument_texts arguments.now) status
+    ensures written { IfSome result (λ status. IsAnsweredAbout about.now
+        (argument_texts arguments.now) status
         (O.written output.old) (O.written output.new)) }
     ensures output { Counted (result ≡ Some 6) (O.faults output.old) (O.faults output.new) }
     ensures reason { result ≡ Some 6
@@ -49,7 +50,8 @@ pub fn answer_about<O: Sink, E: Sink>(
 
 /// The text that the arguments ask for.
 fn about_text<'a>(arguments: &[String], about: &About<'a>) -> Option<&'a str>
-    ensures some { IfSome result (λ text. AsksAbout about.now (argument_texts arguments.now) text.now) }
+    ensures some { IfSome result (λ text. AsksAbout about.now
+        (argument_texts arguments.now) text.now) }
     ensures none { IfNone result (AsksNothing (argument_texts arguments.now)) }
 {
     let [argument] = arguments else {

@@ -99,7 +99,8 @@ impl<'p> Alerter<'p> {
         requires number { observation.now.number ≡ self.old.watch.rows + 1 }
         requires order { ¬ (Falls self.old.watch.last observation.now.last) }
         ensures { IfOk result
-            (λ text. TakesLogRows (alert_row observation.now holds ∷ []) self.old self.new text.items) }
+            (λ text. TakesLogRows (alert_row observation.now holds ∷ []) self.old self.new
+            text.items) }
     {
         let number = observation.number;
         match self.watch.take(observation.first, observation.last, holds) {

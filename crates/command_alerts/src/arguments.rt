@@ -22,7 +22,8 @@ pub(crate) struct AlertRequest<'a> {
 
 /// Parses the arguments after the program's name; `None` if they are no command line.
 pub(crate) fn read_request<'a>(arguments: &'a [String]) -> Option<AlertRequest<'a>>
-    ensures some { IfSome result (λ request. AskForAlerts (argument_texts arguments.entry.now) (alert_task request)) }
+    ensures some { IfSome result (λ request. AskForAlerts (argument_texts arguments.entry.now)
+        (alert_task request)) }
     ensures range { IfSome result (λ request. IsInRange (alert_task request)) }
     ensures none { IfNone result (AskForNoAlerts (argument_texts arguments.entry.now)) }
 {

@@ -64,7 +64,8 @@ fn report_alerts<I: Source, O: Sink>(
 ) -> AlertEnding
     requires read { IsReadAs request.pattern.now pattern.now }
     requires range { IsInRange (alert_task request) }
-    ensures end { EndsAlertTask (streams (I.left input.old) (I.began input.old) (O.written output.old))
+    ensures end { EndsAlertTask (streams (I.left input.old) (I.began input.old)
+        (O.written output.old))
         (streams (I.left input.new) (I.began input.new) (O.written output.new)) result
         (alert_task request.entry) }
     ensures untouched { (alert_status result ≡ 2) ⊎ (alert_status result ≡ 3)
@@ -89,7 +90,8 @@ fn answer<I: Source, O: Sink>(
     output: &mut O,
 ) -> AlertEnding
     requires range { IsInRange (alert_task request) }
-    ensures end { EndsAlertTask (streams (I.left input.old) (I.began input.old) (O.written output.old))
+    ensures end { EndsAlertTask (streams (I.left input.old) (I.began input.old)
+        (O.written output.old))
         (streams (I.left input.new) (I.began input.new) (O.written output.new)) result
         (alert_task request.entry) }
     ensures untouched { (alert_status result ≡ 2) ⊎ (alert_status result ≡ 3)

@@ -30,7 +30,8 @@ struct Positions {
 
 /// Parses the arguments after the program's name; `None` if they are no command line.
 pub(crate) fn read_request<'a>(arguments: &'a [String]) -> Option<HuntRequest<'a>>
-    ensures some { IfSome result (λ request. AskForHunt (argument_texts arguments.entry.now) (hunt_task request)) }
+    ensures some { IfSome result (λ request. AskForHunt (argument_texts arguments.entry.now)
+        (hunt_task request)) }
     ensures none { IfNone result (AskForNoHunt (argument_texts arguments.entry.now)) }
 {
     if let Some(positions) = read_positions(arguments) {

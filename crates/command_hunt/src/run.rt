@@ -324,7 +324,8 @@ fn execute<F: Files, I: Source, O: Sink>(
         → (files.new ≡ files.old) × (input.new ≡ input.old) × (output.new ≡ output.old) }
     // without `--indicators` no file is opened
     ensures unopened { ¬ AskForFile (argument_texts arguments.now) → files.new ≡ files.old }
-    ensures reads { CountedByOne (AskForFile (argument_texts arguments.now)) (hunt_status result ≡ 5)
+    ensures reads { CountedByOne (AskForFile (argument_texts arguments.now)) (hunt_status result
+        ≡ 5)
         (I.faults input.old) (I.faults input.new)
         (F.faults files.old) (F.faults files.new) }
     ensures output { Counted (hunt_status result ≡ 6) (O.faults output.old) (O.faults output.new) }

@@ -157,7 +157,8 @@ fn program<'a>(alloc: Global) -> Result<Command<'a>, AllocError>
 /// Parses the arguments with `clap`.
 pub(crate) fn parse<'a>(alloc: Global, arguments: &'a [String]) -> Result<ArgMatches<'a>, Error>
     ensures matches { IfOk result
-        (λ m. subcommand_rows_of m ≡ subcommand_of program_app (argument_texts arguments.entry.now)) }
+        (λ m. subcommand_rows_of m ≡ subcommand_of program_app
+        (argument_texts arguments.entry.now)) }
     ensures exact { FailsBy (fault_of program_app (argument_texts arguments.entry.now)) result }
 {
     let program = program(alloc)?;

@@ -100,7 +100,8 @@ fn other_request_in<'a>(command: &str, values: &ArgMatches<'a>) -> Option<Reques
 /// The request of a `match`.
 fn match_in<'a>(values: &ArgMatches<'a>) -> Option<MatchRequest<'a>>
     ensures some { IfSome result (λ request.
-        IsMatchIn (parsed_rows values.now) request.whole request.retained_limit request.pattern.now) }
+        IsMatchIn (parsed_rows values.now) request.whole request.retained_limit
+        request.pattern.now) }
     ensures none { IfNone result ((whole : Bool) (retained_limit : ℕ) (pattern : List ℕ)
         → ¬ IsMatchIn (parsed_rows values.now) whole retained_limit pattern) }
 {

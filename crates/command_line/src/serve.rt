@@ -109,7 +109,8 @@ fn collections_in<'a>(
         (arguments_at (map (λ name. name.now) names.now) (parsed_rows values.now))
         (map plain_collection asked))) }
     ensures none { IfOk result (λ found. IfNone found ((collections : List PlainCollection)
-        → ¬ AreCollectionsOf (arguments_at (map (λ name. name.now) names.now) (parsed_rows values.now))
+        → ¬ AreCollectionsOf (arguments_at (map (λ name. name.now) names.now)
+        (parsed_rows values.now))
         collections)) }
 {
     let mut collections = Items::new(alloc);

@@ -24,7 +24,8 @@ use taxii_rows::{FaultCause, Keeper};
 
 /// Writes the summary.
 fn conclude<O: Sink>(totals: &Totals, output: &mut O) -> MirrorEnding
-    ensures concludes { ConcludesCopy totals.now (O.written output.old) (O.written output.new) result }
+    ensures concludes { ConcludesCopy totals.now (O.written output.old)
+        (O.written output.new) result }
     ensures output { Counted (mirror_status result ≡ 6) (O.faults output.old)
         (O.faults output.new) }
 {

@@ -51,7 +51,8 @@ fn execute<D: Dial, O: Sink>(
         (link_view D.Link.left D.Link.written D.Link.Source.faults D.Link.Sink.faults)
         (argument_texts arguments.now)
         (pull_environment (D.observable dial.old) (D.faults dial.old) (O.written output.old))
-        (pull_environment (D.observable dial.new) (D.faults dial.new) (O.written output.new)) result }
+        (pull_environment (D.observable dial.new) (D.faults dial.new)
+        (O.written output.new)) result }
     ensures untouched { pull_status result.ending ≡ 2
         → (dial.new ≡ dial.old) × (output.new ≡ output.old) }
     ensures output { Counted (pull_status result.ending ≡ 6) (O.faults output.old)
@@ -107,7 +108,8 @@ pub fn run_pull<D: Dial, O: Sink, E: Sink>(
         (link_view D.Link.left D.Link.written D.Link.Source.faults D.Link.Sink.faults)
         (argument_texts arguments.now)
         (pull_environment (D.observable dial.old) (D.faults dial.old) (O.written output.old))
-        (pull_environment (D.observable dial.new) (D.faults dial.new) (O.written output.new)) result }
+        (pull_environment (D.observable dial.new) (D.faults dial.new)
+        (O.written output.new)) result }
     ensures output { Counted (result ≡ 6) (O.faults output.old) (O.faults output.new) }
 {
     let end = execute(alloc, arguments, dial, output);

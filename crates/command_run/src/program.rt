@@ -32,7 +32,8 @@ fn execute<I: Source, O: Sink, D: Door, K: Keeper, C: Clock>(
     clock: &mut C,
 ) -> Ending
     ensures end { EndsRun
-        (client_view D.Link.left D.Link.began D.Link.written D.Link.Source.faults D.Link.Sink.faults)
+        (client_view D.Link.left D.Link.began D.Link.written D.Link.Source.faults
+        D.Link.Sink.faults)
         (argument_texts arguments.now)
         (command_environment (I.left input.old) (I.began input.old) (O.written output.old)
         (D.observable door.old) (K.kept keeper.old) (C.moments clock.old) (K.faults keeper.old))
@@ -97,7 +98,8 @@ pub fn run<I: Source, O: Sink, E: Sink, D: Door, K: Keeper, C: Clock>(
     clock: &mut C,
 ) -> u8
     ensures ends { Ends
-        (client_view D.Link.left D.Link.began D.Link.written D.Link.Source.faults D.Link.Sink.faults)
+        (client_view D.Link.left D.Link.began D.Link.written D.Link.Source.faults
+        D.Link.Sink.faults)
         (argument_texts arguments.now)
         (command_environment (I.left input.old) (I.began input.old) (O.written output.old)
         (D.observable door.old) (K.kept keeper.old) (C.moments clock.old) (K.faults keeper.old))

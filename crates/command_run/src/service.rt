@@ -29,7 +29,8 @@ pub fn serve<O: Sink, D: Door, K: Keeper, C: Clock>(
     clock: &mut C,
 ) -> ServeEnding
     ensures ends { EndsServe
-        (client_view D.Link.left D.Link.began D.Link.written D.Link.Source.faults D.Link.Sink.faults)
+        (client_view D.Link.left D.Link.began D.Link.written D.Link.Source.faults
+        D.Link.Sink.faults)
         (plain_service request.now)
         (record {
           door = D.observable door.old;
@@ -70,7 +71,8 @@ pub fn serve<O: Sink, D: Door, K: Keeper, C: Clock>(
 
 /// Writes the summary.
 fn conclude<O: Sink>(served: Served, output: &mut O) -> ServeEnding
-    ensures concludes { ConcludesServing served (O.written output.old) (O.written output.new) result }
+    ensures concludes { ConcludesServing served (O.written output.old)
+        (O.written output.new) result }
     ensures output { Counted (result ≡ ServeEnding.WriteFault) (O.faults output.old)
         (O.faults output.new) }
 {

@@ -40,7 +40,8 @@ impl From<NoMemory> for InputRefusal {
 /// Reads an input of at most `MAX_WHOLE_INPUT` bytes to its end. Whatever the outcome, it consumes
 /// at most these and one more read.
 pub fn read_whole<S: Source>(alloc: Global, source: &mut S) -> Result<Items<u8>, InputRefusal>
-    ensures whole { IfOk result (λ bytes. IsWholeInput bytes (S.left source.old) (S.left source.new)) }
+    ensures whole { IfOk result (λ bytes. IsWholeInput bytes (S.left source.old)
+        (S.left source.new)) }
     ensures to_end { IfOk result (λ _. IsAtEnd (S.began source.new)) }
     ensures too_long { result ≡ Err InputRefusal.TooLong → IsTooLong (S.left source.old) }
     ensures taken { TakesAtMost (MAX_WHOLE_INPUT + MAX_READ) (S.left source.old)

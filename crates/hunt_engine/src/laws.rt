@@ -11,7 +11,8 @@ ghost use Rattle.hunt_engine.specs.LazyMatcherState.{LazyMatcherState, Follows};
 
 /// The log of a pattern over some rows is unique.
 pub fn one_log()
-    ensures { (p : PlainPattern) (rows : List ObservationRow) (log other : List LogEntry) → IsLogOf p rows log
+    ensures { (p : PlainPattern) (rows : List ObservationRow) (log other : List LogEntry)
+        → IsLogOf p rows log
         → IsLogOf p rows other → log ≡ other }
 {}
 

@@ -54,7 +54,11 @@ impl<'p> Model for LazyMatcher<'p> {
 
     ghost coded = { Prim.hlevel (codes, matching.the_row.coded, tree_code) };
 
-    ghost view = { λ lazy_matcher. record { matcher = option_map (λ matching. matching.value) lazy_matcher.matcher; seen = lazy_matcher.seen } };
+    ghost view = { λ lazy_matcher. record {
+      matcher = option_map
+          (λ matching. matching.value) lazy_matcher.matcher;
+      seen = lazy_matcher.seen;
+    } };
 }
 
 impl<'p> LazyMatcher<'p> {
@@ -117,7 +121,8 @@ impl<'p> LazyMatcher<'p> {
         requires continues { ContinuesRows row.now }
         ensures took { (p : Pattern) (log : List LogEntry) → Follows p retained_limit log self.old
             → EndsLogAt log row.now.rows row.now.before
-            → IfOk result (λ binds. FollowsLastRow p retained_limit (log_with row.now truths.now log)
+            → IfOk result (λ binds. FollowsLastRow p retained_limit
+            (log_with row.now truths.now log)
             self.new (map tree_of binds)) }
         ensures over_limit { (p : Pattern) (log : List LogEntry)
             → Follows p retained_limit log self.old → EndsLogAt log row.now.rows row.now.before

@@ -40,7 +40,11 @@ impl Model for Gathering {
 
     ghost Value = { Gathered };
 
-    ghost view = { λ g. record { count = g.count; kept = g.kept.items; versions = g.versions.entries } };
+    ghost view = { λ g. record {
+      count = g.count;
+      kept = g.kept.items;
+      versions = g.versions.entries;
+    } };
 }
 
 impl Gathering {

@@ -8,7 +8,7 @@
 //!
 //! ```text
 //! let gathering = gather(alloc, &mut source)?;
-//! let hunt = gathering.hunt(moment)?; // hunt.hunted: with parsed patterns; hunt.skipped: with why not
+//! let hunt = gathering.hunt(moment)?; // `hunted` has parsed patterns, `skipped` the reasons
 //! ```
 #![tactic(auto)]
 

@@ -119,7 +119,8 @@ fn write_parts<'a, S: Sink>(
     sink: &mut S,
 ) -> Result<(), Fault>
     ensures text { WritesWhole (codes "indicators "
-        ++ line_of_text line.now (text_at_path (name.now ++ rule.now) path.now)) (S.written sink.old)
+        ++ line_of_text line.now (text_at_path (name.now ++ rule.now) path.now))
+        (S.written sink.old)
         (S.written sink.new) result }
     ensures causes { Counted (IsErr result) (S.faults sink.old) (S.faults sink.new) }
 {

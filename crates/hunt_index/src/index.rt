@@ -33,7 +33,8 @@ impl<'p> Model for Index<'p> {
 
     ghost use Rattle.hunt_index.specs.inner.Indexed.{IsFinderOf};
 
-    ghost invariant = { λ index. IsFinderOf (map (λ leaf. leaf.now) index.brackets.items) index.finder };
+    ghost invariant = { λ index. IsFinderOf (map
+        (λ leaf. leaf.now) index.brackets.items) index.finder };
 }
 
 impl<'p> Index<'p> {

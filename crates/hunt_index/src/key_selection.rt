@@ -49,7 +49,8 @@ fn index_keys_of_all<'p>(
     alloc: Global,
     parts: &'p [Leaf],
 ) -> Result<Option<Items<IndexKey<'p>>>, NoMemory>
-    ensures { IfOk result (IndexKeys (λ objects root. AllHold objects root (leaves_of_list parts.now))) }
+    ensures { IfOk result (IndexKeys (λ objects root. AllHold objects root
+        (leaves_of_list parts.now))) }
 {
     let mut fewest = None;
     for part in parts {

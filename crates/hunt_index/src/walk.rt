@@ -61,7 +61,8 @@ fn next_value<'a>(
 /// The type of an object.
 pub(crate) fn kind_of(object: &Json) -> Option<&str>
     requires { IsOrdered (data_of object.now) }
-    ensures { option_map (λ kind. kind.now) result ≡ property_text (codes "type") (data_of object.now) }
+    ensures { option_map (λ kind. kind.now) result
+        ≡ property_text (codes "type") (data_of object.now) }
 {
     match get_ordered(object, "type") {
         Some(value) => text_of(value),

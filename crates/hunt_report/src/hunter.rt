@@ -56,7 +56,11 @@ impl<'p> Model for Hunter<'p> {
 
     ghost use Rattle.hunt_report.specs.inner.Built.{IsBuiltHunter};
 
-    ghost view = { λ hunter. record { hunted = hunter.hunted.now; engine = hunter.engine; hit_summaries = hunter.hit_summaries.items } };
+    ghost view = { λ hunter. record {
+      hunted = hunter.hunted.now;
+      engine = hunter.engine;
+      hit_summaries = hunter.hit_summaries.items;
+    } };
 
     ghost invariant = { IsBuiltHunter };
 }
@@ -133,9 +137,11 @@ impl<'p> Hunter<'p> {
         requires span { observation.now.first ≤ℤ observation.now.last }
         requires number { observation.now.number ≡ self.old.engine.rows + 1 }
         requires order { ¬ (Falls self.old.engine.last observation.now.last) }
-        ensures row { IfOk result (TakesHuntRow (engine_row observation.now (data_in bundle.now)) self.old
+        ensures row { IfOk result (TakesHuntRow (engine_row observation.now
+            (data_in bundle.now)) self.old
             self.new) }
-        ensures end { IfErr result (EndsAtHuntedRow (engine_row observation.now (data_in bundle.now))
+        ensures end { IfErr result (EndsAtHuntedRow (engine_row observation.now
+            (data_in bundle.now))
             self.old) }
         ensures right { OnOk result (IsSoundMemo (data_in bundle.now)
             (brackets_of (patterns_of self.old.hunted)) memo.new) }

@@ -10,7 +10,7 @@
 //! ```text
 //! write_skipped(alloc, hunt.skipped.as_slice(), &mut output)?;
 //! let mut hunter = Hunter::new(alloc, hunt.hunted.as_slice(), 100_000)?;
-//! let end = follow(&mut reader, &mut hunter, &mut input, &mut output); // of `match_run`: a WatchEnd
+//! let end = follow(&mut reader, &mut hunter, &mut input, &mut output); // a WatchEnd
 //! write_report(alloc, &hunter, moment, &mut output)?;
 //! ```
 #![tactic(auto)]

@@ -84,7 +84,8 @@ fn compared_instant(value: &Json, instant: Instant) -> Option<Ordering>
 
 /// The order of the instant that a text spells to another. None where it spells none.
 fn compared_time(text: &str, instant: Instant) -> Option<Ordering>
-    ensures { (order : Ordering) → ((i : ℤ) × IsTextOfInstant text.now i × (order ≡ int_cmp i instant))
+    ensures { (order : Ordering) → ((i : ℤ) × IsTextOfInstant text.now i
+        × (order ≡ int_cmp i instant))
         ↔ (result ≡ Some order) }
 {
     match read(text) {

@@ -13,7 +13,7 @@
 //! Neither `[*]` and references nor the number of observations that share an object change this.
 //!
 //! ```text
-//! let truths = leaf_truths(alloc, &pattern, &observations, &bundle)?; // a row for each observation
+//! let truths = leaf_truths(alloc, &pattern, &observations, &bundle)?; // a row per observation
 //! let matches = like("cmd.exe", "%.e_e"); // true
 //! for value in values(&bundle, root, &path) { .. }
 //! ```

@@ -73,7 +73,8 @@ fn is_reached(
     ensures found { IfOk result (λ found. IsTrue found
         ↔ ((value : Data) × Reaches (data_in search.now.bundle.now) None test.now.path.steps
         (data_of object.now) value
-        × NegatedIf search.now.negated (MeetsCheck (last_property test.now.path) value test.now.check))) }
+        × NegatedIf search.now.negated (MeetsCheck
+        (last_property test.now.path) value test.now.check))) }
     ensures right { OnOk result (IsSoundSearchMemo search.now memo.new) }
 {
     finds(search, memo, None, search.steps, object)

@@ -83,7 +83,8 @@ fn positions_of(alloc: Global, list: &[u32]) -> Result<PositionSet, NoMemory>
 
 /// Whether one of the roots is in the set.
 fn has_some(position_set: &PositionSet, roots: &[u32]) -> bool
-    ensures { IsTrue result ↔ ((root : ℕ) × Contains roots.now root × IsInPositions position_set.now root) }
+    ensures { IsTrue result ↔ ((root : ℕ) × Contains roots.now root
+        × IsInPositions position_set.now root) }
 {
     for root in roots {
         if position_set.has(*root) {

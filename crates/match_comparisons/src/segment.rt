@@ -24,7 +24,8 @@ pub(crate) fn strip_front<'a>(whole_text: &'a str, whole_segment: &str) -> Optio
     requires { LacksCharacter (chars whole_segment.now) any_run }
     ensures { MatchOption result ((left : List ℕ)
         → ¬ LeavesAfterPrefix (chars whole_text.now) (chars whole_segment.now) left)
-        (λ left. LeavesAfterPrefix (chars whole_text.now) (chars whole_segment.now) (chars left.now)) }
+        (λ left. LeavesAfterPrefix (chars whole_text.now) (chars whole_segment.now)
+        (chars left.now)) }
 {
     let mut text = whole_text;
     let mut segment = whole_segment;

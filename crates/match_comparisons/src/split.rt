@@ -99,7 +99,8 @@ fn split_by_all(
     asked: &[u32],
 ) -> Result<Split, NoMemory>
     requires { AreSoundLeaves (leaves_of_list parts.now) }
-    ensures { IfOk result (SplitsPositions (λ (at : ℕ). AllHold (data_in bundle.now) at (leaves_of_list parts.now))
+    ensures { IfOk result (SplitsPositions (λ (at : ℕ). AllHold (data_in bundle.now) at
+        (leaves_of_list parts.now))
         asked.now) }
 {
     let mut held = Vec::from_slice(alloc, asked)?;
@@ -121,7 +122,8 @@ fn split_by_some(
     asked: &[u32],
 ) -> Result<Split, NoMemory>
     requires { AreSoundLeaves (leaves_of_list parts.now) }
-    ensures { IfOk result (SplitsPositions (λ (at : ℕ). SomeHold (data_in bundle.now) at (leaves_of_list parts.now))
+    ensures { IfOk result (SplitsPositions (λ (at : ℕ). SomeHold (data_in bundle.now) at
+        (leaves_of_list parts.now))
         asked.now) }
 {
     let mut held = Vec::new(alloc);

@@ -19,7 +19,8 @@ pub(crate) fn next_value<'a>(bundle: &'a Bundle, frames: &mut Frames<'a>) -> Opt
     requires { HasFrameSpace (reverse frames.old.items) }
     ensures some { IfSome result (λ value. (values : List Data)
         → LeftIn (data_in bundle.now) (reverse frames.old.items) values
-        ↔ FollowsTaken (data_of value.now ∷ []) (LeftIn (data_in bundle.now) (reverse frames.new.items))
+        ↔ FollowsTaken (data_of value.now ∷ []) (LeftIn (data_in bundle.now)
+        (reverse frames.new.items))
         values) }
     ensures none { IfNone result ((values : List Data)
         → LeftIn (data_in bundle.now) (reverse frames.old.items) values
@@ -43,7 +44,8 @@ fn visit<'a>(bundle: &'a Bundle, frame: Frame<'a>, frames: &mut Frames<'a>) -> O
     requires { HasFrameSpace (frame ∷ reverse frames.old.items) }
     ensures some { IfSome result (λ value. (values : List Data)
         → LeftIn (data_in bundle.now) (frame.entry ∷ reverse frames.old.items) values
-        ↔ FollowsTaken (data_of value.now ∷ []) (LeftIn (data_in bundle.now) (reverse frames.new.items))
+        ↔ FollowsTaken (data_of value.now ∷ []) (LeftIn (data_in bundle.now)
+        (reverse frames.new.items))
         values) }
     ensures none { IfNone result ((values : List Data)
         → LeftIn (data_in bundle.now) (frame.entry ∷ reverse frames.old.items) values

@@ -41,7 +41,8 @@ pub(crate) fn read_line(
     requires { next + MAX_OBJECTS ≤ 2 ^ 64 }
     ensures ok { IfOk result (λ outcome. IfOk outcome (λ line.
         IsBundleLine last next bytes.now (data_in line.bundle) line.observations)) }
-    ensures refused { IfOk result (λ outcome. IfErr outcome (IsRefusedInputLine last next bytes.now)) }
+    ensures refused { IfOk result (λ outcome. IfErr outcome
+        (IsRefusedInputLine last next bytes.now)) }
     ensures few { IfOk result (λ outcome. IfOk outcome (λ line. length line.observations
         ≤ MAX_OBJECTS)) }
 {

@@ -51,7 +51,8 @@ pub fn continues()
         → ReadsInputLines last next (line_then number bytes later) all end
         → (rest : List BundleOf) × (all
         ≡ record { line = number; objects = objects; observations = observations } ∷ rest)
-        × ReadsInputLines (last_after last observations) (next + length observations) later rest end }
+        × ReadsInputLines (last_after last observations)
+        (next + length observations) later rest end }
 {
     one_json();
     one_bundle();

@@ -190,7 +190,8 @@ fn write_broken<'a, S: Sink>(
         (text_at_path (name.now ++ broken_words object.now rule.now) path.now)) (S.written sink.old)
         (S.written sink.new) result }
     ensures part { OnErr result (WritesPart
-        (line_of_text line.now (text_at_path (name.now ++ broken_words object.now rule.now) path.now))
+        (line_of_text line.now (text_at_path
+        (name.now ++ broken_words object.now rule.now) path.now))
         (S.written sink.old) (S.written sink.new)) }
     ensures causes { Counted (IsErr result) (S.faults sink.old) (S.faults sink.new) }
 {

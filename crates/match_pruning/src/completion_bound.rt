@@ -150,7 +150,8 @@ impl CompletionBound {
             → IsReachedCompletion (partial_match_tree partial_match.now) before greedy_completion
             → Contains (partial_match_trees held.now) left
             → may_join join.Then left greedy_completion ≡ true
-            → left.earliest ≤ℤ earliest → IsReachedCompletion (partial_match_tree partial_match.now) self.new
+            → left.earliest ≤ℤ earliest → IsReachedCompletion
+            (partial_match_tree partial_match.now) self.new
             (joined_matches join.Then left greedy_completion)) }
     {
         let bound = self.earliest;

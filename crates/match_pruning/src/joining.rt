@@ -31,7 +31,8 @@ pub struct Joining<'a> {
     pub join_filter: &'a JoinFilter<'a>,
     /// Results that begin earlier aren't needed.
     earliest_start: EarliestStart,
-    ghost told: { IsEarliestStart earliest_start join_filter.now.time (pending_lefts_of join_filter.now.pending_lefts.now) } by { Prim.hlevel props },
+    ghost told: { IsEarliestStart earliest_start join_filter.now.time
+        (pending_lefts_of join_filter.now.pending_lefts.now) } by { Prim.hlevel props },
 }
 
 impl<'a> Joining<'a> {
@@ -59,11 +60,13 @@ impl<'a> Joining<'a> {
         requires candidates { 0 < length skip_index.now.keys.items
             → IsSkipIndexOf seconds.now skip_index.now }
         ensures joined { OnOk result (AreAdded self.now.join_filter.now
-            (match_joins self.now.how (partial_match_trees firsts.now) (partial_match_trees seconds.now))
+            (match_joins self.now.how (partial_match_trees firsts.now)
+            (partial_match_trees seconds.now))
             out.old.items out.new.items) }
         ensures over_limit { result ≡ Err stop.OverLimit
             → AreTooMany self.now.join_filter.now
-            (match_joins self.now.how (partial_match_trees firsts.now) (partial_match_trees seconds.now))
+            (match_joins self.now.how (partial_match_trees firsts.now)
+            (partial_match_trees seconds.now))
             out.old.items }
     {
         for first in firsts {
@@ -161,11 +164,13 @@ impl<'a> Joining<'a> {
         out: &mut Vec<PartialMatch>,
     ) -> Result<(), Stop>
         ensures joined { OnOk result (AreAdded self.now.join_filter.now
-            (match_join_row self.now.how (partial_match_tree first.now) (partial_match_tree second.now
+            (match_join_row self.now.how (partial_match_tree first.now)
+            (partial_match_tree second.now
             ∷ [])) out.old.items out.new.items) }
         ensures over_limit { result ≡ Err stop.OverLimit
             → AreTooMany self.now.join_filter.now
-            (match_join_row self.now.how (partial_match_tree first.now) (partial_match_tree second.now
+            (match_join_row self.now.how (partial_match_tree first.now)
+            (partial_match_tree second.now
             ∷ [])) out.old.items }
     {
         if self.earliest_start.covers(second.earliest) && self.how.may_join(first, second) {

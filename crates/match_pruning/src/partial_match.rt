@@ -14,6 +14,7 @@ pub struct PartialMatch {
     pub bind: Bind,
     pub earliest: Instant,
     pub latest: Instant,
-    ghost once: { IsDistinct nat_eq (numbers (tree_of bind)) } by { IsDistinct-prop nat_eq (numbers (tree_of bind)) },
+    ghost once: { IsDistinct nat_eq (numbers (tree_of bind)) } by { IsDistinct-prop nat_eq
+        (numbers (tree_of bind)) },
     ghost span: { earliest ≤ℤ latest },
 }

@@ -29,7 +29,8 @@ pub(crate) fn answer(
     requires order { ¬ (Falls matcher.old.last observation.now.last) }
     ensures row { (objects : List Data)
         → AreTruths objects observation.now.roots (plain_pattern matcher.old.pattern) truths.now
-        → IfOk result (λ binds. TakesObservation objects observation.now (so_far matcher.old tally.old)
+        → IfOk result (λ binds. TakesObservation objects observation.now
+        (so_far matcher.old tally.old)
         (so_far matcher.new tally.new) (map tree_of binds)) }
     ensures end { (objects : List Data)
         → AreTruths objects observation.now.roots (plain_pattern matcher.old.pattern) truths.now

@@ -37,7 +37,8 @@ pub(crate) fn match_batch<O: Sink>(
     ensures rows { OnOk result (WritesBundle (bundle_of batch.now) (so_far matcher.old tally.old)
         (so_far matcher.new tally.new)
         (O.written output.old) (O.written output.new)) }
-    ensures end { IfErr result (StopsInBundleRows (bundle_of batch.now) (so_far matcher.old tally.old)
+    ensures end { IfErr result (StopsInBundleRows (bundle_of batch.now)
+        (so_far matcher.old tally.old)
         matcher.new
         (O.written output.old) (O.written output.new)) }
     ensures kept { (matcher.new.pattern ≡ matcher.old.pattern)

@@ -28,7 +28,8 @@ pub(crate) fn add_lines<O: Sink>(
 ) -> Result<(), MatchEnd>
     ensures ok { (text : List ℕ) (first : Option (List ℕ))
         → IsPartBuffered text pending.old.items first (O.written output.old)
-        → OnOk result (IsPartBuffered (text ++ listing_text (map tree_of binds.now)) pending.new.items
+        → OnOk result (IsPartBuffered (text ++ listing_text
+        (map tree_of binds.now)) pending.new.items
         first (O.written output.new)) }
     ensures err { (text : List ℕ) (first : Option (List ℕ))
         → IsPartBuffered text pending.old.items first (O.written output.old)

@@ -18,7 +18,8 @@ pub fn begins_with_none()
 
 /// The bundles read of an input are a prefix of its reading.
 pub fn read_bundles_come_first()
-    ensures { (first left began : Option (List ℕ)) (reader : InputReaderState) (bundles : List BundleOf)
+    ensures { (first left began : Option (List ℕ)) (reader : InputReaderState)
+        (bundles : List BundleOf)
         → HasRead first reader left began bundles
         → HasPrefix Lines first bundles }
 {}

@@ -9,7 +9,8 @@
 //! of a binding, and answers every binding, each once. Memory stays within `retained_limit` partial
 //! matches.
 //!
-//! `match_pruning` has the stores and joins, and what keeps dense logs affordable. `laws` states that
+//! `match_pruning` has the stores and joins, and what keeps dense logs affordable. `laws` states
+//! that
 //! the answers to the rows of a log, concatenated, are the listing of `match_bindings`.
 //!
 //! ```text

@@ -104,7 +104,8 @@ impl<'p> Matcher<'p> {
         ensures over_limit { (log : List LogEntry) → MatcherRepresents self.old log → IsInOrder log
             → (number retained_limit : ℕ)
             → result ≡ Err (refusal.Stopped (ending.OverLimit number retained_limit))
-            → IsOverLimitAtRow self.old (with_log_row log first last truths.now) number retained_limit }
+            → IsOverLimitAtRow self.old (with_log_row log first last truths.now) number
+            retained_limit }
         ensures out_of_order { (before now : ℤ)
             → (result ≡ Err (refusal.Stopped (ending.OutOfOrder before now)))
             ↔ ((self.old.ended ≡ None) × (self.old.last ≡ Some before) × (now ≡ last)

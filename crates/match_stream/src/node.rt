@@ -451,7 +451,8 @@ fn step_first(
     ensures pending_lefts { OnOk result (pending_lefts.new.items ≡ pending_lefts.old.items) }
     ensures counted { OnOk result (budget.new.left
         + held_after row.now truths.now (node_state node.old) ≡ budget.old.left) }
-    ensures over_limit { result ≡ Err stop.OverLimit → Admits row.now truths.now (node_state node.old)
+    ensures over_limit { result ≡ Err stop.OverLimit
+        → Admits row.now truths.now (node_state node.old)
         → budget.old.left < length out.old.items
         + retained_at row.now truths.now (pending_lefts_of pending_lefts.old.items)
         (node_state node.old) }
@@ -501,7 +502,8 @@ fn step_second(
     ensures pending_lefts { OnOk result (pending_lefts.new.items ≡ pending_lefts.old.items) }
     ensures counted { OnOk result (budget.new.left
         + held_after row.now truths.now (node_state node.old) ≡ budget.old.left) }
-    ensures over_limit { result ≡ Err stop.OverLimit → Admits row.now truths.now (node_state node.old)
+    ensures over_limit { result ≡ Err stop.OverLimit
+        → Admits row.now truths.now (node_state node.old)
         → budget.old.left < length out.old.items
         + retained_at row.now truths.now (pending_lefts_of pending_lefts.old.items)
         (node_state node.old) }

@@ -7,6 +7,7 @@ ghost use Rattle.pattern_lexer.specs.Reading.{ReadsTokens};
 
 /// A text has tokens or a refusal, exactly one of them.
 pub fn one_reading()
-    ensures { (text : List ℕ) (first second : Result (List Token) TokenRefusal) → ReadsTokens text first
+    ensures { (text : List ℕ) (first second : Result (List Token) TokenRefusal)
+        → ReadsTokens text first
         → ReadsTokens text second → first ≡ second }
 {}

@@ -113,7 +113,8 @@ fn with_any<'a>(chain: Chain<'a>, next: Analysis<'a>) -> Result<Chain<'a>, NoMem
 
 /// The conjunction of a chain of two operands or more.
 fn all_of<'a>(chain: Chain<'a>) -> Analysis<'a>
-    ensures { (text : List ℕ) (c d : Comparison) → IsChain AreRootedOperands text (all c d) chain.entry
+    ensures { (text : List ℕ) (c d : Comparison)
+        → IsChain AreRootedOperands text (all c d) chain.entry
         → IsAnalysis text (all c d) result }
 {
     Analysis {

@@ -28,7 +28,8 @@ fn join_narrow(
     requires left { IsNarrow left }
     requires right { IfSome right IsNarrow }
     ensures narrow { IfOk result (λ whole. IfSome whole IsNarrow) }
-    ensures part { IfOk result (λ whole. (text : List ℕ) (p q : Tree) → IsNarrowPatternOf text p (Some left)
+    ensures part { IfOk result (λ whole. (text : List ℕ) (p q : Tree)
+        → IsNarrowPatternOf text p (Some left)
         → IsNarrowPatternOf text q right
         → IsNarrowPatternOf text (tree_by operator p q) whole) }
 {
@@ -51,7 +52,8 @@ fn join(
     requires left { IfSome left IsNarrow }
     requires right { IfSome right IsNarrow }
     ensures narrow { IfOk result (λ whole. IfSome whole IsNarrow) }
-    ensures part { IfOk result (λ whole. (text : List ℕ) (p q : Tree) → IsNarrowPatternOf text p left
+    ensures part { IfOk result (λ whole. (text : List ℕ) (p q : Tree)
+        → IsNarrowPatternOf text p left
         → IsNarrowPatternOf text q right
         → IsNarrowPatternOf text (tree_by operator p q) whole) }
 {

@@ -39,7 +39,8 @@ fn write_comparison(
     out: &mut Text,
 ) -> Result<(), NoMemory>
     ensures { OnOk result (AppendsText
-        (IsComparisonText test.now.path test.now.negated operator.now (IsConstantText value.now)) out.old
+        (IsComparisonText test.now.path test.now.negated operator.now
+        (IsConstantText value.now)) out.old
         out.new) }
 {
     write_path(&test.path, out)?;
@@ -55,7 +56,8 @@ fn write_among(
     out: &mut Text,
 ) -> Result<(), NoMemory>
     ensures { OnOk result (AppendsText
-        (IsComparisonText test.now.path test.now.negated (codes "IN") (IsSetLiteralText values.now)) out.old
+        (IsComparisonText test.now.path test.now.negated (codes "IN")
+        (IsSetLiteralText values.now)) out.old
         out.new) }
 {
     write_path(&test.path, out)?;
@@ -77,7 +79,8 @@ fn write_textual(test: &Test, operator: &str, words: &str, out: &mut Text) -> Re
 /// Writes EXISTS, with NOT before it for a negated test.
 fn write_existence(test: &Test, out: &mut Text) -> Result<(), NoMemory>
     ensures { OnOk result (AppendsText
-        (IsAfterText (not_text test.now.negated ++ codes "EXISTS ") (IsPathText test.now.path)) out.old
+        (IsAfterText (not_text test.now.negated ++ codes "EXISTS ")
+        (IsPathText test.now.path)) out.old
         out.new) }
 {
     out.push(not_word(test.negated))?;

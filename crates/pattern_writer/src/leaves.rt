@@ -24,7 +24,8 @@ fn precedence(leaf: &Leaf) -> u8
 #[cycle(leaves)]
 fn write_part(alloc: Global, least: u8, leaf: &Leaf, out: &mut Text) -> Result<(), NoMemory>
     ensures { OnOk result (AppendsText
-        (IsParenthesizedBelow least (binds (plain_leaf leaf.now)) (IsFormulaText (plain_leaf leaf.now))) out.old
+        (IsParenthesizedBelow least (binds (plain_leaf leaf.now)) (IsFormulaText
+        (plain_leaf leaf.now))) out.old
         out.new) }
 {
     if least <= precedence(leaf) {
@@ -44,7 +45,8 @@ fn write_parts(
     parts: &[Leaf],
     out: &mut Text,
 ) -> Result<(), NoMemory>
-    ensures { OnOk result (AppendsText (AreJoinedOperands least between.now (leaves_of_list parts.now)) out.old out.new) }
+    ensures { OnOk result (AppendsText (AreJoinedOperands least between.now
+        (leaves_of_list parts.now)) out.old out.new) }
 {
     for (index, part) in parts.iter().enumerate() {
         write_between(index, between, out)?;

@@ -25,7 +25,8 @@ impl<'a> IdRef<'a> {
     /// Reads an identifier without an allocation, so it never returns `NoMemory`.
     pub fn read(text: &'a str) -> Result<IdRef<'a>, IdRefusal>
         ensures ok { IfOk result (λ parts. IsTextOfId text.now (id_of parts)) }
-        ensures err { IfErr result (λ refusal. (refusal ≢ OutOfMemory) × IsRefusedId text.now refusal) }
+        ensures err { IfErr result (λ refusal. (refusal ≢ OutOfMemory)
+            × IsRefusedId text.now refusal) }
         ensures named { (id : Identifier) → IsTextOfId text.now id
             → IsOkAnd result (λ parts. id_of parts ≡ id) }
     {

@@ -16,7 +16,8 @@ pub fn read_id(alloc: Global, text: &str) -> Result<Id, IdRefusal>
     ensures ok { IfOk result (IsTextOfId text.now) }
     ensures err { IfErr result (IsRefusedId text.now) }
     // Completeness: every identifier is accepted, unless memory runs out.
-    ensures named { (id : Id) → IsTextOfId text.now id → (result ≡ Ok id) ⊎ (result ≡ Err NoMemory) }
+    ensures named { (id : Id) → IsTextOfId text.now id → (result ≡ Ok id)
+        ⊎ (result ≡ Err NoMemory) }
     // The refusal is exact: a refusal that applies to the text is the one returned.
     ensures refused { (refusal : IdRefusal) → refusal ≢ NoMemory → IsRefusedId text.now refusal
         → result ≡ Err refusal }

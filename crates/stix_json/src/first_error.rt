@@ -37,7 +37,8 @@ impl FirstError {
 
     /// Whether this error, which comes later in the value, takes precedence over `found`.
     pub fn overrides(&self, found: &Option<FirstError>) -> bool
-        ensures { (part : List ℕ) → deciding_error found.now (Some (first_error_under part self.now))
+        ensures { (part : List ℕ) → deciding_error found.now (Some
+            (first_error_under part self.now))
             ≡ (if result then Some (first_error_under part self.now) else found.now) }
     {
         match (self, found) {

@@ -119,7 +119,8 @@ fn add_own(
     object: &Object<'_>,
     found: &mut Items<Break>,
 ) -> Result<(), NoMemory>
-    ensures { OnOk result (AddsBreaks (map row_view rows.now) (data_of object.now) found.old found.new) }
+    ensures { OnOk result (AddsBreaks (map row_view rows.now)
+        (data_of object.now) found.old found.new) }
 {
     for row in rows {
         add_break(alloc, row, object, found)?;

@@ -9,7 +9,8 @@ use crate::Instant;
 
 /// A text names at most one instant.
 pub fn one_instant()
-    ensures { (text : List ℕ) (first second : ℤ) → IsTextOfInstant text first → IsTextOfInstant text second
+    ensures { (text : List ℕ) (first second : ℤ) → IsTextOfInstant text first
+        → IsTextOfInstant text second
         → first ≡ second }
 {}
 

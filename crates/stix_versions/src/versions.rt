@@ -81,7 +81,8 @@ fn add(
     rule: VersionRule,
     found: &mut Items<VersionBreak>,
 ) -> Result<(), NoMemory>
-    ensures { OnOk result (found.new ≡ found.old ++ violation_if broken (break_of_version object rule)) }
+    ensures { OnOk result (found.new
+        ≡ found.old ++ violation_if broken (break_of_version object rule)) }
 {
     if broken {
         found.push(VersionBreak { object, rule })?;

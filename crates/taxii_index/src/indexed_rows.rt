@@ -218,7 +218,8 @@ impl IndexedRows {
         number: u128,
         kind: &str,
     ) -> bool
-        ensures { result ≡ list_any (has_row (is_of collection (id_of_number number kind.now)) self.now)
+        ensures { result ≡ list_any (has_row (is_of collection
+            (id_of_number number kind.now)) self.now)
             (key_dates keys.entry) }
     {
         keys.map(|key| key.2)

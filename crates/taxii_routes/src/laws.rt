@@ -18,7 +18,8 @@ pub fn one_target()
 
 /// A path has at most one route.
 pub fn one_route()
-    ensures { (path : List ℕ) (first second : Route) → IsRoutePath path first → IsRoutePath path second
+    ensures { (path : List ℕ) (first second : Route) → IsRoutePath path first
+        → IsRoutePath path second
         → first ≡ second }
 {}
 

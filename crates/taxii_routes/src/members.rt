@@ -12,7 +12,8 @@ use stix_ids::{Id, IdRefusal, Pick, read_id};
 
 /// The comma-separated members of a list, borrowed.
 fn members(alloc: Global, value: &str) -> Result<Vec<&str>, AllocError>
-    ensures { IfOk result (λ texts. map (λ text. text.now) texts.items ≡ spec.value_members value.now) }
+    ensures { IfOk result (λ texts. map (λ text. text.now) texts.items
+        ≡ spec.value_members value.now) }
 {
     value.split(',').collect(alloc)
 }

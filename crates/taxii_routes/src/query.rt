@@ -39,7 +39,8 @@ pub struct Query {
 pub fn read_query(alloc: Global, text: &str) -> Result<Query, QueryRefusal>
     ensures ok { IfOk result (IsQueryOf (pairs_of text.now)) }
     ensures err { IfErr result
-        (λ refusal. (refusal ≡ QueryRefusal.NoMemory) ⊎ IsRefusedQuery (pairs_of text.now) refusal) }
+        (λ refusal. (refusal ≡ QueryRefusal.NoMemory)
+        ⊎ IsRefusedQuery (pairs_of text.now) refusal) }
 {
     let mut query = Query::new();
     for (name, value) in raw_pairs(text.as_bytes()) {

@@ -42,7 +42,8 @@ pub fn serve_door<K: Keeper, D: Door, C: Clock>(
         (record { moments = C.moments clock.new; faults = K.faults keeper.new })
         × (length clients ≤ connections)
         × (PassThroughDoor port clients (D.observable door.old) (D.observable door.new)
-        ⊎ (IsErr result × (clients ≡ []) × DoorStays (D.observable door.old) (D.observable door.new)))
+        ⊎ (IsErr result × (clients ≡ [])
+        × DoorStays (D.observable door.old) (D.observable door.new)))
         × IfOk result (IsWholeOf connections clients (D.observable door.new)) }
     // the door counts a fault exactly if the call fails; faults of links are not its own
     ensures causes { Counted (IsErr result) (D.faults door.old) (D.faults door.new) }
@@ -76,7 +77,8 @@ fn serve_client<K: Keeper, D: Door, C: Clock>(
     ensures keeper { without_rows (K.kept keeper.new) ≡ without_rows (K.kept keeper.old) }
     ensures config { server.new.config ≡ server.old.config }
     ensures serves { ServesClient
-        (client_view D.Link.left D.Link.began D.Link.written D.Link.Source.faults D.Link.Sink.faults)
+        (client_view D.Link.left D.Link.began D.Link.written D.Link.Source.faults
+        D.Link.Sink.faults)
         server.old.config server.old.state link
         (record { moments = C.moments clock.old; faults = K.faults keeper.old })
         (record { moments = C.moments clock.new; faults = K.faults keeper.new })

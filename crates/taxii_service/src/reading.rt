@@ -65,7 +65,8 @@ fn read_discovery(config: &Config) -> Result<Answer, NoMemory>
 
 fn read_status(alloc: Global, statuses: &Statuses, id: &str) -> Result<Answer, NoMemory>
     requires { kept_status_body id.now statuses.now ≢ None }
-    ensures { IfOk result (λ answer. (body : List ℕ) × (kept_status_body id.now statuses.now ≡ Some body)
+    ensures { IfOk result (λ answer. (body : List ℕ)
+        × (kept_status_body id.now statuses.now ≡ Some body)
         × HasBody body answer) }
 {
     match statuses.find(id) {

@@ -60,7 +60,8 @@ impl Change<'_> {
     /// Performs the change inside a transaction, without ending it.
     fn perform<S: Alter>(self, transaction: &mut Transaction<'_, S>) -> Result<(), Failure>
         ensures { IsStep (state S.Store)
-            (DoesChange (state S.Store) self.entry) transaction.old.conn transaction.new.conn result }
+            (DoesChange (state S.Store) self.entry) transaction.old.conn transaction.new.conn
+            result }
     {
         match self {
             Change::MakeTables => layout::make_tables(transaction),

@@ -88,7 +88,8 @@ pub(crate) fn append<S: Alter>(
     watermark: u64,
 ) -> Result<(), Failure>
     ensures { IsStep (state S.Store)
-        (InsertsRows (state S.Store) rows.now watermark) transaction.old.conn transaction.new.conn result }
+        (InsertsRows (state S.Store) rows.now watermark) transaction.old.conn transaction.new.conn
+        result }
 {
     insert_rows(transaction, rows)?;
     set_watermark(transaction, rows, watermark)?;

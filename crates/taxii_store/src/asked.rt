@@ -34,7 +34,8 @@ impl<'a> RowFilter<'a> {
         only: Option<&'a Id>,
         query: &'a Query,
     ) -> Result<RowFilter<'a>, NoMemory>
-        ensures { IfOk result (AsksOfCollection collection (option_map (λ id. id.now) only.entry) query.now) }
+        ensures { IfOk result (AsksOfCollection collection (option_map
+            (λ id. id.now) only.entry) query.now) }
     {
         let kinds = kind_set(alloc, &query.kinds)?;
         let ids = id_set(alloc, &query.ids)?;
