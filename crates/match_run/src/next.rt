@@ -10,9 +10,8 @@ use match_input::{Batch, ReadEnd, Reader, Stage};
 use stix_bundles::laws::observations_are_spans;
 
 /// The next bundle of an input that is cut into lines, with its observations; none at the end of
-/// the input, and at each later
-/// call. It reads no more than the bundle's line asks for. After a `ReadEnd` each later call
-/// answers `Ended`, without reading.
+/// the input, and at each later call. It reads no more than the bundle's line asks for. After a
+/// `ReadEnd` each later call answers `Ended`, without reading.
 pub fn next_bundle<I: Source>(reader: &mut Reader, input: &mut I) -> Result<Option<Batch>, ReadEnd>
     ensures next { (first : Option (List ℕ)) (earlier : List BundleOf)
         → HasRead first reader.old (I.left input.old) (I.began input.old) earlier

@@ -10,8 +10,7 @@
 //! matches.
 //!
 //! `match_pruning` has the stores and joins, and what keeps dense logs affordable. `laws` states
-//! that
-//! the answers to the rows of a log, concatenated, are the listing of `match_bindings`.
+//! that the answers to the rows of a log, concatenated, are the listing of `match_bindings`.
 //!
 //! ```text
 //! let mut matcher = Matcher::new(alloc, &pattern, 100_000)?;
