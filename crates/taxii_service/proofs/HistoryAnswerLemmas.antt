@@ -9,7 +9,7 @@ use Rattle.taxii_exchange.specs.declared.answer.Answer.{Answer}
 use Rattle.taxii_exchange.specs.Answers.{no_memory_answer}
 use Rattle.taxii_routes.specs.declared.query.Query.{Query}
 use Rattle.taxii_routes.specs.declared.route.Route.{Route}
-use Rattle.taxii_routes.specs.declared.route.Route.TheVariants.{Objects, Object}
+use Rattle.taxii_routes.specs.declared.route.Route.TheVariants as found_at
 use Rattle.taxii_routes.specs.Query.{Pair, pairs_of, IsQueryOf}
 use Rattle.taxii_routes.specs.Route.{IsRoutePath}
 use Rattle.taxii_routes.specs.Target.{IsTargetOf}
@@ -22,10 +22,12 @@ use Rattle.taxii_exchange.specs.declared.refusal.Refusal.{Refusal}
 use Rattle.taxii_exchange.specs.declared.refusal.Refusal.TheVariants.{NotAllowed, Problem, NoMemory}
 use Rattle.taxii_exchange.specs.AnswersToRequests.{problem_status, bare_answer, answer_to_problem}
 use Rattle.taxii_exchange.proofs.AnswersToRequestsLemmas.{told_status}
-use Rattle.taxii_service.specs.Finding.{NamesCollection}
+use Rattle.taxii_service.specs.Resource.{Resource, Objects, Object}
+use Rattle.taxii_service.specs.Finding.{NamesCollection, IsResource}
+use Rattle.taxii_service.specs.Operation.{Operation, Read, Add, Remove, IsOperation, Does}
 use Rattle.taxii_service.specs.Reading.{IsPageOf, IsEnvelope, IsGetAnswer, object_query}
 use Rattle.taxii_service.specs.declared.state.State.{State}
-use Rattle.taxii_service.specs.Step.{Does, IsAnswerTo, RouteStep, Step}
+use Rattle.taxii_service.specs.Step.{IsAnswerTo, RouteStep, Step}
 use Rattle.taxii_service.specs.Exchanges.{Course, Stepped, KeeperFailed, OutOfMemory, Exchange, RunsExchange, IsExchange, WasDone}
 use Rattle.taxii_service.specs.Visits.{AsksForAll, AsksForOne, Asks}
 
@@ -100,39 +102,49 @@ one_collection text infos first second names also =
     let same : Some first ≡ Some second = sym names ∙ also in let info : first ≡ second = cc in ap (λ (i : CollectionInfo). i.id) info
 
 -- a GET of what is asked for reads a page of the collection
-all_read : (config : Config) (before : State) (route : Route) (parsed : Query) (collection : ℕ) (only : Option Id) (query : Query) (answer : Answer)
-    → AsksForAll config route parsed collection only query → IsGetAnswer config before route parsed answer
+all_read : (config : Config) (before : State) (route : Route) (resource : Resource) (parsed : Query) (collection : ℕ) (only : Option Id) (query : Query) (answer : Answer)
+    → AsksForAll config route parsed collection only query → IsResource config.collections before route resource → IsGetAnswer config before resource parsed answer
     → IsPageOf before.library.rows collection only query IsEnvelope answer
-all_read config before route parsed collection only query answer (id, info, route_is, names, collection_is, only_is, query_is) reading =
-    let its : IsGetAnswer config before (Objects id) parsed answer =
-    subst (λ (r : Route). IsGetAnswer config before r parsed answer) route_is reading in
+all_read config before route resource parsed collection only query answer (id, info, route_is, names, collection_is, only_is, query_is) found reading =
+    let its : IsResource config.collections before (found_at.Objects id) resource =
+    subst (λ (r : Route). IsResource config.collections before r resource) route_is found in
+    let page : IsGetAnswer config before (Objects its.0) parsed answer =
+    subst (λ (r : Resource). IsGetAnswer config before r parsed answer) its.2 reading in
     let same : its.0.id ≡ info.id = one_collection id config.collections its.0 info its.1 names in
-    page_of_same before.library.rows answer its.0.id collection None only parsed query (same ∙ sym collection_is) (sym only_is) (sym query_is) its.2
+    page_of_same before.library.rows answer its.0.id collection None only parsed query (same ∙ sym collection_is) (sym only_is) (sym query_is) page
 
 -- or of the one object
-one_read : Laws → (config : Config) (before : State) (route : Route) (parsed : Query) (collection : ℕ) (only : Option Id) (query : Query) (answer : Answer)
-    → AsksForOne config route parsed collection only query → IsGetAnswer config before route parsed answer
+one_read : Laws → (config : Config) (before : State) (route : Route) (resource : Resource) (parsed : Query) (collection : ℕ) (only : Option Id) (query : Query) (answer : Answer)
+    → AsksForOne config route parsed collection only query → IsResource config.collections before route resource → IsGetAnswer config before resource parsed answer
     → IsPageOf before.library.rows collection only query IsEnvelope answer
-one_read laws config before route parsed collection only query answer (name, text, info, id, route_is, names, text_of, collection_is, only_is, query_is) reading =
-    let its : IsGetAnswer config before (Object name text) parsed answer =
-    subst (λ (r : Route). IsGetAnswer config before r parsed answer) route_is reading in
-    let page = its.2 in
-    let same : its.0.id ≡ info.id = one_collection name config.collections its.0 info its.1 names in
-    let id_same : Some page.0 ≡ Some id = ap (λ (i : Id). Some i) (laws.identifier text page.0 id page.1 text_of) in
-    page_of_same before.library.rows answer its.0.id collection (Some page.0) only (object_query parsed) query (same ∙ sym collection_is) (id_same ∙ sym only_is) (sym query_is) page.2
+one_read laws config before route resource parsed collection only query answer (name, text, info, id, route_is, names, text_of, collection_is, only_is, query_is) found reading =
+    let its : IsResource config.collections before (found_at.Object name text) resource =
+    subst (λ (r : Route). IsResource config.collections before r resource) route_is found in
+    let page : IsGetAnswer config before (Object its.0 its.1) parsed answer =
+    subst (λ (r : Resource). IsGetAnswer config before r parsed answer) its.4 reading in
+    let same : its.0.id ≡ info.id = one_collection name config.collections its.0 info its.2 names in
+    let id_same : Some its.1 ≡ Some id = ap (λ (i : Id). Some i) (laws.identifier text its.1 id its.3.text_of text_of) in
+    page_of_same before.library.rows answer its.0.id collection (Some its.1) only (object_query parsed) query (same ∙ sym collection_is) (id_same ∙ sym only_is) (sym query_is) page
 
 -- or of either
-read : Laws → (config : Config) (before : State) (route : Route) (parsed : Query) (collection : ℕ) (only : Option Id) (query : Query) (answer : Answer)
+read : Laws → (config : Config) (before : State) (route : Route) (resource : Resource) (parsed : Query) (collection : ℕ) (only : Option Id) (query : Query) (answer : Answer)
     → AsksForAll config route parsed collection only query ⊎ AsksForOne config route parsed collection only query
-    → IsGetAnswer config before route parsed answer
+    → IsResource config.collections before route resource → IsGetAnswer config before resource parsed answer
     → IsPageOf before.library.rows collection only query IsEnvelope answer
-read laws config before route parsed collection only query answer (inl asks) = all_read config before route parsed collection only query answer asks
-read laws config before route parsed collection only query answer (inr asks) = one_read laws config before route parsed collection only query answer asks
+read laws config before route resource parsed collection only query answer (inl asks) = all_read config before route resource parsed collection only query answer asks
+read laws config before route resource parsed collection only query answer (inr asks) = one_read laws config before route resource parsed collection only query answer asks
+
+-- a GET reads the resource
+pub get_reads : (resource : Resource) (operation : Operation) → IsOperation Get resource operation → operation ≡ Read resource
+get_reads resource (Read its) is = ap (λ (r : Resource). Read r) is.1
+get_reads resource (Add info) is = absurd (let wrong = is.0 in cc wrong)
+get_reads resource (Remove info id) is = absurd (let wrong = is.0 in cc wrong)
 
 -- the path, the route and the query that it was done by are those that the request asks by
 pub paged : Laws → (config : Config) (e : Exchange) (collection : ℕ) (only : Option Id) (query : Query) → IsExchange config e → e.answer.status ≡ Okay
     → Asks config e.request collection only query → IsPageOf e.before.library.rows collection only query IsEnvelope e.answer
-paged laws config e collection only query goes okay asks = read laws config e.before asks.route asks.parsed collection only query e.answer asks.asks reading
+paged laws config e collection only query goes okay asks =
+    read laws config e.before asks.route was.done.resource asks.parsed collection only query e.answer asks.asks found reading
   where
     was : WasDone config e
     was = was_done config e goes okay
@@ -150,9 +162,15 @@ paged laws config e collection only query goes okay asks = read laws config e.be
     query_is = laws.query (pairs_of (unwrap_or asks.text [])) was.done.query asks.parsed
         (subst (λ (text : Option (List ℕ)). IsQueryOf (pairs_of (unwrap_or text [])) was.done.query) text_is was.done.query_is) asks.query_is
 
-    does : Does config e.before e.moment e.request was.route was.done.query Get e.answer e.after
-    does = subst (λ (method : Method). Does config e.before e.moment e.request was.route was.done.query method e.answer e.after) asks.get was.done.does
+    found : IsResource config.collections e.before asks.route was.done.resource
+    found = subst (λ (route : Route). IsResource config.collections e.before route was.done.resource) route_is was.done.found
 
-    reading : IsGetAnswer config e.before asks.route asks.parsed e.answer
-    reading = subst (λ (q : Query). IsGetAnswer config e.before asks.route q e.answer) query_is
-        (subst (λ (route : Route). IsGetAnswer config e.before route was.done.query e.answer) route_is does.0)
+    operation_is : was.done.operation ≡ Read was.done.resource
+    operation_is = get_reads was.done.resource was.done.operation
+        (subst (λ (method : Method). IsOperation method was.done.resource was.done.operation) asks.get was.done.operation_is)
+
+    does : Does config e.before e.moment e.request.body was.done.query (Read was.done.resource) e.answer e.after
+    does = subst (λ (operation : Operation). Does config e.before e.moment e.request.body was.done.query operation e.answer e.after) operation_is was.done.does
+
+    reading : IsGetAnswer config e.before was.done.resource asks.parsed e.answer
+    reading = subst (λ (q : Query). IsGetAnswer config e.before was.done.resource q e.answer) query_is does.0

@@ -7,9 +7,6 @@ use Rattle.std.proofs.lemmas.List.{length-append}
 use Rattle.std.proofs.lemmas.List.Elements.{All-contains, filter_passes}
 use Rattle.flow_edges.specs.Faults.{Counted}
 use Rattle.stix_ids.specs.declared.id.Id.{Id}
-use Rattle.stix_ids.specs.declared.refusal.IdRefusal.{IdRefusal}
-use Rattle.stix_ids.specs.declared.refusal.IdRefusal.TheVariants.{BadUuid, BadKind, NoMemory as WantOfMemory}
-use Rattle.stix_ids.specs.Identifier.{IsTextOfId}
 use Rattle.taxii_routes.specs.declared.query.Query.{Query}
 use Rattle.taxii_rows.specs.declared.stored_row.StoredRow.{StoredRow}
 use Rattle.taxii_rows.specs.StoreState.{StoreState}
@@ -29,21 +26,6 @@ use Rattle.taxii_service.specs.Deleting.{AreDeleted}
 pub if_err : {T E : Type 0} (answer : Result T E) (P Q : E → Type 0) → ((refusal : E) → P refusal → Q refusal) → IfErr answer P → IfErr answer Q
 if_err (Ok value) P Q to its = tt
 if_err (Err refusal) P Q to its = to refusal its
-
--- a text that was refused for what it is, is no identifier's
-pub no_identifier : (text : List ℕ) (e bad : IdRefusal) → e ≡ bad → bad ≢ WantOfMemory
-    → ((id : Id) → IsTextOfId text id → (◌≡◌ {A = Result Id IdRefusal} (Err e) (Ok id)) ⊎ (◌≡◌ {A = Result Id IdRefusal} (Err e) (Err WantOfMemory))) → (id : Id) → ¬ IsTextOfId text id
-no_identifier text e bad same other named id is = go (named id is)
-  where
-    go : (◌≡◌ {A = Result Id IdRefusal} (Err e) (Ok id)) ⊎ (◌≡◌ {A = Result Id IdRefusal} (Err e) (Err WantOfMemory)) → ⊥
-    go (inl read) = cc
-    go (inr none) = other (let none_is : e ≡ WantOfMemory = cc in sym same ∙ none_is)
-
-pub uuid_is : BadUuid ≢ WantOfMemory
-uuid_is e = cc
-
-pub kind_is : (at : ℕ) → BadKind at ≢ WantOfMemory
-kind_is at e = cc
 
 -- rows with others after them aren't the same
 pub rows_grow : (rows new : List StoredRow) → new ≢ [] → rows ++ new ≢ rows

@@ -3,7 +3,6 @@ use Rattle.std.proofs.Common.{◌≡◌, ◌≢◌, ◌∙◌, inl, inr, ℕ, Li
 use Rattle.std.specs.Prelude.{Bool}
 use Rattle.stix_ids.specs.declared.id.Id.{Id}
 use Rattle.http_messages.specs.declared.method.Method.{Method}
-use Rattle.http_messages.specs.declared.method.Method.TheVariants.{Get, Head, Post, Delete, Other}
 use Rattle.http_messages.specs.declared.request.Request.{Request}
 use Rattle.http_messages.specs.declared.status.Status.{Status as Code}
 use Rattle.http_messages.specs.declared.status.Status.TheVariants.{InternalServerError}
@@ -13,7 +12,8 @@ use Rattle.taxii_bodies.specs.declared.problem.Problem.{Problem as Trouble}
 use Rattle.taxii_bodies.specs.declared.problem.Problem.TheVariants.{NotFound, StoreFault}
 use Rattle.taxii_routes.specs.declared.query.Query.{Query}
 use Rattle.taxii_routes.specs.declared.route.Route.{Route}
-use Rattle.taxii_routes.specs.declared.route.Route.TheVariants.{Discovery, Root, Status, Collections, Collection, Manifest, Objects, Object, Versions, None as NoRoute}
+use Rattle.taxii_service.specs.Resource.{Resource, Discovery, Root, Status, Collections, Collection, Manifest, Objects, Object, Versions, allowed, rights_to}
+use Rattle.taxii_service.specs.Operation.{Operation, Read, Add, Remove, Does}
 use Rattle.taxii_rows.specs.declared.stored_row.StoredRow.{StoredRow}
 use Rattle.taxii_store.specs.Page.{IsPage}
 use Rattle.taxii_exchange.specs.declared.config.Config.{Config}
@@ -23,11 +23,11 @@ use Rattle.taxii_exchange.specs.declared.rights.Rights.{Rights}
 use Rattle.taxii_exchange.specs.AnswersToRequests.{body_answer, bare_answer, answer_to_problem, page_answer, problem_status}
 use Rattle.taxii_exchange.proofs.AnswersToRequestsLemmas.{told_status}
 use Rattle.taxii_exchange.specs.Checking.{IsRefusedByCheck}
-use Rattle.taxii_service.specs.Finding.{allowed_of}
 use Rattle.taxii_service.specs.Reading.{IsPageOf, IsGetAnswer}
 use Rattle.taxii_service.specs.declared.state.State.{State}
+use Rattle.taxii_service.specs.Posted.{IsUnreadableBody}
 use Rattle.taxii_service.specs.Adding.{CannotAdd}
-use Rattle.taxii_service.specs.Step.{Posts, Deletes, Does, CannotPost, CannotDo, IsRefusedResource, IsDone, IsAnswerTo, RouteStep, Step}
+use Rattle.taxii_service.specs.Step.{IsRefusedResource, IsDone, IsAnswerTo, RouteStep, Step}
 
 -- what holds of each form that an answer of a step has
 pub record HoldsOfForms (rows : List StoredRow) (P : Answer → Type 0) : Type 0 where
@@ -47,39 +47,28 @@ page_holds : (P : Answer → Type 0) (rows : List StoredRow) → HoldsOfForms ro
 page_holds P rows forms collection only query Rule answer its =
     subst P (sym its.answer_is) (forms.pages collection only query its.page its.more its.body its.page_is)
 
-reading_holds : (P : Answer → Type 0) (config : Config) (before : State) → HoldsOfForms before.library.rows P → (route : Route) (query : Query) (answer : Answer)
-    → IsGetAnswer config before route query answer → P answer
+reading_holds : (P : Answer → Type 0) (config : Config) (before : State) → HoldsOfForms before.library.rows P → (resource : Resource) (query : Query) (answer : Answer)
+    → IsGetAnswer config before resource query answer → P answer
 reading_holds P config before forms Discovery query answer its = body_holds P forms _ _ answer (λ is. absurd (cc is)) its
 reading_holds P config before forms Root query answer its = body_holds P forms _ _ answer (λ is. absurd (cc is)) its
 reading_holds P config before forms (Status id) query answer its = body_holds P forms _ _ answer (λ is. absurd (cc is)) its.2
 reading_holds P config before forms Collections query answer its = body_holds P forms _ _ answer (λ is. absurd (cc is)) its
-reading_holds P config before forms (Collection id) query answer its = body_holds P forms _ _ answer (λ is. absurd (cc is)) its.2
-reading_holds P config before forms (Manifest id) query answer its = page_holds P _ forms _ _ _ _ answer its.2
-reading_holds P config before forms (Objects id) query answer its = page_holds P _ forms _ _ _ _ answer its.2
-reading_holds P config before forms (Object collection object) query answer its = page_holds P _ forms _ _ _ _ answer its.2.2
-reading_holds P config before forms (Versions collection object) query answer its = page_holds P _ forms _ _ _ _ answer its.2.2
-reading_holds P config before forms NoRoute query answer its = absurd its
+reading_holds P config before forms (Collection info) query answer its = body_holds P forms _ _ answer (λ is. absurd (cc is)) its
+reading_holds P config before forms (Manifest info) query answer its = page_holds P _ forms _ _ _ _ answer its
+reading_holds P config before forms (Objects info) query answer its = page_holds P _ forms _ _ _ _ answer its
+reading_holds P config before forms (Object info id) query answer its = page_holds P _ forms _ _ _ _ answer its
+reading_holds P config before forms (Versions info id) query answer its = page_holds P _ forms _ _ _ _ answer its
 
-post_holds : (P : Answer → Type 0) (config : Config) (before : State) → HoldsOfForms before.library.rows P → (moment : ℕ) (request : Request) (route : Route) (answer : Answer) (after : State)
-    → Posts config before moment request route answer after → P answer
-post_holds P config before forms moment request route answer after its = body_holds P forms _ _ answer (λ is. absurd (cc is)) its.answer_is
-
-delete_holds : (P : Answer → Type 0) (config : Config) (before : State) → HoldsOfForms before.library.rows P → (route : Route) (query : Query) (answer : Answer) (after : State)
-    → Deletes config before route query answer after → P answer
-delete_holds P config before forms route query answer after its = subst P (sym its.answer_is) (forms.bare _ _ (λ is. absurd (cc is)))
-
-does_holds : (P : Answer → Type 0) (config : Config) (before : State) → HoldsOfForms before.library.rows P → (moment : ℕ) (request : Request) (route : Route) (query : Query) (method : Method) (answer : Answer) (after : State)
-    → Does config before moment request route query method answer after → P answer
-does_holds P config before forms moment request route query Get answer after its = reading_holds P config before forms route query answer its.0
-does_holds P config before forms moment request route query Head answer after its = absurd its
-does_holds P config before forms moment request route query Post answer after its = post_holds P config before forms moment request route answer after its
-does_holds P config before forms moment request route query Delete answer after its = delete_holds P config before forms route query answer after its
-does_holds P config before forms moment request route query Other answer after its = absurd its
+does_holds : (P : Answer → Type 0) (config : Config) (before : State) → HoldsOfForms before.library.rows P → (moment : ℕ) (body : List ℕ) (query : Query) (operation : Operation) (answer : Answer) (after : State)
+    → Does config before moment body query operation answer after → P answer
+does_holds P config before forms moment body query (Read resource) answer after its = reading_holds P config before forms resource query answer its.0
+does_holds P config before forms moment body query (Add info) answer after its = body_holds P forms _ _ answer (λ is. absurd (cc is)) its.answer_is
+does_holds P config before forms moment body query (Remove info id) answer after its = subst P (sym its.answer_is) (forms.bare _ _ (λ is. absurd (cc is)))
 
 pub done_holds : (P : Answer → Type 0) (config : Config) (before : State) → HoldsOfForms before.library.rows P → (moment : ℕ) (request : Request) (route : Route) (text : List ℕ) (answer : Answer) (after : State)
     → IsDone config before moment request route text answer after → P answer
 done_holds P config before forms moment request route text answer after done =
-    does_holds P config before forms moment request route done.query request.method answer after done.does
+    does_holds P config before forms moment request.body done.query done.operation answer after done.does
 
 -- ---- what is refused
 
@@ -91,27 +80,20 @@ refused_other : (its : Allow) (rights : Rights) (request : Request) (text : List
 refused_other its rights request text (Problem StoreFault) refused = absurd refused
 refused_other its rights request text refusal refused = λ is. absurd (cc is)
 
+unreadable_other : (body : List ℕ) (refusal : Refusal) → IsUnreadableBody body refusal → IsOther refusal
+unreadable_other body refusal (inl its) is = let wrong = sym its.0 ∙ is in absurd (cc wrong)
+unreadable_other body refusal (inr its) is = let wrong = sym its.0 ∙ is in absurd (cc wrong)
+
 add_other : (before : State) (collection moment : ℕ) (body : List ℕ) (refusal : Refusal) → CannotAdd before collection moment body refusal → IsOther refusal
-add_other before collection moment body (Problem StoreFault) cannot = absurd cannot
-add_other before collection moment body refusal cannot = λ is. absurd (cc is)
-
-post_other : (config : Config) (before : State) (moment : ℕ) (request : Request) (route : Route) (refusal : Refusal)
-    → CannotPost config before moment request route refusal → IsOther refusal
-post_other config before moment request route refusal its = add_other before _ moment request.body refusal its.cannot
-
-do_other : (config : Config) (before : State) (moment : ℕ) (request : Request) (route : Route) (method : Method) (refusal : Refusal)
-    → CannotDo config before moment request route method refusal → IsOther refusal
-do_other config before moment request route Get refusal cannot = absurd cannot
-do_other config before moment request route Head refusal cannot = absurd cannot
-do_other config before moment request route Post refusal cannot = post_other config before moment request route refusal cannot
-do_other config before moment request route Delete refusal cannot = absurd cannot
-do_other config before moment request route Other refusal cannot = absurd cannot
+add_other before collection moment body refusal (inl its) = unreadable_other body refusal its
+add_other before collection moment body refusal (inr its) is = let wrong = sym its.0 ∙ is in absurd (cc wrong)
 
 is_other : (config : Config) (before : State) (moment : ℕ) (request : Request) (route : Route) (text : List ℕ) (refusal : Refusal)
     → IsRefusedResource config before moment request route text refusal → IsOther refusal
 is_other config before moment request route text refusal (inl nothing) = λ is. absurd (cc (is, nothing.1))
-is_other config before moment request route text refusal (inr (rights, found, inl refused)) = refused_other (allowed_of route) rights request text refusal refused
-is_other config before moment request route text refusal (inr (rights, found, inr cannot)) = do_other config before moment request route request.method refusal cannot.3
+is_other config before moment request route text refusal (inr (resource, found, inl refused)) = refused_other (allowed resource) (rights_to resource) request text refusal refused
+is_other config before moment request route text refusal (inr (resource, found, inr undone)) =
+    let (info, operation_is, cannot) = undone.cannot in add_other before info.id moment request.body refusal cannot
 
 -- ---- a step
 

@@ -1,7 +1,6 @@
 -- One exchange makes nothing, an addition or a deletion of the store.
 use Rattle.std.proofs.Common.{◌≡◌, inl, inr, ℕ, List, unwrap_or, [], refl, sym, ap, subst}
-use Rattle.http_messages.specs.declared.method.Method.{Method}
-use Rattle.http_messages.specs.declared.method.Method.TheVariants.{Get, Head, Post, Delete, Other}
+use Rattle.stix_ids.specs.declared.id.Id.{Id}
 use Rattle.http_messages.specs.declared.request.Request.{Request}
 use Rattle.taxii_exchange.specs.declared.answer.Answer.{Answer}
 use Rattle.taxii_routes.specs.declared.query.Query.{Query}
@@ -10,7 +9,8 @@ use Rattle.taxii_exchange.specs.declared.config.Config.{Config}
 use Rattle.taxii_service.specs.declared.state.State.{State}
 use Rattle.taxii_service.specs.Adding.{with_added}
 use Rattle.taxii_service.specs.Deleting.{without_dates}
-use Rattle.taxii_service.specs.Step.{Posts, Deletes, Does, RouteStep, Step}
+use Rattle.taxii_service.specs.Operation.{Operation, Read, Add, Remove, AddsBody, RemovesObject, Does}
+use Rattle.taxii_service.specs.Step.{RouteStep, Step}
 use Rattle.taxii_store.specs.History.{IsHistory}
 use Rattle.taxii_service.specs.Exchanges.{Course, Stepped, KeeperFailed, OutOfMemory, Exchange, RunsExchange, IsExchange}
 use Rattle.taxii_service.proofs.DatedLemmas.{no_history, one_change}
@@ -19,32 +19,30 @@ use Rattle.taxii_service.proofs.AddedLemmas.{added}
 unchanged : (before after : State) → after ≡ before → IsHistory before.library after.library
 unchanged before after same = no_history before.library after.library (ap (λ (state : State). state.library) same)
 
-posted : (config : Config) (before : State) (moment : ℕ) (request : Request) (route : Route) (answer : Answer) (after : State)
-    → Posts config before moment request route answer after → IsHistory before.library after.library
-posted config before moment request route answer after its =
+posted : (before : State) (moment : ℕ) (body : List ℕ) (collection : ℕ) (answer : Answer) (after : State)
+    → AddsBody before moment body collection answer after → IsHistory before.library after.library
+posted before moment body collection answer after its =
     subst (λ (state : State). IsHistory before.library state.library) (sym its.after_is)
     (one_change before.library (with_added its.new its.text before).library
-    (inl (added before.library its.info.id moment its.adding.posted.objects.items its.adding.outcomes its.new its.adding.addition)))
+    (inl (added before.library collection moment its.adding.posted.objects.items its.adding.outcomes its.new its.adding.addition)))
 
-deleted : (config : Config) (before : State) (route : Route) (query : Query) (answer : Answer) (after : State)
-    → Deletes config before route query answer after → IsHistory before.library after.library
-deleted config before route query answer after its =
+deleted : (before : State) (collection : ℕ) (id : Id) (query : Query) (answer : Answer) (after : State)
+    → RemovesObject before collection id query answer after → IsHistory before.library after.library
+deleted before collection id query answer after its =
     subst (λ (state : State). IsHistory before.library state.library) (sym its.after_is)
     (one_change before.library (without_dates its.dates before).library (inr (record { dates = its.dates; after_is = refl })))
 
-done : (config : Config) (before : State) (moment : ℕ) (request : Request) (route : Route) (query : Query) (method : Method) (answer : Answer) (after : State)
-    → Does config before moment request route query method answer after → IsHistory before.library after.library
-done config before moment request route query Get answer after does = unchanged before after does.1
-done config before moment request route query Head answer after none = absurd none
-done config before moment request route query Post answer after does = posted config before moment request route answer after does
-done config before moment request route query Delete answer after does = deleted config before route query answer after does
-done config before moment request route query Other answer after none = absurd none
+done : (config : Config) (before : State) (moment : ℕ) (body : List ℕ) (query : Query) (operation : Operation) (answer : Answer) (after : State)
+    → Does config before moment body query operation answer after → IsHistory before.library after.library
+done config before moment body query (Read resource) answer after does = unchanged before after does.1
+done config before moment body query (Add info) answer after does = posted before moment body info.id answer after does
+done config before moment body query (Remove info id) answer after does = deleted before info.id id query answer after does
 
 routed : (config : Config) (before : State) (moment : ℕ) (request : Request) (route : Route) (text : List ℕ) (answer : Answer) (after : State)
     → RouteStep config before moment request route text answer after → IsHistory before.library after.library
 routed config before moment request route text answer after (inl refused) = unchanged before after refused.3
 routed config before moment request route text answer after (inr its) =
-    done config before moment request route its.query request.method answer after its.does
+    done config before moment request.body its.query its.operation answer after its.does
 
 stepped : (config : Config) (before : State) (moment : ℕ) (request : Request) (answer : Answer) (after : State)
     → Step config before moment request answer after → IsHistory before.library after.library
