@@ -6,31 +6,21 @@ use Rattle.std.proofs.lemmas.Slice.Eq.{bytes_eq-Decides}
 use Rattle.std.proofs.lemmas.List.Elements.{Contains-append_left, Contains-append_right, Contains-append_cases, Contains-push, Contains-push_cases}
 use Rattle.stix_ids.specs.declared.id.Id.{Id}
 use Rattle.stix_ids.specs.declared.pick.Pick.{Pick}
-use Rattle.stix_ids.specs.Identifier.{IsTextOfId}
-use Rattle.http_messages.specs.declared.request.Request.{Request}
 use Rattle.http_messages.specs.declared.status.Status.TheVariants.{Accepted}
 use Rattle.taxii_exchange.specs.declared.answer.Answer.{Answer}
 use Rattle.taxii_routes.specs.declared.query.Query.{Query}
-use Rattle.taxii_routes.specs.declared.route.Route.{Route}
-use Rattle.taxii_routes.specs.declared.route.Route.TheVariants.{Objects, Object}
 use Rattle.taxii_rows.specs.declared.stored_row.StoredRow.{StoredRow}
 use Rattle.taxii_rows.specs.StoreState.{StoreState, dates_of, AscendFrom}
 use Rattle.taxii_store.specs.Addition.{IsAddition}
 use Rattle.taxii_store.specs.Deleting.{AreDatesTaken}
-use Rattle.taxii_bodies.specs.declared.collections.CollectionInfo.{CollectionInfo}
-use Rattle.taxii_bodies.specs.declared.problem.Problem.TheVariants.{BadValue, Repeated, Forbidden, NotFound, NotAcceptable, UnsupportedMediaType, NotJson, NotList, StoreFault, DatesUsedUp}
-use Rattle.taxii_exchange.specs.declared.config.Config.{Config}
 use Rattle.taxii_exchange.specs.declared.refusal.Refusal.{Refusal}
-use Rattle.taxii_exchange.specs.declared.refusal.Refusal.TheVariants.{NotAllowed, Problem, NoMemory}
 use Rattle.taxii_exchange.specs.AnswersToRequests.{body_answer}
-use Rattle.taxii_service.specs.Finding.{NamesCollection}
 use Rattle.taxii_service.specs.declared.state.State.{State}
 use Rattle.taxii_exchange.specs.Statuses.{next_number}
-use Rattle.taxii_service.specs.declared.post_refusal.PostRefusal.TheVariants as post
-use Rattle.taxii_service.specs.Posted.{IsUnreadableBody, IsPosted}
+use Rattle.taxii_service.specs.Posted.{IsNotJson, HasNoObjects, IsUnreadableBody, IsPosted}
 use Rattle.taxii_service.specs.Adding.{IsAdding, LacksDatesForAddition, CannotAdd, IsStatusReport, with_added}
 use Rattle.taxii_service.specs.Deleting.{deleted_picks, AllowsStandard, AreDeleted, without_dates}
-use Rattle.taxii_service.specs.Step.{Posts, Deletes, CannotPost}
+use Rattle.taxii_service.specs.Operation.{AddsBody, RemovesObject}
 use Rattle.taxii_store.specs.History.{IsDated}
 use Rattle.taxii_theorems.proofs.EntryLemmas.{Laws, IsSamePosted, one_posted, list_or_none}
 use Rattle.taxii_theorems.proofs.AdditionLemmas.{one_addition, dates_left}
@@ -39,17 +29,6 @@ use Rattle.taxii_theorems.proofs.ReportLemmas.{one_text_of_report}
 -- one answer, and one state
 abbrev pub IsOne : Answer → Answer → State → State → Type 0
 IsOne answer other first second = (answer ≡ other) × (first ≡ second)
-
-one_info : (text : List ℕ) (infos : List CollectionInfo) (first second : CollectionInfo) → NamesCollection text infos first → NamesCollection text infos second → first ≡ second
-one_info text infos first second names also = let same : Some first ≡ Some second = sym names ∙ also in cc
-
--- a route to objects leads to one collection
-one_named : (infos : List CollectionInfo) (route : Route) (text other : List ℕ) (first second : CollectionInfo) → route ≡ Objects text → route ≡ Objects other
-    → NamesCollection text infos first → NamesCollection other infos second → first ≡ second
-one_named infos route text other first second is also_is names also =
-    let routes : Objects text ≡ Objects other = sym is ∙ also_is in
-    let texts : text ≡ other = cc in
-    one_info other infos first second (subst (λ (its : List ℕ). NamesCollection its infos first) texts names) also
 
 -- ---- an addition
 
@@ -72,80 +51,53 @@ ascends_after : (before after : State) (new : List StoredRow) (text : List ℕ) 
 ascends_after before after new text dated same =
     subst (λ (rows : List StoredRow). AscendFrom 1 (dates_of rows)) (ap (λ (state : State). state.library.rows) same) dated.ascend
 
-pub one_post : Laws → (config : Config) (before first second : State) (moment : ℕ) (request : Request) (route : Route) (answer other : Answer) → IsDated second.library
-    → Posts config before moment request route answer first → Posts config before moment request route other second → IsOne answer other first second
-one_post laws config before first second moment request route answer other dated its also =
-    let same : its.info ≡ also.info = one_named config.collections route its.collection also.collection its.info also.info its.route_is also.route_is its.named also.named in
-    let one = one_adding laws before also.info.id moment request.body its.new also.new its.text also.text (ascends_after before second also.new also.text dated also.after_is)
-    (subst (λ (i : CollectionInfo). IsAdding before i.id moment request.body its.new its.text) same its.adding) also.adding in (
+pub one_post : Laws → (before first second : State) (moment : ℕ) (body : List ℕ) (collection : ℕ) (answer other : Answer) → IsDated second.library
+    → AddsBody before moment body collection answer first → AddsBody before moment body collection other second → IsOne answer other first second
+one_post laws before first second moment body collection answer other dated its also =
+    let one = one_adding laws before collection moment body its.new also.new its.text also.text (ascends_after before second also.new also.text dated also.after_is)
+    its.adding also.adding in (
       its.answer_is ∙ ap (body_answer Accepted) one.1 ∙ sym also.answer_is,
       its.after_is ∙ ap (λ (rows : List StoredRow). with_added rows its.text before) one.0 ∙ ap (λ (t : List ℕ). with_added also.new t before) one.1 ∙ sym also.after_is,
     )
 
 -- ---- why nothing is added
 
-abbrev Lacks : State → ℕ → ℕ → List ℕ → Refusal → Type 0
-Lacks before collection moment body refusal =
-    (IsUnreadableBody body post.NotJson × (refusal ≡ Problem NotJson)) ⊎ (IsUnreadableBody body post.NotList × (refusal ≡ Problem NotList))
-    ⊎ (LacksDatesForAddition before collection moment body × (refusal ≡ Problem DatesUsedUp))
-
-lacks : (before : State) (collection moment : ℕ) (body : List ℕ) (refusal : Refusal) → CannotAdd before collection moment body refusal → Lacks before collection moment body refusal
-lacks before collection moment body (NotAllowed its) none = absurd none
-lacks before collection moment body (Problem (BadValue param)) none = absurd none
-lacks before collection moment body (Problem (Repeated param)) none = absurd none
-lacks before collection moment body (Problem Forbidden) none = absurd none
-lacks before collection moment body (Problem NotFound) none = absurd none
-lacks before collection moment body (Problem NotAcceptable) none = absurd none
-lacks before collection moment body (Problem UnsupportedMediaType) none = absurd none
-lacks before collection moment body (Problem NotJson) its = inl (its, refl)
-lacks before collection moment body (Problem NotList) its = inr (inl (its, refl))
-lacks before collection moment body (Problem StoreFault) none = absurd none
-lacks before collection moment body (Problem DatesUsedUp) its = inr (inr (its, refl))
-lacks before collection moment body NoMemory none = absurd none
-
 -- a body with no value, or no list, holds nothing
-no_value : (body : List ℕ) (moment : ℕ) (posted : _) → IsUnreadableBody body post.NotJson → IsPosted body moment posted → ⊥
+no_value : (body : List ℕ) (moment : ℕ) (posted : _) → IsNotJson body → IsPosted body moment posted → ⊥
 no_value body moment posted none its = none its.entries_are.whole its.entries_are.value
 
-no_list : (body : List ℕ) (moment : ℕ) (posted : _) → IsUnreadableBody body post.NotList → IsPosted body moment posted → ⊥
+no_list : (body : List ℕ) (moment : ℕ) (posted : _) → HasNoObjects body → IsPosted body moment posted → ⊥
 no_list body moment posted none its = list_or_none body (codes "objects") its.entries its.entries_are none
 
-one_lack : (before : State) (collection moment : ℕ) (body : List ℕ) (first second : Refusal) → Lacks before collection moment body first → Lacks before collection moment body second
+one_unreadable : (body : List ℕ) (first second : Refusal) → IsUnreadableBody body first → IsUnreadableBody body second → first ≡ second
+one_unreadable body first second (inl its) (inl also) = its.0 ∙ sym also.0
+one_unreadable body first second (inl its) (inr also) = absurd (its.1 also.1.whole also.1.value)
+one_unreadable body first second (inr its) (inl also) = absurd (also.1 its.1.whole its.1.value)
+one_unreadable body first second (inr its) (inr also) = its.0 ∙ sym also.0
+
+unreadable_posted : (body : List ℕ) (moment : ℕ) (posted : _) (refusal : Refusal) → IsUnreadableBody body refusal → IsPosted body moment posted → ⊥
+unreadable_posted body moment posted refusal (inl none) its = no_value body moment posted none.1 its
+unreadable_posted body moment posted refusal (inr none) its = no_list body moment posted none.1 its
+
+pub one_lack : (before : State) (collection moment : ℕ) (body : List ℕ) (first second : Refusal) → CannotAdd before collection moment body first → CannotAdd before collection moment body second
     → first ≡ second
-one_lack before collection moment body first second (inl its) (inl also) = its.1 ∙ sym also.1
-one_lack before collection moment body first second (inl its) (inr (inl also)) = absurd (its.0 also.0.whole also.0.value)
-one_lack before collection moment body first second (inl its) (inr (inr also)) = absurd (no_value body moment also.0.posted its.0 also.0.posted_is)
-one_lack before collection moment body first second (inr (inl its)) (inl also) = absurd (also.0 its.0.whole its.0.value)
-one_lack before collection moment body first second (inr (inl its)) (inr (inl also)) = its.1 ∙ sym also.1
-one_lack before collection moment body first second (inr (inl its)) (inr (inr also)) = absurd (no_list body moment also.0.posted its.0 also.0.posted_is)
-one_lack before collection moment body first second (inr (inr its)) (inl also) = absurd (no_value body moment its.0.posted also.0 its.0.posted_is)
-one_lack before collection moment body first second (inr (inr its)) (inr (inl also)) = absurd (no_list body moment its.0.posted also.0 its.0.posted_is)
-one_lack before collection moment body first second (inr (inr its)) (inr (inr also)) = its.1 ∙ sym also.1
+one_lack before collection moment body first second (inl its) (inl also) = one_unreadable body first second its also
+one_lack before collection moment body first second (inl its) (inr also) = absurd (unreadable_posted body moment also.1.posted first its also.1.posted_is)
+one_lack before collection moment body first second (inr its) (inl also) = absurd (unreadable_posted body moment its.1.posted second also its.1.posted_is)
+one_lack before collection moment body first second (inr its) (inr also) = its.0 ∙ sym also.0
 
 adds_or_lacks : Laws → (before : State) (collection moment : ℕ) (body : List ℕ) (new : List StoredRow) (text : List ℕ) (refusal : Refusal) → IsAdding before collection moment body new text
-    → Lacks before collection moment body refusal → ⊥
-adds_or_lacks laws before collection moment body new text refusal its (inl none) = no_value body moment its.posted none.0 its.posted_is
-adds_or_lacks laws before collection moment body new text refusal its (inr (inl none)) = no_list body moment its.posted none.0 its.posted_is
-adds_or_lacks laws before collection moment body new text refusal its (inr (inr (lack, is))) =
+    → CannotAdd before collection moment body refusal → ⊥
+adds_or_lacks laws before collection moment body new text refusal its (inl none) = unreadable_posted body moment its.posted refusal none its.posted_is
+adds_or_lacks laws before collection moment body new text refusal its (inr (is, lack)) =
     let posted = one_posted laws body moment its.posted lack.posted its.posted_is lack.posted_is in
     dates_left before.library collection moment lack.posted.objects.items its.outcomes new
     (subst (λ objects. IsAddition before.library collection moment objects its.outcomes new) posted.objects its.addition) lack.lacks
 
-pub one_bad_post : (config : Config) (before : State) (moment : ℕ) (request : Request) (route : Route) (first second : Refusal)
-    → CannotPost config before moment request route first → CannotPost config before moment request route second → first ≡ second
-one_bad_post config before moment request route first second its also =
-    let same : its.info ≡ also.info = one_named config.collections route its.collection also.collection its.info also.info its.route_is also.route_is its.named also.named in
-    one_lack before also.info.id moment request.body first second
-    (lacks before also.info.id moment request.body first (subst (λ (i : CollectionInfo). CannotAdd before i.id moment request.body first) same its.cannot))
-    (lacks before also.info.id moment request.body second also.cannot)
-
-pub posts_or_cannot : Laws → (config : Config) (before after : State) (moment : ℕ) (request : Request) (route : Route) (answer : Answer) (refusal : Refusal)
-    → Posts config before moment request route answer after → CannotPost config before moment request route refusal → ⊥
-posts_or_cannot laws config before after moment request route answer refusal its other =
-    let same : its.info ≡ other.info = one_named config.collections route its.collection other.collection its.info other.info its.route_is other.route_is its.named other.named in
-    adds_or_lacks laws before other.info.id moment request.body its.new its.text refusal
-    (subst (λ (i : CollectionInfo). IsAdding before i.id moment request.body its.new its.text) same its.adding)
-    (lacks before other.info.id moment request.body refusal other.cannot)
+pub posts_or_cannot : Laws → (before after : State) (moment : ℕ) (body : List ℕ) (collection : ℕ) (answer : Answer) (refusal : Refusal)
+    → AddsBody before moment body collection answer after → CannotAdd before collection moment body refusal → ⊥
+posts_or_cannot laws before after moment body collection answer refusal its other =
+    adds_or_lacks laws before collection moment body its.new its.text refusal its.adding other
 
 -- ---- a deletion
 
@@ -223,16 +175,8 @@ one_deleted store collection id query first second its also = not_apart first se
     let not : AllowsStandard query → ⊥ = λ allows. apart (one_taken store.rows collection id (deleted_picks query) first second (its.taken allows) (also.taken allows)) in
     apart (its.none not ∙ sym (also.none not)))
 
-pub one_delete : Laws → ((text : List ℕ) (first second : Id) → IsTextOfId text first → IsTextOfId text second → first ≡ second) → (config : Config) (before first second : State) (route : Route) (query : Query)
-    (answer other : Answer) → Deletes config before route query answer first → Deletes config before route query other second → IsOne answer other first second
-one_delete laws one config before first second route query answer other its also =
-    let routes : Object its.collection its.object ≡ Object also.collection also.object = sym its.route_is ∙ also.route_is in
-    let collection : its.collection ≡ also.collection = cc in
-    let object : its.object ≡ also.object = cc in
-    let same : its.info ≡ also.info = one_info also.collection config.collections its.info also.info
-    (subst (λ (text : List ℕ). NamesCollection text config.collections its.info) collection its.named) also.named in
-    let same_id : its.id ≡ also.id = one also.object its.id also.id (subst (λ (text : List ℕ). IsTextOfId text its.id) object its.text_of) also.text_of in
-    let all : its.dates ≡ also.dates = one_deleted before.library also.info.id also.id query its.dates also.dates
-    (subst (λ (i : CollectionInfo). AreDeleted before.library i.id also.id query its.dates) same
-    (subst (λ (i : Id). AreDeleted before.library its.info.id i query its.dates) same_id its.deleted)) also.deleted in
+pub one_delete : (before first second : State) (collection : ℕ) (id : Id) (query : Query) (answer other : Answer)
+    → RemovesObject before collection id query answer first → RemovesObject before collection id query other second → IsOne answer other first second
+one_delete before first second collection id query answer other its also =
+    let all : its.dates ≡ also.dates = one_deleted before.library collection id query its.dates also.dates its.deleted also.deleted in
     (its.answer_is ∙ sym also.answer_is, its.after_is ∙ ap (λ (ds : List ℕ). without_dates ds before) all ∙ sym also.after_is)

@@ -1,4 +1,5 @@
 mod BodyLemmas
+mod ResourceLemmas
 mod ReadingLemmas
 mod RefusalLemmas
 mod EntryLemmas

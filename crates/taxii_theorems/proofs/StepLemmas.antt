@@ -1,7 +1,7 @@
 -- A request that is neither a POST nor a DELETE has one step.
 use Rattle.std.proofs.Common.{◌≡◌, ◌≢◌, ◌⊎◌, inl, inr, ℕ, List, [], Option, unwrap_or, refl, sym, subst, ◌∙◌}
 use Rattle.http_messages.specs.declared.method.Method.{Method}
-use Rattle.http_messages.specs.declared.method.Method.TheVariants.{Get, Head, Post, Delete, Other}
+use Rattle.http_messages.specs.declared.method.Method.TheVariants.{Post, Delete}
 use Rattle.http_messages.specs.declared.request.Request.{Request}
 use Rattle.taxii_exchange.specs.declared.answer.Answer.{Answer}
 use Rattle.taxii_routes.specs.declared.query.Query.{Query}
@@ -13,14 +13,16 @@ use Rattle.taxii_bodies.specs.declared.problem.Problem.TheVariants.{NotFound}
 use Rattle.taxii_exchange.specs.declared.config.Config.{Config}
 use Rattle.taxii_exchange.specs.declared.refusal.Refusal.{Refusal}
 use Rattle.taxii_exchange.specs.declared.refusal.Refusal.TheVariants.{NotAllowed, Problem, NoMemory}
-use Rattle.taxii_exchange.specs.declared.rights.Rights.{Rights}
 use Rattle.taxii_exchange.specs.AnswersToRequests.{answer_to_problem}
 use Rattle.taxii_exchange.specs.Checking.{IsFit, IsRefusedByCheck}
-use Rattle.taxii_service.specs.Finding.{IsFound, allowed_of}
-use Rattle.taxii_service.specs.Reading.{IsGetAnswer, IsNoResource}
+use Rattle.taxii_service.specs.Resource.{Resource, allowed, rights_to}
+use Rattle.taxii_service.specs.Finding.{IsResource, HasNoResource}
+use Rattle.taxii_service.specs.Reading.{IsGetAnswer}
+use Rattle.taxii_service.specs.Operation.{Operation, Read, Add, Remove, IsOperation, Does}
 use Rattle.taxii_service.specs.declared.state.State.{State}
-use Rattle.taxii_service.specs.Step.{Does, CannotDo, IsRefusedResource, IsDone, IsAnswerTo, RouteStep, Step}
-use Rattle.taxii_theorems.proofs.ReadingLemmas.{Laws as Readings, one_reading, one_set_of_rights}
+use Rattle.taxii_service.specs.Step.{IsUndone, IsRefusedResource, IsDone, IsAnswerTo, RouteStep, Step}
+use Rattle.taxii_theorems.proofs.ReadingLemmas.{Laws as Readings, one_reading}
+use Rattle.taxii_theorems.proofs.ResourceLemmas.{one_resource}
 use Rattle.taxii_theorems.proofs.RefusalLemmas.{Laws as Refusals, one_refusal, not_refused}
 
 -- the laws of lower floors
@@ -38,21 +40,19 @@ IsIdle method = (method ≢ Post) × (method ≢ Delete)
 
 -- ---- what is done
 
-can_do : (config : Config) (before : State) (moment : ℕ) (request : Request) (route : Route) (method : Method) (refusal : Refusal) → IsIdle method
-    → CannotDo config before moment request route method refusal → ⊥
-can_do config before moment request route Get refusal idle none = none
-can_do config before moment request route Head refusal idle none = none
-can_do config before moment request route Post refusal idle cannot = idle.0 refl
-can_do config before moment request route Delete refusal idle none = none
-can_do config before moment request route Other refusal idle none = none
+can_do : (before : State) (moment : ℕ) (request : Request) (resource : Resource) (text : List ℕ) (refusal : Refusal) → IsIdle request.method
+    → IsUndone before moment request resource text refusal → ⊥
+can_do before moment request resource text refusal idle undone =
+    let (info, operation_is, cannot) = undone.cannot in
+    idle.0 (subst (λ (operation : Operation). IsOperation request.method resource operation) operation_is undone.operation_is).0
 
-reads : (config : Config) (before : State) (moment : ℕ) (request : Request) (route : Route) (query : Query) (method : Method) (answer : Answer) (after : State) → IsIdle method
-    → Does config before moment request route query method answer after → IsGetAnswer config before route query answer × (after ≡ before)
-reads config before moment request route query Get answer after idle does = does
-reads config before moment request route query Head answer after idle none = absurd none
-reads config before moment request route query Post answer after idle does = absurd (idle.0 refl)
-reads config before moment request route query Delete answer after idle does = absurd (idle.1 refl)
-reads config before moment request route query Other answer after idle none = absurd none
+reads : (config : Config) (before : State) (moment : ℕ) (body : List ℕ) (query : Query) (method : Method) (resource : Resource) (operation : Operation) (answer : Answer) (after : State)
+    → IsIdle method → IsOperation method resource operation → Does config before moment body query operation answer after
+    → IsGetAnswer config before resource query answer × (after ≡ before)
+reads config before moment body query method resource (Read its) answer after idle is does =
+    (subst (λ (r : Resource). IsGetAnswer config before r query answer) is.1 does.0, does.1)
+reads config before moment body query method resource (Add info) answer after idle is does = absurd (idle.0 is.0)
+reads config before moment body query method resource (Remove info id) answer after idle is does = absurd (idle.1 is.0)
 
 -- ---- what is refused
 
@@ -63,34 +63,34 @@ one_answer_to method NoMemory first second none also = absurd none
 
 -- no resource, or one that stands against it
 abbrev IsBarred : Config → State → Request → Route → List ℕ → Refusal → Type 0
-IsBarred config before request route text refusal = (IsNoResource config before route × (refusal ≡ Problem NotFound))
-    ⊎ ((rights : Rights) × IsFound config.collections before route rights × IsRefusedByCheck (allowed_of route) rights request text refusal)
+IsBarred config before request route text refusal = (HasNoResource config.collections before route × (refusal ≡ Problem NotFound))
+    ⊎ ((resource : Resource) × IsResource config.collections before route resource × IsRefusedByCheck (allowed resource) (rights_to resource) request text refusal)
 
 barred : (config : Config) (before : State) (moment : ℕ) (request : Request) (route : Route) (text : List ℕ) (refusal : Refusal) → IsIdle request.method
     → IsRefusedResource config before moment request route text refusal → IsBarred config before request route text refusal
 barred config before moment request route text refusal idle (inl none) = inl none
-barred config before moment request route text refusal idle (inr (rights, found, inl refused)) = inr (rights, found, refused)
-barred config before moment request route text refusal idle (inr (rights, found, inr (query, fit, asks, cannot))) =
-    absurd (can_do config before moment request route request.method refusal idle cannot)
+barred config before moment request route text refusal idle (inr (resource, found, inl refused)) = inr (resource, found, refused)
+barred config before moment request route text refusal idle (inr (resource, found, inr undone)) =
+    absurd (can_do before moment request resource text refusal idle undone)
 
 one_bar : Laws → (config : Config) (before : State) (request : Request) (route : Route) (text : List ℕ) (first second : Refusal)
     → IsBarred config before request route text first → IsBarred config before request route text second → first ≡ second
 one_bar laws config before request route text first second (inl one) (inl also) = one.1 ∙ sym also.1
 one_bar laws config before request route text first second (inl one) (inr also) = absurd (one.0 also.0 also.1)
 one_bar laws config before request route text first second (inr one) (inl also) = absurd (also.0 one.0 one.1)
-one_bar laws config before request route text first second (inr (rights, found, one)) (inr (others, there, also)) =
-    let same : rights ≡ others = one_set_of_rights config.collections before route rights others found there in
-    one_refusal laws.refusals (allowed_of route) others request text first second
-    (subst (λ (r : Rights). IsRefusedByCheck (allowed_of route) r request text first) same one) also
+one_bar laws config before request route text first second (inr (resource, found, one)) (inr (others, there, also)) =
+    let same : resource ≡ others = one_resource laws.readings.identifier config.collections before route resource others found there in
+    one_refusal laws.refusals (allowed others) (rights_to others) request text first second
+    (subst (λ (r : Resource). IsRefusedByCheck (allowed r) (rights_to r) request text first) same one) also
 
-not_barred : Laws → (config : Config) (before : State) (request : Request) (route : Route) (text : List ℕ) (rights : Rights) (query : Query) (refusal : Refusal)
-    → IsFound config.collections before route rights → IsFit (allowed_of route) rights request → IsQueryOf (pairs_of text) query
+not_barred : Laws → (config : Config) (before : State) (request : Request) (route : Route) (text : List ℕ) (resource : Resource) (query : Query) (refusal : Refusal)
+    → IsResource config.collections before route resource → IsFit (allowed resource) (rights_to resource) request → IsQueryOf (pairs_of text) query
     → IsBarred config before request route text refusal → ⊥
-not_barred laws config before request route text rights query refusal found fit asks (inl none) = none.0 rights found
-not_barred laws config before request route text rights query refusal found fit asks (inr (others, there, refused)) =
-    let same : others ≡ rights = one_set_of_rights config.collections before route others rights there found in
-    not_refused laws.refusals (allowed_of route) rights request text query refusal fit asks
-    (subst (λ (r : Rights). IsRefusedByCheck (allowed_of route) r request text refusal) same refused)
+not_barred laws config before request route text resource query refusal found fit asks (inl none) = none.0 resource found
+not_barred laws config before request route text resource query refusal found fit asks (inr (others, there, refused)) =
+    let same : others ≡ resource = one_resource laws.readings.identifier config.collections before route others resource there found in
+    not_refused laws.refusals (allowed resource) (rights_to resource) request text query refusal fit asks
+    (subst (λ (r : Resource). IsRefusedByCheck (allowed r) (rights_to r) request text refusal) same refused)
 
 -- ---- a route
 
@@ -98,10 +98,12 @@ one_done : Laws → (config : Config) (before first second : State) (moment late
     → IsDone config before moment request route text answer first → IsDone config before later request route text other second → answer ≡ other
 one_done laws config before first second moment later request route text answer other idle one also =
     let same : one.query ≡ also.query = laws.query (pairs_of text) one.query also.query one.query_is also.query_is in
-    let read = reads config before moment request route one.query request.method answer first idle one.does in
-    let again = reads config before later request route also.query request.method other second idle also.does in
-    one_reading laws.readings config before route also.query answer other
-    (subst (λ (q : Query). IsGetAnswer config before route q answer) same read.0) again.0
+    let resource : one.resource ≡ also.resource = one_resource laws.readings.identifier config.collections before route one.resource also.resource one.found also.found in
+    let read = reads config before moment request.body one.query request.method one.resource one.operation answer first idle one.operation_is one.does in
+    let again = reads config before later request.body also.query request.method also.resource also.operation other second idle also.operation_is also.does in
+    one_reading laws.readings config before also.resource also.query answer other
+    (subst (λ (r : Resource). IsGetAnswer config before r also.query answer) resource
+    (subst (λ (q : Query). IsGetAnswer config before one.resource q answer) same read.0)) again.0
 
 one_route : Laws → (config : Config) (before first second : State) (moment later : ℕ) (request : Request) (route : Route) (text : List ℕ) (answer other : Answer) → IsIdle request.method
     → RouteStep config before moment request route text answer first → RouteStep config before later request route text other second → answer ≡ other
@@ -110,10 +112,10 @@ one_route laws config before first second moment later request route text answer
     (barred config before moment request route text refusal idle refused) (barred config before later request route text refusal_too idle refused_too) in
     one_answer_to request.method refusal_too answer other (subst (λ (r : Refusal). IsAnswerTo request.method r answer) one told) told_too
 one_route laws config before first second moment later request route text answer other idle (inl (refusal, refused, told, same)) (inr done) =
-    absurd (not_barred laws config before request route text done.rights done.query refusal done.found done.fit done.query_is
+    absurd (not_barred laws config before request route text done.resource done.query refusal done.found done.fit done.query_is
     (barred config before moment request route text refusal idle refused))
 one_route laws config before first second moment later request route text answer other idle (inr done) (inl (refusal, refused, told, same)) =
-    absurd (not_barred laws config before request route text done.rights done.query refusal done.found done.fit done.query_is
+    absurd (not_barred laws config before request route text done.resource done.query refusal done.found done.fit done.query_is
     (barred config before later request route text refusal idle refused))
 one_route laws config before first second moment later request route text answer other idle (inr done) (inr also) =
     one_done laws config before first second moment later request route text answer other idle done also
@@ -150,7 +152,7 @@ route_stays : (config : Config) (before after : State) (moment : ℕ) (request :
     → RouteStep config before moment request route text answer after → after ≡ before
 route_stays config before after moment request route text answer idle (inl (refusal, refused, told, same)) = same
 route_stays config before after moment request route text answer idle (inr done) =
-    (reads config before moment request route done.query request.method answer after idle done.does).1
+    (reads config before moment request.body done.query request.method done.resource done.operation answer after idle done.operation_is done.does).1
 
 pub stays : (config : Config) (before after : State) (moment : ℕ) (request : Request) (answer : Answer) → IsIdle request.method
     → Step config before moment request answer after → after ≡ before

@@ -4,8 +4,6 @@ use Rattle.std.specs.Prelude.{find, if◌then◌else◌}
 use Rattle.std.specs.Str.{str_to_ascii_lowercase}
 use Rattle.std.proofs.lemmas.Slice.Eq.{bytes_eq-Decides}
 use Rattle.std.proofs.lemmas.List.Elements.{All-head, All-tail}
-use Rattle.http_messages.specs.declared.method.Method.{Method}
-use Rattle.http_messages.specs.declared.method.Method.TheVariants.{Get}
 use Rattle.http_messages.specs.declared.status.Status.TheVariants.{Okay}
 use Rattle.stix_ids.specs.Uuid.{uuid_text, IsUuidOf}
 use Rattle.stix_ids.proofs.UuidLemmas.{uuid_of_text}
@@ -19,9 +17,8 @@ use Rattle.taxii_routes.specs.Target.{IsTargetOf}
 use Rattle.taxii_bodies.specs.declared.collections.CollectionInfo.{CollectionInfo}
 use Rattle.taxii_bodies.specs.Collections.{has_name}
 use Rattle.taxii_exchange.specs.declared.config.Config.{Config}
-use Rattle.taxii_service.specs.Finding.{NamesCollection}
-use Rattle.taxii_service.specs.Reading.{IsGetAnswer}
-use Rattle.taxii_service.specs.Step.{Does, IsDone}
+use Rattle.taxii_service.specs.Finding.{NamesCollection, IsResource}
+use Rattle.taxii_service.specs.Step.{IsDone}
 use Rattle.taxii_service.specs.Exchanges.{Exchange, IsExchange, WasDone}
 use Rattle.taxii_theorems.specs.Runs.{Round}
 use Rattle.taxii_theorems.specs.Following.{IsFetch}
@@ -110,11 +107,8 @@ understood laws target next round own told answered goes = record {
     asked : IsQueryOf (pairs_for target.limit target.since next) done.query
     asked = subst (λ (its : List Pair). IsQueryOf its done.query) pairs done.query_is
 
-    does : Does round.config round.exchange.before round.exchange.moment round.exchange.request was.route done.query Get round.exchange.answer round.exchange.after
-    does = subst (λ (method : Method). Does round.config round.exchange.before round.exchange.moment round.exchange.request was.route done.query method round.exchange.answer round.exchange.after) get.get done.does
-
-    reading : IsGetAnswer round.config round.exchange.before (Objects (uuid_text target.collection)) done.query round.exchange.answer
-    reading = subst (λ (route : Route). IsGetAnswer round.config round.exchange.before route done.query round.exchange.answer) route_is does.0
+    found : IsResource round.config.collections round.exchange.before (Objects (uuid_text target.collection)) done.resource
+    found = subst (λ (route : Route). IsResource round.config.collections round.exchange.before route done.resource) route_is done.found
 
     fetch : IsFetch (wanted_after target done.query.added_after) next round
     fetch = record {
@@ -129,7 +123,7 @@ understood laws target next round own told answered goes = record {
         target_is = was.target_is;
         route_is = was.route_is;
         query_is = done.query_is;
-        asks = inl (uuid_text target.collection, reading.0, route_is, reading.1, names_number laws target.collection round.config.collections reading.0 own.collection answered.numbers reading.1, refl, refl);
+        asks = inl (uuid_text target.collection, found.0, route_is, found.1, names_number laws target.collection round.config.collections found.0 own.collection answered.numbers found.1, refl, refl);
       };
       alike = asks_alike target.limit target.since next done.query asked;
       next_sent = ap (parameter_values (param_name Next)) pairs ∙ next_values target.limit target.since next;

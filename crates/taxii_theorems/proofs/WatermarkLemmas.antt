@@ -1,7 +1,5 @@
 -- No exchange gives a date past the last one that there is.
 use Rattle.std.proofs.Common.{◌≡◌, inl, inr, ℕ, ◌+◌, ◌≤◌, List, unwrap_or, [], ◌∷◌, ◌++◌, length, Option, Some, None, MatchOption, sym, subst, arith}
-use Rattle.http_messages.specs.declared.method.Method.{Method}
-use Rattle.http_messages.specs.declared.method.Method.TheVariants.{Get, Head, Post, Delete, Other}
 use Rattle.http_messages.specs.declared.request.Request.{Request}
 use Rattle.taxii_exchange.specs.declared.answer.Answer.{Answer}
 use Rattle.taxii_routes.specs.declared.query.Query.{Query}
@@ -16,7 +14,8 @@ use Rattle.taxii_store.specs.declared.add_outcome.AddOutcome.TheVariants.{Added,
 use Rattle.taxii_store.specs.Addition.{AddsObjects, first_date, watermark_after}
 use Rattle.taxii_exchange.specs.declared.config.Config.{Config}
 use Rattle.taxii_service.specs.declared.state.State.{State}
-use Rattle.taxii_service.specs.Step.{Posts, Deletes, Does, RouteStep, Step}
+use Rattle.taxii_service.specs.Operation.{Operation, Read, Add, Remove, AddsBody, Does}
+use Rattle.taxii_service.specs.Step.{RouteStep, Step}
 use Rattle.taxii_service.specs.Exchanges.{Course, Stepped, KeeperFailed, OutOfMemory, Exchange, RunsExchange, IsExchange}
 
 -- the last of the new rows is within the last date that there is
@@ -52,31 +51,25 @@ IsWithin state = state.library.watermark ≤ LAST_DATE
 unchanged : (before after : State) → after ≡ before → IsWithin before → IsWithin after
 unchanged before after same within = subst IsWithin (sym same) within
 
-posted : (config : Config) (before : State) (moment : ℕ) (request : Request) (route : Route) (answer : Answer) (after : State)
-    → Posts config before moment request route answer after → IsWithin before → IsWithin after
-posted config before moment request route answer after its within =
+posted : (before : State) (moment : ℕ) (body : List ℕ) (collection : ℕ) (answer : Answer) (after : State)
+    → AddsBody before moment body collection answer after → IsWithin before → IsWithin after
+posted before moment body collection answer after its within =
     let room = its.adding.addition.room in
     subst IsWithin (sym its.after_is)
-    (adds_within LAST_DATE before.library.watermark its.info.id (first_date before.library.watermark moment (length its.new)) before.library.rows its.adding.posted.objects.items
+    (adds_within LAST_DATE before.library.watermark collection (first_date before.library.watermark moment (length its.new)) before.library.rows its.adding.posted.objects.items
     its.adding.outcomes its.new within (omega (arith, room, within)) its.adding.addition.adds)
 
-deleted : (config : Config) (before : State) (route : Route) (query : Query) (answer : Answer) (after : State)
-    → Deletes config before route query answer after → IsWithin before → IsWithin after
-deleted config before route query answer after its within = subst IsWithin (sym its.after_is) within
-
-done : (config : Config) (before : State) (moment : ℕ) (request : Request) (route : Route) (query : Query) (method : Method) (answer : Answer) (after : State)
-    → Does config before moment request route query method answer after → IsWithin before → IsWithin after
-done config before moment request route query Get answer after does within = unchanged before after does.1 within
-done config before moment request route query Head answer after none within = absurd none
-done config before moment request route query Post answer after does within = posted config before moment request route answer after does within
-done config before moment request route query Delete answer after does within = deleted config before route query answer after does within
-done config before moment request route query Other answer after none within = absurd none
+done : (config : Config) (before : State) (moment : ℕ) (body : List ℕ) (query : Query) (operation : Operation) (answer : Answer) (after : State)
+    → Does config before moment body query operation answer after → IsWithin before → IsWithin after
+done config before moment body query (Read resource) answer after does within = unchanged before after does.1 within
+done config before moment body query (Add info) answer after does within = posted before moment body info.id answer after does within
+done config before moment body query (Remove info id) answer after does within = subst IsWithin (sym does.after_is) within
 
 routed : (config : Config) (before : State) (moment : ℕ) (request : Request) (route : Route) (text : List ℕ) (answer : Answer) (after : State)
     → RouteStep config before moment request route text answer after → IsWithin before → IsWithin after
 routed config before moment request route text answer after (inl refused) within = unchanged before after refused.3 within
 routed config before moment request route text answer after (inr its) within =
-    done config before moment request route its.query request.method answer after its.does within
+    done config before moment request.body its.query its.operation answer after its.does within
 
 stepped : (config : Config) (before : State) (moment : ℕ) (request : Request) (answer : Answer) (after : State)
     → Step config before moment request answer after → IsWithin before → IsWithin after
