@@ -2,7 +2,7 @@
 use Rattle.std.specs.Prelude.{◌≡◌, ◌≢◌, ◌⊎◌, ℕ, true, false, List}
 use Rattle.std.specs.List.{AllZip}
 use Rattle.pattern_types.specs.BlockText.{IsBlockText}
-use Rattle.pattern_lexer.specs.{declared.token.Token.Token, Spans.At, Spans.IsItself, Spans.IsIndex}
+use Rattle.pattern_lexer.specs.{declared.token.Token.Token, Spans.At, Spans.IsItself, Spans.IsIndexToken}
 use Rattle.pattern_lexer.specs.declared.token.TokenKind.TheVariants as kind
 use Rattle.pattern_lexer.specs.Values.{IsIntegerText, IsStringText, IsHexText, IsBinaryText, IsTimestampText}
 use Rattle.pattern_grammar.specs.declared.path.{StepTree.StepTree, StepTree.TheVariants.Name, StepTree.TheVariants.Index, PathTree.PathTree}
@@ -20,7 +20,7 @@ IsNameOf text token name = ((token.kind ≡ kind.String) × At IsStringText text
 
 abbrev pub IsStepOf : List ℕ → StepTree → Step → Type 0
 IsStepOf text (Name token) (step.Name name) = IsNameOf text token name
-IsStepOf text (Index token) (step.Place place) = (token.kind ≡ kind.Number) × IsIndex text token place
+IsStepOf text (Index token) (step.Place place) = (token.kind ≡ kind.Number) × IsIndexToken text token place
 IsStepOf text (Index token) step.Each = token.kind ≡ kind.Star
 IsStepOf text _ _ = ⊥
 

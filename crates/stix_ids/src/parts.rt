@@ -44,7 +44,7 @@ impl<'a> IdRef<'a> {
 
     /// The identifier, owned.
     pub fn to_id(self, alloc: Global) -> Result<Id, NoMemory>
-        ensures { IfOk result (λ id. id ≡ id_of self) }
+        ensures { IfOk result (λ id. id ≡ id_of self.entry) }
     {
         let kind = Name::from_text(alloc, self.kind)?;
         Ok(Id {

@@ -22,7 +22,9 @@ pub fn read_id(alloc: Global, text: &str) -> Result<Id, IdRefusal>
     ensures refused { (refusal : IdRefusal) → refusal ≢ NoMemory → IsRefusedId text.now refusal
         → result ≡ Err refusal }
 {
-    Ok(IdRef::read(text)?.to_id(alloc)?)
+    let parts = IdRef::read(text)?;
+    let id = parts.to_id(alloc)?;
+    Ok(id)
 }
 
 /// Whether the text is an identifier of the kind. Allocates nothing.

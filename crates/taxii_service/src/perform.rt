@@ -25,17 +25,17 @@ pub(crate) fn perform<K: Keeper>(
     operation: Operation<'_>,
 ) -> Result<Answer, Refusal>
     requires agrees { Agrees (K.kept keeper.old) state.old.library }
-    requires status { (resource : Resource) → operation_of operation ≡ Read resource
+    requires status { (resource : Resource) → operation_of operation.entry ≡ Read resource
         → HasStatus state.old resource }
     ensures agrees { Agrees (K.kept keeper.new) state.new.library }
     ensures keeper { without_rows (K.kept keeper.new) ≡ without_rows (K.kept keeper.old) }
     ensures ok { IfOk result
-        (λ answer. Does config.now state.old moment body.now query (operation_of operation)
+        (λ answer. Does config.now state.old moment body.now query (operation_of operation.entry)
         answer state.new) }
     ensures err { IfErr result (λ refusal. (refusal ≡ Refused.NoMemory)
-        ⊎ (CannotDo state.old moment body.now (operation_of operation) refusal
+        ⊎ (CannotDo state.old moment body.now (operation_of operation.entry) refusal
         ⊎ ((refusal ≡ Refused.Problem Trouble.StoreFault)
-        × MethodChanges config.now state.old moment body.now query (operation_of operation)))) }
+        × MethodChanges config.now state.old moment body.now query (operation_of operation.entry)))) }
     ensures unchanged { OnErr result (state.new ≡ state.old) }
     ensures causes { Counted (result ≡ Err (Refused.Problem Trouble.StoreFault))
         (K.faults keeper.old) (K.faults keeper.new) }

@@ -28,8 +28,8 @@ pub(crate) fn read(
     resource: Resource<'_>,
     query: Query,
 ) -> Result<Answer, NoMemory>
-    requires status { HasStatus state.now (resource_of resource) }
-    ensures { IfOk result (IsGetAnswer config.now state.now (resource_of resource) query) }
+    requires status { HasStatus state.now (resource_of resource.entry) }
+    ensures { IfOk result (IsGetAnswer config.now state.now (resource_of resource.entry) query) }
 {
     let alloc = config.alloc;
     let library = &state.library;
@@ -82,7 +82,7 @@ fn read_object(
     id: IdRef<'_>,
     query: Query,
 ) -> Result<Answer, NoMemory>
-    ensures { IfOk result (IsPageOf library.now.rows collection (Some (id_of id))
+    ensures { IfOk result (IsPageOf library.now.rows collection (Some (id_of id.entry))
         (object_query query) IsEnvelope) }
 {
     let id = id.to_id(alloc)?;
@@ -101,7 +101,7 @@ fn read_versions(
     id: IdRef<'_>,
     query: Query,
 ) -> Result<Answer, NoMemory>
-    ensures { IfOk result (IsPageOf library.now.rows collection (Some (id_of id))
+    ensures { IfOk result (IsPageOf library.now.rows collection (Some (id_of id.entry))
         (versions_query query) AreVersions) }
 {
     let id = id.to_id(alloc)?;

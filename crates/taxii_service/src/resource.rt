@@ -71,7 +71,7 @@ impl<'a> Resource<'a> {
 
     /// The methods that the resource allows.
     pub fn allow(self) -> Allow
-        ensures { result ≡ spec.allowed (spec.resource_of self) }
+        ensures { result ≡ spec.allowed (spec.resource_of self.entry) }
     {
         match self {
             Resource::Objects(_) => Allow::GetPost,
@@ -88,7 +88,7 @@ impl<'a> Resource<'a> {
 
     /// What a client may do with the resource.
     pub fn rights(self) -> Rights
-        ensures { result ≡ spec.rights_to (spec.resource_of self) }
+        ensures { result ≡ spec.rights_to (spec.resource_of self.entry) }
     {
         match self {
             Resource::Discovery

@@ -4,7 +4,7 @@ use Rattle.std.specs.Char.{IsAsciiDigit}
 use Rattle.pattern_lexer.specs.declared.{token.Token.Token, token.TokenKind.TokenKind, refusal.TokenRefusal.TokenRefusal}
 use Rattle.pattern_lexer.specs.declared.token.TokenKind.TheVariants.{SquareOpen, SquareClose, RoundOpen, RoundClose, Dot, Colon, Comma, Star, Equal, Differ, Less, LessEqual, Greater, GreaterEqual, Number, Hex, Binary, Timestamp}
 use Rattle.pattern_lexer.specs.declared.refusal.TokenRefusal.TheVariants.{BadNumber, BadTime, BadBytes}
-use Rattle.pattern_lexer.specs.{Word.IsWordStart, Word.IsHyphenWordPart, Word.HasAt, Values.HasValue, Spans.text_at}
+use Rattle.pattern_lexer.specs.{Word.IsWordStart, Word.IsHyphenWordPart, Word.HasAt, Values.HasValue, Spans.token_text_at}
 use Rattle.pattern_lexer.specs.Reading.{IsBlank, IsFirst, IsUsable, AreTokens, IsRefusalAt}
 use Rattle.pattern_lexer.specs.declared.runs.CharacterClass.{CharacterClass}
 use Rattle.pattern_lexer.specs.declared.runs.CharacterClass.TheVariants.{Blank, Digit, NamePart, Unquoted}
@@ -46,9 +46,9 @@ pub record StandsAt (text : List ℕ) (at : ℕ) (token : Token) : Type 0 where
   pub from : token.from ≡ at
   pub ordered : token.from < token.to
   pub within : token.to ≤ length text
-  pub first : IsFirst (drop at text) token.kind (text_at text token) (drop token.to text)
-  pub usable : IsUsable token.kind (text_at text token) (drop token.to text)
-  pub value : HasValue token.kind (text_at text token)
+  pub first : IsFirst (drop at text) token.kind (token_text_at text token) (drop token.to text)
+  pub usable : IsUsable token.kind (token_text_at text token) (drop token.to text)
+  pub value : HasValue token.kind (token_text_at text token)
 
 -- the result of reading the token at the offset
 abbrev pub ReadsAt : List ℕ → ℕ → Result Token TokenRefusal → Type 0

@@ -2,8 +2,8 @@
 use Rattle.std.specs.Prelude.{◌≡◌, ◌↔◌, ℕ, List, Result, IfOk, ◌⊎◌, Ok, Err}
 use Rattle.std.specs.Result.{result_err}
 use Rattle.pattern_grammar.specs.Tree.{Comparison}
-use Rattle.pattern_types.specs.{declared.leaf.Leaf.Leaf, PlainLeaf.plain_leaf, PlainLeaf.listed}
-use Rattle.pattern_reader.specs.{declared.analysis.Analysis.Analysis, declared.value_refusal.ValueRefusal.ValueRefusal, Roots.Has}
+use Rattle.pattern_types.specs.{declared.leaf.Leaf.Leaf, PlainLeaf.plain_leaf, PlainLeaf.leaves_of_list}
+use Rattle.pattern_reader.specs.{declared.analysis.Analysis.Analysis, declared.value_refusal.ValueRefusal.ValueRefusal, Roots.HasName}
 use Rattle.pattern_reader.specs.{LeafMeaning.Means, LeafMeaning.AllParts, LeafMeaning.AnyParts, declared.analysis.Chain.Chain}
 use Rattle.pattern_types.specs.Soundness.{IsSoundLeaf, AreSoundLeaves}
 use Rattle.pattern_reader.specs.ValueRefusal.{IsEarliestOf, Precedes}
@@ -22,7 +22,7 @@ pub record IsLeafOf (text : List ℕ) (c : Comparison) (leaf : Leaf) : Type 0 wh
 -- the attributes of a comparison
 pub record IsAnalysis (text : List ℕ) (c : Comparison) (analysis : Analysis) : Type 0 where
   pub at : analysis.at ≡ (first_token c).from
-  pub roots : (root : List ℕ) → Has analysis.roots root ↔ HasRoot text c root
+  pub roots : (root : List ℕ) → HasName analysis.roots root ↔ HasRoot text c root
   pub leaf : IsOutcome (IsLeafOf text c) (RefusalOfComparison text c) analysis.leaf
 
 -- the one of two refusals that precedes the other
@@ -39,16 +39,16 @@ IsJoined join _ _ _ = ⊥
 
 -- the sound operands of a chain of AND, which have a root kind in common
 pub record AreRootedOperands (text : List ℕ) (c : Comparison) (parts : List Leaf) : Type 0 where
-  pub means : AllParts text c (listed parts)
-  pub sound : AreSoundLeaves (listed parts)
+  pub means : AllParts text c (leaves_of_list parts)
+  pub sound : AreSoundLeaves (leaves_of_list parts)
   pub rooted : (root : List ℕ) × HasRoot text c root
 
 -- the sound operands of a chain of OR
 pub record AreAny (text : List ℕ) (c : Comparison) (parts : List Leaf) : Type 0 where
-  pub means : AnyParts text c (listed parts)
-  pub sound : AreSoundLeaves (listed parts)
+  pub means : AnyParts text c (leaves_of_list parts)
+  pub sound : AreSoundLeaves (leaves_of_list parts)
 
 pub record IsChain (AreParts : List ℕ → Comparison → List Leaf → Type 0) (text : List ℕ) (c : Comparison) (chain : Chain) : Type 0 where
   pub at : chain.at ≡ (first_token c).from
-  pub roots : (root : List ℕ) → Has chain.roots root ↔ HasRoot text c root
+  pub roots : (root : List ℕ) → HasName chain.roots root ↔ HasRoot text c root
   pub parts : IsOutcome (AreParts text c) (RefusalOfComparison text c) chain.parts
