@@ -1,3 +1,4 @@
+pub mod Brackets
 pub mod Following
 pub mod Table
 pub mod Memos

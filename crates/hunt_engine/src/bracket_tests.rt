@@ -1,12 +1,12 @@
 //! Evaluates each bracket at all roots of a batch together.
 
-ghost use Rattle.std.specs.Prelude.{◌≡◌, All, Contains, map, OnOk};
+ghost use Rattle.std.specs.Prelude.{◌≡◌, All, Contains, OnOk};
 ghost use Rattle.stix_bundles.specs.Objects.{data_in};
-ghost use Rattle.pattern_types.specs.PlainLeaf.{plain_leaf};
 ghost use Rattle.pattern_types.specs.Soundness.{IsSoundLeaf};
 ghost use Rattle.hunt_engine.specs.inner.Memos.{AddsPositions};
 ghost use Rattle.hunt_engine.specs.inner.RootBatches.{IsMetBracket, IsCertain, AreCertain};
 ghost use Rattle.hunt_engine.specs.inner.RootBatches.{AddsMatching};
+ghost use Rattle.hunt_engine.specs.inner.Brackets.{bracket_leaves};
 
 use crate::Memo;
 use crate::brackets::Brackets;
@@ -26,12 +26,10 @@ pub(crate) fn test_brackets(
     bundle: &Bundle,
     memo: &mut Memo,
 ) -> Result<(), NoMemory>
-    requires sound { All IsSoundLeaf
-        (map plain_leaf (map (λ leaf. leaf.now) brackets.now.leaves.items)) }
-    requires certain { AreCertain (data_in bundle.now)
-        (map plain_leaf (map (λ leaf. leaf.now) brackets.now.leaves.items)) pairs.now }
+    requires sound { All IsSoundLeaf (bracket_leaves brackets.now) }
+    requires certain { AreCertain (data_in bundle.now) (bracket_leaves brackets.now) pairs.now }
     ensures { OnOk result (AddsMatching (data_in bundle.now)
-        (map plain_leaf (map (λ leaf. leaf.now) brackets.now.leaves.items)) pairs.now memo.old
+        (bracket_leaves brackets.now) pairs.now memo.old
         memo.new) }
 {
     let mut own = 0;
@@ -57,13 +55,11 @@ fn test_bracket(
     bundle: &Bundle,
     memo: &mut Memo,
 ) -> Result<(), NoMemory>
-    requires sound { All IsSoundLeaf
-        (map plain_leaf (map (λ leaf. leaf.now) brackets.now.leaves.items)) }
+    requires sound { All IsSoundLeaf (bracket_leaves brackets.now) }
     requires certain { IsCertain (data_in bundle.now)
-        (map plain_leaf (map (λ leaf. leaf.now) brackets.now.leaves.items)) position roots.now }
+        (bracket_leaves brackets.now) position roots.now }
     ensures { OnOk result (AddsPositions (λ root added. (added ≡ position) × Contains roots.now root
-        × IsMetBracket (data_in bundle.now) (map plain_leaf
-        (map (λ leaf. leaf.now) brackets.now.leaves.items)) root position) memo.old memo.new) }
+        × IsMetBracket (data_in bundle.now) (bracket_leaves brackets.now) root position) memo.old memo.new) }
 {
     let Some(leaf) = brackets.leaves.get(position as usize) else {
         return Ok(());

@@ -1,15 +1,15 @@
 //! Which brackets hold at a row: those that hold at one of its roots.
 
-ghost use Rattle.std.specs.Prelude.{◌≡◌, ◌↔◌, ◌≤◌, ◌<◌, ℕ, true, All, Contains, Some, length, map};
+ghost use Rattle.std.specs.Prelude.{◌≡◌, ◌↔◌, ◌≤◌, ◌<◌, ℕ, true, All, Contains, Some, length};
 ghost use Rattle.std.specs.Prelude.{slice_get, IfOk, OnOk};
 ghost use Rattle.stix_bundles.specs.Objects.{data_in};
-ghost use Rattle.pattern_types.specs.PlainLeaf.{plain_leaf};
 ghost use Rattle.pattern_types.specs.Soundness.{IsSoundLeaf};
 ghost use Rattle.hunt_engine.specs.EngineAnswer.{NeverFalls};
 ghost use Rattle.hunt_engine.specs.Memo.{IsSoundMemo};
 ghost use Rattle.hunt_engine.specs.inner.Evaluation.{AreClear, IsEvaluated, MarksMatching};
 ghost use Rattle.hunt_engine.specs.inner.Evaluation.{MarksMore, AreOwners, AddsPosition};
 ghost use Rattle.hunt_feed.specs.Indicators.{IsAscending};
+ghost use Rattle.hunt_engine.specs.inner.Brackets.{bracket_leaves, held_leaves};
 
 use crate::Memo;
 use crate::brackets::Brackets;
@@ -39,24 +39,21 @@ pub(crate) fn evaluate(
     memo: &mut Memo,
     marks: &mut [bool],
 ) -> Result<RowBrackets, NoMemory>
-    requires sound { All IsSoundLeaf
-        (map plain_leaf (map (λ leaf. leaf.now) brackets.now.leaves.items)) }
-    requires index { index.now ≡ map (λ leaf. leaf.now) brackets.now.leaves.items }
+    requires sound { All IsSoundLeaf (bracket_leaves brackets.now) }
+    requires index { index.now ≡ held_leaves brackets.now }
     requires owned { length brackets.now.owners.items ≡ length brackets.now.leaves.items }
     requires ascend { NeverFalls brackets.now.owners.items }
-    requires right { IsSoundMemo (data_in bundle.now)
-        (map plain_leaf (map (λ leaf. leaf.now) brackets.now.leaves.items)) memo.old }
+    requires right { IsSoundMemo (data_in bundle.now) (bracket_leaves brackets.now) memo.old }
     requires count { length marks.old ≡ length brackets.now.leaves.items }
     requires clear { AreClear marks.old }
     ensures evaluated { IfOk result
-        (λ row_brackets. IsEvaluated (data_in bundle.now) roots.now
-        (map plain_leaf (map (λ leaf. leaf.now) brackets.now.leaves.items))
+        (λ row_brackets. IsEvaluated (data_in bundle.now) roots.now (bracket_leaves brackets.now)
         brackets.now.owners.items marks.new row_brackets.affected.items) }
     // The list has exactly the marked brackets, so that `clear` can unmark them.
     ensures matching { IfOk result (λ row_brackets. (at : ℕ) → slice_get marks.new at ≡ Some true
         ↔ Contains row_brackets.matching.items at) }
     ensures right { OnOk result (IsSoundMemo (data_in bundle.now)
-        (map plain_leaf (map (λ leaf. leaf.now) brackets.now.leaves.items)) memo.new) }
+        (bracket_leaves brackets.now) memo.new) }
 {
     let matching = mark_matching(alloc, brackets, index, roots, bundle, memo, marks)?;
     let affected = owners_of(alloc, brackets.owners.as_slice(), matching.as_slice())?;
@@ -73,18 +70,16 @@ fn mark_matching(
     memo: &mut Memo,
     marks: &mut [bool],
 ) -> Result<Vec<u32>, NoMemory>
-    requires sound { All IsSoundLeaf
-        (map plain_leaf (map (λ leaf. leaf.now) brackets.now.leaves.items)) }
-    requires index { index.now ≡ map (λ leaf. leaf.now) brackets.now.leaves.items }
-    requires right { IsSoundMemo (data_in bundle.now)
-        (map plain_leaf (map (λ leaf. leaf.now) brackets.now.leaves.items)) memo.old }
+    requires sound { All IsSoundLeaf (bracket_leaves brackets.now) }
+    requires index { index.now ≡ held_leaves brackets.now }
+    requires right { IsSoundMemo (data_in bundle.now) (bracket_leaves brackets.now) memo.old }
     requires count { length marks.old ≡ length brackets.now.leaves.items }
     requires clear { AreClear marks.old }
     ensures marks { IfOk result (λ positions. MarksMatching (data_in bundle.now) roots.now
-        (map plain_leaf (map (λ leaf. leaf.now) brackets.now.leaves.items))
+        (bracket_leaves brackets.now)
         marks.new positions.items) }
     ensures right { OnOk result (IsSoundMemo (data_in bundle.now)
-        (map plain_leaf (map (λ leaf. leaf.now) brackets.now.leaves.items)) memo.new) }
+        (bracket_leaves brackets.now) memo.new) }
 {
     let mut positions = Vec::new(alloc);
     for root in roots {

@@ -1,6 +1,6 @@
 //! Evaluates roots that have no entry in the memo.
 
-ghost use Rattle.std.specs.Prelude.{◌≡◌, ◌↔◌, ◌∷◌, [], IsTrue, All, map, IfOk, OnOk};
+ghost use Rattle.std.specs.Prelude.{◌≡◌, ◌↔◌, ◌∷◌, [], IsTrue, All, IfOk, OnOk};
 ghost use Rattle.stix_bundles.specs.Objects.{data_in};
 ghost use Rattle.pattern_types.specs.PlainLeaf.{plain_leaf};
 ghost use Rattle.pattern_types.specs.Soundness.{IsSoundLeaf};
@@ -8,6 +8,7 @@ ghost use Rattle.match_comparisons.specs.Tests.{LeafHolds, HoldsAt};
 ghost use Rattle.hunt_index.specs.Definite.{IsDefinite};
 ghost use Rattle.hunt_engine.specs.Memo.{AreHeld, IsSoundMemo};
 ghost use Rattle.hunt_engine.specs.inner.Memos.{IsMemoized, InsertsEmpty};
+ghost use Rattle.hunt_engine.specs.inner.Brackets.{bracket_leaves, held_leaves};
 
 use crate::Memo;
 use crate::bracket_tests::test_brackets;
@@ -32,15 +33,13 @@ pub(crate) fn memoize(
     bundle: &Bundle,
     memo: &mut Memo,
 ) -> Result<(), NoMemory>
-    requires sound { All IsSoundLeaf
-        (map plain_leaf (map (λ leaf. leaf.now) brackets.now.leaves.items)) }
-    requires index { index.now ≡ map (λ leaf. leaf.now) brackets.now.leaves.items }
-    requires right { IsSoundMemo (data_in bundle.now)
-        (map plain_leaf (map (λ leaf. leaf.now) brackets.now.leaves.items)) memo.old }
+    requires sound { All IsSoundLeaf (bracket_leaves brackets.now) }
+    requires index { index.now ≡ held_leaves brackets.now }
+    requires right { IsSoundMemo (data_in bundle.now) (bracket_leaves brackets.now) memo.old }
     ensures memo { OnOk result (IsMemoized memo.new root) }
     // Every entry is correct, of this root and of those evaluated with it.
     ensures right { OnOk result (IsSoundMemo (data_in bundle.now)
-        (map plain_leaf (map (λ leaf. leaf.now) brackets.now.leaves.items)) memo.new) }
+        (bracket_leaves brackets.now) memo.new) }
 {
     if memo.has(root) {
         return Ok(());
@@ -62,14 +61,12 @@ fn memoize_batch(
     bundle: &Bundle,
     memo: &mut Memo,
 ) -> Result<(), NoMemory>
-    requires sound { All IsSoundLeaf
-        (map plain_leaf (map (λ leaf. leaf.now) brackets.now.leaves.items)) }
-    requires index { index.now ≡ map (λ leaf. leaf.now) brackets.now.leaves.items }
-    requires right { IsSoundMemo (data_in bundle.now)
-        (map plain_leaf (map (λ leaf. leaf.now) brackets.now.leaves.items)) memo.old }
+    requires sound { All IsSoundLeaf (bracket_leaves brackets.now) }
+    requires index { index.now ≡ held_leaves brackets.now }
+    requires right { IsSoundMemo (data_in bundle.now) (bracket_leaves brackets.now) memo.old }
     ensures memo { OnOk result (IsMemoized memo.new root) }
     ensures right { OnOk result (IsSoundMemo (data_in bundle.now)
-        (map plain_leaf (map (λ leaf. leaf.now) brackets.now.leaves.items)) memo.new) }
+        (bracket_leaves brackets.now) memo.new) }
 {
     let root_batch = RootBatch::of(alloc, index, root, bundle, memo)?;
     insert_empty(alloc, root_batch.roots.as_slice(), memo)?;
@@ -96,11 +93,9 @@ fn matching_at(
     root: u32,
     bundle: &Bundle,
 ) -> Result<Items<u32>, NoMemory>
-    requires sound { All IsSoundLeaf
-        (map plain_leaf (map (λ leaf. leaf.now) brackets.now.leaves.items)) }
-    requires index { index.now ≡ map (λ leaf. leaf.now) brackets.now.leaves.items }
-    ensures { IfOk result (AreHeld (data_in bundle.now)
-        (map plain_leaf (map (λ leaf. leaf.now) brackets.now.leaves.items)) root) }
+    requires sound { All IsSoundLeaf (bracket_leaves brackets.now) }
+    requires index { index.now ≡ held_leaves brackets.now }
+    ensures { IfOk result (AreHeld (data_in bundle.now) (bracket_leaves brackets.now) root) }
 {
     let candidates = index.candidates(&[root], bundle)?;
     let mut matching = Vec::new(alloc);
