@@ -9,6 +9,7 @@ mod PickLemmas
 mod RowsLemmas
 mod HistoryLemmas
 mod WalkLemmas
+mod FitLemmas
 mod OnePageLemmas
 mod SettledLemmas
 mod CutLemmas

@@ -1,11 +1,12 @@
 -- A query has one page of a store: rows by date are told by which they are.
-use Rattle.std.proofs.Common.{◌≡◌, ◌⊎◌, inl, inr, ℕ, ◌+◌, ◌<◌, ◌≤◌, List, [], ◌∷◌, length, take, Bool, Option, refl, sym, ap, subst, ◌∙◌, arith}
+use Rattle.std.proofs.Common.{◌≡◌, ◌⊎◌, inl, inr, ℕ, ◌+◌, List, [], ◌∷◌, ◌++◌, length, Bool, Option, refl, sym, ap, subst, ◌∙◌, arith}
 use Rattle.std.specs.Prelude.{nat_lt}
 use Rattle.std.specs.List.{Contains}
 use Rattle.stix_ids.specs.declared.id.Id.{Id}
 use Rattle.taxii_rows.specs.declared.stored_row.StoredRow.{StoredRow}
 use Rattle.taxii_routes.specs.declared.query.Query.{Query}
-use Rattle.taxii_store.specs.Page.{page_size, AreAllWhere, IsPage}
+use Rattle.taxii_store.specs.Page.{FitsPage, AreAllWhere, IsPage}
+use Rattle.taxii_store.proofs.FitLemmas.{fits_less}
 use Rattle.taxii_store.proofs.RowsLemmas.{Ascends, none_in, in_cases, in_first, in_rest, least}
 
 abbrev Within : List StoredRow → List StoredRow → Type 0
@@ -54,12 +55,58 @@ meeting_same : (rows : List StoredRow) (collection : ℕ) (only : Option Id) (qu
     (a : IsPage rows collection only query first left) (b : IsPage rows collection only query second more) → a.meeting ≡ b.meeting
 meeting_same rows collection only query first second left more a b = all_same _ rows a.meeting b.meeting a.meeting_are b.meeting_are
 
+-- ---- two beginnings of the same rows
+
+-- the second has one more row at least, which the first leaves
+record IsLonger (first second left rest : List StoredRow) : Type 0 where
+  next : StoredRow
+  others : List StoredRow
+  is : second ≡ (first ++ next ∷ []) ++ others
+  leaves : left ≡ next ∷ (others ++ rest)
+
+one_longer : (x y : StoredRow) (first second left rest : List StoredRow) → x ≡ y → IsLonger first second left rest → IsLonger (x ∷ first) (y ∷ second) left rest
+one_longer x y first second left rest same longer = record {
+  next = longer.next;
+  others = longer.others;
+  is = ap (λ (r : StoredRow). r ∷ second) (sym same) ∙ ap (λ (rs : List StoredRow). x ∷ rs) longer.is;
+  leaves = longer.leaves;
+}
+
+compared : (first second left rest : List StoredRow) → first ++ left ≡ second ++ rest
+    → ((first ≡ second) × (left ≡ rest)) ⊎ (IsLonger first second left rest ⊎ IsLonger second first rest left)
+compared [] [] left rest same = inl (refl, same)
+compared [] (y ∷ second) left rest same = inr (inl (record { next = y; others = second; is = refl; leaves = same }))
+compared (x ∷ first) [] left rest same = inr (inr (record { next = x; others = first; is = refl; leaves = sym same }))
+compared (x ∷ first) (y ∷ second) left rest same =
+    let head : x ≡ y = cc same in
+    let tail : first ++ left ≡ second ++ rest = cc same in
+    elim (compared first second left rest tail) [
+      | inl both ↦ inl (ap (λ (r : StoredRow). r ∷ first) head ∙ ap (λ (rs : List StoredRow). y ∷ rs) both.0, both.1)
+      | inr (inl longer) ↦ inr (inl (one_longer x y first second left rest head longer))
+      | inr (inr longer) ↦ inr (inr (one_longer y x second first rest left (sym head) longer))
+    ]
+
+-- what is full has no longer one beside it that fits
+none_longer : (query : Query) (first second left rest : List StoredRow) → FitsPage query second
+    → ((next : StoredRow) (others : List StoredRow) → left ≡ next ∷ others → ¬ FitsPage query (first ++ next ∷ [])) → ¬ IsLonger first second left rest
+none_longer query first second left rest fits full longer =
+    full longer.next (longer.others ++ rest) longer.leaves
+    (fits_less query (first ++ longer.next ∷ []) longer.others (subst (FitsPage query) longer.is fits))
+
+both_same : (rows : List StoredRow) (collection : ℕ) (only : Option Id) (query : Query) (first second : List StoredRow) (left more : Bool)
+    (a : IsPage rows collection only query first left) (b : IsPage rows collection only query second more) → (first ≡ second) × (a.rest ≡ b.rest)
+both_same rows collection only query first second left more a b =
+    elim (compared first second a.rest b.rest (sym a.split ∙ meeting_same rows collection only query first second left more a b ∙ b.split)) [
+      | inl same ↦ same
+      | inr (inl longer) ↦ absurd (none_longer query first second a.rest b.rest b.fits a.full longer)
+      | inr (inr longer) ↦ absurd (none_longer query second first b.rest a.rest a.fits b.full longer)
+    ]
+
 pub page_same : (rows : List StoredRow) (collection : ℕ) (only : Option Id) (query : Query) (first second : List StoredRow) (left more : Bool)
     → IsPage rows collection only query first left → IsPage rows collection only query second more → first ≡ second
-page_same rows collection only query first second left more a b =
-    a.page_is ∙ ap (take (page_size query)) (meeting_same rows collection only query first second left more a b) ∙ sym b.page_is
+page_same rows collection only query first second left more a b = (both_same rows collection only query first second left more a b).0
 
 pub more_same : (rows : List StoredRow) (collection : ℕ) (only : Option Id) (query : Query) (first second : List StoredRow) (left more : Bool)
     → IsPage rows collection only query first left → IsPage rows collection only query second more → left ≡ more
 more_same rows collection only query first second left more a b =
-    a.more_is ∙ ap (λ (rs : List StoredRow). nat_lt (page_size query) (length rs)) (meeting_same rows collection only query first second left more a b) ∙ sym b.more_is
+    a.more_is ∙ ap (λ (rs : List StoredRow). nat_lt 0 (length rs)) (both_same rows collection only query first second left more a b).1 ∙ sym b.more_is

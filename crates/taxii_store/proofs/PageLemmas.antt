@@ -1,9 +1,8 @@
 -- What a walk over the candidates has found of a page.
-use Rattle.std.proofs.Common.{◌≡◌, ◌⊎◌, inl, inr, ℕ, zero, suc, ◌+◌, ◌<◌, ◌≤◌, List, [], ◌∷◌, ◌++◌, length, take, drop, get_or, Bool, true, false, cond, All, filter, Option, refl, sym, ap, subst, ◌∙◌, arith, append-nil, length-append, take_all, take-append-drop}
-use Rattle.std.specs.Prelude.{nat_lt}
+use Rattle.std.proofs.Common.{◌≡◌, ◌⊎◌, inl, inr, ℕ, zero, suc, ◌+◌, ◌<◌, ◌≤◌, List, [], ◌∷◌, ◌++◌, length, take, drop, get_or, Bool, true, false, cond, All, filter, Option, refl, sym, ap, subst, ◌∙◌, arith, append-nil, take-append-drop}
 use Rattle.std.specs.List.{Contains}
-use Rattle.std.proofs.lemmas.Bool.{false≢true, cases_lt, lt-ltb, le-ltb, cond-true, cond-false}
-use Rattle.std.proofs.lemmas.List.{take-append-le}
+use Rattle.std.proofs.lemmas.Bool.{false≢true, lt-ltb, cond-true, cond-false}
+use Rattle.std.proofs.lemmas.List.{append_assoc}
 use Rattle.std.proofs.lemmas.List.Elements.{All-weaker, All-contains, All-contains_itself, Contains-append_left, filter-append, filter_more}
 use Rattle.stix_ids.specs.declared.id.Id.{Id}
 use Rattle.taxii_rows.specs.declared.stored_row.StoredRow.{StoredRow}
@@ -11,7 +10,7 @@ use Rattle.taxii_rows.specs.StoreState.{StoreState, dates_of, AscendFrom}
 use Rattle.taxii_rows.specs.SoundRow.{IsSoundRow, IsSoundState}
 use Rattle.taxii_routes.specs.declared.query.Query.{Query}
 use Rattle.taxii_store.specs.Meeting.{MeetsQuery}
-use Rattle.taxii_store.specs.Page.{page_size, AreAllWhere, IsPage}
+use Rattle.taxii_store.specs.Page.{FitsPage, AreAllWhere, IsPage}
 use Rattle.taxii_store.specs.inner.Candidates.{AreChosen}
 use Rattle.taxii_store.proofs.SettledLemmas.{Settled, settled_meets, cons_cases}
 
@@ -68,37 +67,10 @@ ascend_kept : (least : ℕ) (test : StoredRow → Bool) (rows : List StoredRow) 
 ascend_kept least test [] ascend = tt
 ascend_kept least test (row ∷ rows) ascend = kept_ascend least (test row) row (filter test rows) ascend.0 (ascend_kept (row.date + 1) test rows ascend.1)
 
--- the first of them, where one more follows
-front : (xs ys : List StoredRow) (row : StoredRow) (zs : List StoredRow) (size : ℕ) → zs ≡ (xs ++ row ∷ []) ++ ys → length xs ≡ size
-    → (xs ≡ take size zs) × (true ≡ nat_lt size (length zs))
-front xs ys row zs size all long = (sym first, sym more)
-  where
-    pushed : length (xs ++ row ∷ []) ≡ length xs + 1
-    pushed = length-append xs (row ∷ [])
-
-    total : length zs ≡ length (xs ++ row ∷ []) + length ys
-    total = ap length all ∙ length-append (xs ++ row ∷ []) ys
-
-    first : take size zs ≡ xs
-    first = ap (take size) all
-        ∙ take-append-le size (xs ++ row ∷ []) ys (omega (arith, pushed, long))
-        ∙ take-append-le size xs (row ∷ []) (omega (arith, long))
-        ∙ take_all size xs (omega (arith, long))
-
-    more : nat_lt size (length zs) ≡ true
-    more = lt-ltb size (length zs) (omega (arith, pushed, total, long))
-
 -- a chosen row is one of the store's
 pub chosen_own : (rows : List StoredRow) (collection : ℕ) (only : Option Id) (query : Query) (chosen : List StoredRow) (i : ℕ) (row : StoredRow)
     → AreChosen rows collection only query chosen → i < length chosen → row ≡ get_or chosen i row → Contains rows row
 chosen_own rows collection only query chosen i row are within is = are.own row (i, within, sym is)
-
--- where there is room, one more fits
-pub fits : (old size new : ℕ) → old ≤ size → ¬ (old ≡ size) → new ≡ old + 1 → new ≤ size
-fits old size new few room grown = elim (cases_lt old size) [
-  | inl less ↦ omega (arith, less, grown)
-  | inr full ↦ absurd (room (omega (arith, few, full)))
-]
 
 -- ---- the rows that meet a query
 
@@ -163,46 +135,47 @@ module _ (rows : List StoredRow) (collection : ℕ) (only : Option Id) (query : 
 
   -- at the end of the chosen ones it has all of them
   pub page_whole : (chosen page : List StoredRow) → AreChosen rows collection only query chosen
-      → page ≡ meeting rows collection only query chosen → length page ≤ page_size query → IsPage rows collection only query page false
-  page_whole chosen page are found few = record {
+      → page ≡ meeting rows collection only query chosen → FitsPage query page → IsPage rows collection only query page false
+  page_whole chosen page are found fits = record {
     meeting = meeting rows collection only query chosen;
     meeting_are = meeting_all chosen are;
-    page_is = sym (ap (take (page_size query)) (sym found) ∙ take_all (page_size query) page few);
-    more_is = sym (ap (λ (xs : List StoredRow). nat_lt (page_size query) (length xs)) (sym found) ∙ le-ltb (page_size query) (length page) few);
+    rest = [];
+    split = sym found ∙ sym (append-nil page);
+    fits = fits;
+    full = λ next others none. absurd (cc none);
+    more_is = refl;
   }
 
   -- at one more than it can have, it has the first of them
   pub page_full : (chosen page : List StoredRow) (i : ℕ) (row : StoredRow) → AreChosen rows collection only query chosen
       → i < length chosen → row ≡ get_or chosen i row → MeetsQuery rows collection only query row
-      → page ≡ meeting rows collection only query (take i chosen) → length page ≡ page_size query → IsPage rows collection only query page true
-  page_full chosen page i row are within is meets found full = record {
+      → page ≡ meeting rows collection only query (take i chosen) → FitsPage query page → ¬ FitsPage query (page ++ row ∷ []) → IsPage rows collection only query page true
+  page_full chosen page i row are within is meets found fits full = record {
     meeting = meeting rows collection only query chosen;
     meeting_are = meeting_all chosen are;
-    page_is = ends.0;
-    more_is = ends.1;
+    rest = row ∷ behind;
+    split = all;
+    fits = fits;
+    full = λ next others same. let first : row ≡ next = cc same in subst (λ (r : StoredRow). ¬ FitsPage query (page ++ r ∷ [])) first full;
+    more_is = sym (lt-ltb 0 (length (row ∷ behind)) (omega arith));
   }
     where
-      rest : List StoredRow
-      rest = meeting rows collection only query (drop (i + 1) chosen)
+      behind : List StoredRow
+      behind = meeting rows collection only query (drop (i + 1) chosen)
 
-      all : meeting rows collection only query chosen ≡ (page ++ row ∷ []) ++ rest
+      all : meeting rows collection only query chosen ≡ page ++ row ∷ behind
       all = ap (meeting rows collection only query) (sym (take-append-drop (i + 1) chosen))
           ∙ meeting_parts (take (i + 1) chosen) (drop (i + 1) chosen)
-          ∙ ap (λ xs. xs ++ rest) (meeting_more chosen i row within is meets ∙ ap (λ xs. xs ++ row ∷ []) (sym found))
-
-      ends : (page ≡ take (page_size query) (meeting rows collection only query chosen)) × (true ≡ nat_lt (page_size query) (length (meeting rows collection only query chosen)))
-      ends = front page rest row (meeting rows collection only query chosen) (page_size query) all full
+          ∙ ap (λ xs. xs ++ behind) (meeting_more chosen i row within is meets ∙ ap (λ xs. xs ++ row ∷ []) (sym found))
+          ∙ append_assoc page (row ∷ []) behind
 
 -- ---- what a page is made of
-
-in_take : (k : ℕ) (xs : List StoredRow) (row : StoredRow) → Contains (take k xs) row → Contains xs row
-in_take k xs row there = subst (λ (rows : List StoredRow). Contains rows row) (take-append-drop k xs) (Contains-append_left (take k xs) (drop k xs) row there)
 
 pub page_stored : (rows : List StoredRow) (collection : ℕ) (only : Option Id) (query : Query) (page : List StoredRow) (more : Bool)
     → IsPage rows collection only query page more → All (Contains rows) page
 page_stored rows collection only query page more it =
     All-weaker (Contains page) (Contains rows)
-    (λ row there. ((it.meeting_are.each row).0 (in_take (page_size query) it.meeting row (subst (λ (xs : List StoredRow). Contains xs row) it.page_is there))).0)
+    (λ row there. ((it.meeting_are.each row).0 (subst (λ (xs : List StoredRow). Contains xs row) (sym it.split) (Contains-append_left page it.rest row there))).0)
     page (All-contains_itself page)
 
 pub page_sound : (state : StoreState) (collection : ℕ) (only : Option Id) (query : Query) (page : List StoredRow) (more : Bool)

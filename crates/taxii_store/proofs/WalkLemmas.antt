@@ -1,8 +1,7 @@
 -- A walk gives each row once, only such as are asked for, and all that are left at its end.
-use Rattle.std.proofs.Common.{◌≡◌, inl, inr, ℕ, ◌+◌, ◌<◌, ◌≤◌, zero, suc, List, [], ◌∷◌, length, take, true, Option, Some, None, refl, sym, ap, subst, ◌∙◌, arith}
-use Rattle.std.specs.Prelude.{ℤ, pos, ◌*◌, ◌<ℤ◌, codes, nat_lt, min, unwrap_or, IfSome}
+use Rattle.std.proofs.Common.{◌≡◌, inl, inr, ℕ, ◌+◌, ◌<◌, ◌≤◌, zero, List, [], ◌∷◌, ◌++◌, true, Option, Some, None, refl, sym, ap, subst, ◌∙◌, arith, append-nil}
+use Rattle.std.specs.Prelude.{ℤ, pos, ◌*◌, ◌<ℤ◌, codes, min, unwrap_or, IfSome}
 use Rattle.std.specs.List.{Contains}
-use Rattle.std.proofs.lemmas.Bool.{ltb-true}
 use Rattle.std.proofs.lemmas.List.Elements.{All-contains, Contains-append_left, Contains-append_right, Contains-append_cases}
 use Rattle.taxii_rows.specs.declared.stored_row.StoredRow.{StoredRow}
 use Rattle.taxii_rows.specs.Picking.{IsPicked}
@@ -10,9 +9,9 @@ use Rattle.stix_ids.specs.declared.id.Id.{Id}
 use Rattle.stix_ids.specs.declared.pick.Pick.TheVariants as pick
 use Rattle.taxii_routes.specs.declared.query.Query.{Query}
 use Rattle.taxii_store.specs.Meeting.{IsAskedFor, picks_of}
-use Rattle.taxii_store.specs.Page.{page_size}
 use Rattle.taxii_store.specs.Walk.{Stop, Wanted, AsksAlike, IsStop, GoesFrom, IsWanted, rows_given, last_state, last_date}
-use Rattle.taxii_store.proofs.RowsLemmas.{Ascends, compare, least, last_or, ascends_append, ascends_take, ascends_past, in_take, in_first_k, take_all, last_of_k}
+use Rattle.taxii_store.proofs.RowsLemmas.{Ascends, compare, least, last_or, ascends_append, ascends_front, ascends_past, in_front, last_of}
+use Rattle.taxii_store.proofs.FitLemmas.{none_left, some_taken}
 use Rattle.taxii_store.proofs.HistoryLemmas.{Later, later_itself, later_both, history}
 
 -- the date after which a page goes on
@@ -60,15 +59,14 @@ some_size : (limit : Option ℕ) → IfSome limit (λ n. 0 < n) → 1 ≤ min (u
 some_size None h = omega arith
 some_size (Some n) h = omega (arith, h)
 
--- the last of the first k, one at least, where more is left
+-- the last of some rows
 last_dates : (c : ℕ) (x : StoredRow) (xs : List StoredRow) → cut (last_date (x ∷ xs)) ≡ last_or c (x ∷ xs)
 last_dates c x [] = refl
 last_dates c x (y ∷ ys) = last_dates x.date y ys
 
-last_date_of_k : (c k : ℕ) (xs : List StoredRow) → 1 ≤ k → nat_lt k (length xs) ≡ true → cut (last_date (take k xs)) ≡ last_or c (take k xs)
-last_date_of_k c zero xs some more = absurd (omega (arith, some))
-last_date_of_k c (suc k) [] some more = absurd (omega (arith, ltb-true (suc k) zero more))
-last_date_of_k c (suc k) (x ∷ xs) some more = last_dates c x (take k xs)
+last_date_is : (c : ℕ) (xs : List StoredRow) → ¬ (xs ≡ []) → cut (last_date xs) ≡ last_or c xs
+last_date_is c [] some = absurd (some refl)
+last_date_is c (x ∷ xs) some = last_dates c x xs
 
 -- ---- one stop
 
@@ -83,15 +81,19 @@ past wanted next s stop r h =
 meeting_ascends : (wanted : Wanted) (next : Option ℕ) (s : Stop) (stop : IsStop wanted next s) → Ascends (cut next + 1) stop.page.meeting
 meeting_ascends wanted next s stop = ascends_past 1 (cut next) stop.page.meeting stop.page.meeting_are.ascend (past wanted next s stop)
 
+all_ascend : (wanted : Wanted) (next : Option ℕ) (s : Stop) (stop : IsStop wanted next s) → Ascends (cut next + 1) (s.page ++ stop.page.rest)
+all_ascend wanted next s stop = subst (λ (xs : List StoredRow). Ascends (cut next + 1) xs) stop.page.split (meeting_ascends wanted next s stop)
+
 page_ascends : (wanted : Wanted) (next : Option ℕ) (s : Stop) (stop : IsStop wanted next s) → Ascends (cut next + 1) s.page
-page_ascends wanted next s stop = subst (λ (xs : List StoredRow). Ascends (cut next + 1) xs) (sym stop.page.page_is)
-    (ascends_take (cut next + 1) (page_size s.query) stop.page.meeting (meeting_ascends wanted next s stop))
+page_ascends wanted next s stop = ascends_front (cut next + 1) s.page stop.page.rest (all_ascend wanted next s stop)
+
+page_meets : (wanted : Wanted) (next : Option ℕ) (s : Stop) (stop : IsStop wanted next s) (r : StoredRow) → Contains s.page r → Contains stop.page.meeting r
+page_meets wanted next s stop r h = subst (λ (xs : List StoredRow). Contains xs r) (sym stop.page.split) (Contains-append_left s.page stop.page.rest r h)
 
 page_asked : (wanted : Wanted) (next : Option ℕ) (s : Stop) → wanted.query.next ≡ None → IsStop wanted next s
     → (r : StoredRow) → Contains s.page r → IsWanted wanted r
 page_asked wanted next s start stop r h =
-    let met = in_take (page_size s.query) stop.page.meeting r (subst (λ (xs : List StoredRow). Contains xs r) stop.page.page_is h) in
-    to_wanted wanted s.query r start stop.alike ((stop.page.meeting_are.each r).0 met).1.asked
+    to_wanted wanted s.query r start stop.alike ((stop.page.meeting_are.each r).0 (page_meets wanted next s stop r h)).1.asked
 
 -- a row of the store that is wanted and comes after where the page begins meets the stop's query
 meets_there : (wanted : Wanted) (next : Option ℕ) (s : Stop) (stop : IsStop wanted next s) (r : StoredRow)
@@ -107,27 +109,17 @@ meets_there wanted next s stop r there asked after = (stop.page.meeting_are.each
 -- where there is more, the page ends at a date that is at most the watermark
 ends_marked : (wanted : Wanted) (next : Option ℕ) (s : Stop) → IsStop wanted next s → s.more ≡ true
     → (last_or (cut next) s.page ≤ s.state.watermark) × (cut (last_date s.page) ≡ last_or (cut next) s.page)
-ends_marked wanted next s stop more = (marked, same)
+ends_marked wanted next s stop more = (marked, last_date_is (cut next) s.page some)
   where
-    size : 1 ≤ page_size s.query
-    size = some_size s.query.limit stop.alike.limit
-
-    left : nat_lt (page_size s.query) (length stop.page.meeting) ≡ true
-    left = sym stop.page.more_is ∙ more
-
-    page_same : last_or (cut next) s.page ≡ last_or (cut next) (take (page_size s.query) stop.page.meeting)
-    page_same = ap (last_or (cut next)) stop.page.page_is
+    some : ¬ (s.page ≡ [])
+    some = some_taken s.query s.page stop.page.rest (some_size s.query.limit stop.alike.limit) (sym more ∙ stop.page.more_is) stop.page.full
 
     marked : last_or (cut next) s.page ≤ s.state.watermark
     marked =
-        let it = last_of_k (cut next) (page_size s.query) stop.page.meeting size left in
-        let row = (stop.page.meeting_are.each it.0).0 it.1 in
+        let it = last_of (cut next) s.page some in
+        let row = (stop.page.meeting_are.each it.0).0 (page_meets wanted next s stop it.0 it.1) in
         let bound = All-contains (λ (row : StoredRow). row.date ≤ s.state.watermark) s.state.rows it.0 stop.dated.marked row.0 in
-        omega (arith, page_same, it.2, bound)
-
-    same : cut (last_date s.page) ≡ last_or (cut next) s.page
-    same = subst (λ (xs : List StoredRow). cut (last_date xs) ≡ last_or (cut next) xs) (sym stop.page.page_is)
-        (last_date_of_k (cut next) (page_size s.query) stop.page.meeting size left)
+        omega (arith, it.2, bound)
 
 -- ---- the walk
 
@@ -154,8 +146,9 @@ pub whole : (wanted : Wanted) (next : Option ℕ) (s : Stop) (ts : List Stop) �
     → (r : StoredRow) → Contains (last_state s ts).rows r → IsWanted wanted r → cut next < r.date → Contains (rows_given s ts) r
 whole wanted next s [] w r h wish after =
     let met = meets_there wanted next s w.0 r h wish after in
-    let all = take_all (page_size s.query) w.0.page.meeting (sym w.0.page.more_is ∙ w.1) in
-    subst (λ (xs : List StoredRow). Contains xs r) (sym (w.0.page.page_is ∙ all)) met
+    let none = none_left w.0.page.rest (sym w.1 ∙ w.0.page.more_is) in
+    let all = w.0.page.split ∙ ap (λ (xs : List StoredRow). s.page ++ xs) none ∙ append-nil s.page in
+    subst (λ (xs : List StoredRow). Contains xs r) all met
 whole wanted next s (t ∷ ts) w r h wish after =
     elim (compare r.date (last_or (cut next) s.page)) [
       | inl upto ↦ Contains-append_left s.page (rows_given t ts) r (on_page upto)
@@ -175,9 +168,8 @@ whole wanted next s (t ∷ ts) w r h wish after =
     on_page : r.date ≤ last_or (cut next) s.page → Contains s.page r
     on_page upto =
         let met = meets_there wanted next s w.0 r (there upto) wish after in
-        subst (λ (xs : List StoredRow). Contains xs r) (sym w.0.page.page_is)
-        (in_first_k (cut next + 1) (cut next) (page_size s.query) w.0.page.meeting r (meeting_ascends wanted next s w.0) met after
-        (subst (λ (xs : List StoredRow). r.date ≤ last_or (cut next) xs) w.0.page.page_is upto))
+        in_front (cut next + 1) (cut next) s.page w.0.page.rest r (all_ascend wanted next s w.0)
+        (subst (λ (xs : List StoredRow). Contains xs r) w.0.page.split met) after upto
 
 -- every row has a date past 0
 pub dated : (wanted : Wanted) (next : Option ℕ) (s : Stop) (ts : List Stop) → GoesFrom wanted next s ts

@@ -21,3 +21,4 @@ mod QueryLemmas
 mod RequestLemmas
 mod UnderstoodLemmas
 mod PullLemmas
+mod PageSizeLemmas

@@ -1,9 +1,9 @@
 -- What an answer with a page tells of the next one: its text, and that this is the date of the page's last row.
-use Rattle.std.proofs.Common.{◌≡◌, ℕ, zero, suc, ◌<◌, ◌≤◌, List, [], ◌∷◌, ◌++◌, length, take, drop, Bool, true, false, Option, Some, None, refl, sym, ap, subst, ◌∙◌, arith}
-use Rattle.std.specs.Prelude.{codes, min, get_or, unwrap_or, IfSome}
+use Rattle.std.proofs.Common.{◌≡◌, inl, ℕ, ◌<◌, ◌≤◌, List, [], ◌∷◌, ◌++◌, length, take, Bool, true, false, Option, Some, None, refl, sym, ap, subst, ◌∙◌, arith}
+use Rattle.std.specs.Prelude.{codes, min, nat_lt, get_or, unwrap_or, IfSome}
 use Rattle.std.specs.List.{Contains, last_or}
 use Rattle.std.proofs.lemmas.Bool.{ltb-true}
-use Rattle.std.proofs.lemmas.List.{append_assoc, append_cancel_left, take-append-drop, take_at}
+use Rattle.std.proofs.lemmas.List.{append_assoc, append_cancel_left, take_at}
 use Rattle.std.proofs.lemmas.List.Elements.{All-contains, Contains-append_left, Contains-append_right, Contains-push}
 use Rattle.stix_ids.specs.declared.id.Id.{Id}
 use Rattle.taxii_routes.specs.declared.query.Query.{Query}
@@ -11,7 +11,7 @@ use Rattle.taxii_rows.specs.declared.stored_row.StoredRow.{StoredRow}
 use Rattle.taxii_rows.specs.declared.stored_row.TheConstants.{LAST_DATE}
 use Rattle.taxii_rows.specs.StoreState.{StoreState, dates_of}
 use Rattle.taxii_bodies.specs.Envelope.{next_of, next_text, head_text}
-use Rattle.taxii_store.specs.Page.{IsPage, page_size}
+use Rattle.taxii_store.specs.Page.{IsPage, FitsPage, page_size}
 use Rattle.taxii_store.specs.Walk.{last_date}
 use Rattle.taxii_theorems.proofs.ChainLemmas.{IsOrdered}
 
@@ -67,10 +67,6 @@ in_first row rows = Contains-append_left (row ∷ []) rows row (Contains-push []
 in_rest : (first : StoredRow) (rows : List StoredRow) (row : StoredRow) → Contains rows row → Contains (first ∷ rows) row
 in_rest first rows row held = Contains-append_right (first ∷ []) rows row held
 
-in_take : (n : ℕ) (rows : List StoredRow) (row : StoredRow) → Contains (take n rows) row → Contains rows row
-in_take n rows row held =
-    subst (λ (all : List StoredRow). Contains all row) (take-append-drop n rows) (Contains-append_left (take n rows) (drop n rows) row held)
-
 -- the last date is that of a row
 last_row : (rows : List StoredRow) (date : ℕ) → last_date rows ≡ Some date → (row : StoredRow) × Contains rows row × (row.date ≡ date)
 last_row [] date same = absurd (cc same)
@@ -89,7 +85,7 @@ pub last_within : (store : StoreState) (collection : ℕ) (only : Option Id) (qu
     → IsPage store.rows collection only query page more → last_date page ≡ Some date → date ≤ LAST_DATE
 last_within store collection only query page more date ordered its same =
     let last = last_row page date same in
-    let met = in_take (page_size query) its.meeting last.0 (subst (λ (rows : List StoredRow). Contains rows last.0) its.page_is last.1) in
+    let met = subst (λ (rows : List StoredRow). Contains rows last.0) (sym its.split) (Contains-append_left page its.rest last.0 last.1) in
     let held : Contains store.rows last.0 = ((its.meeting_are.each last.0).0 met).0 in
     let marked : last.0.date ≤ store.watermark = All-contains (λ (row : StoredRow). row.date ≤ store.watermark) store.rows last.0 ordered.dated.marked held in
     let most : store.watermark ≤ LAST_DATE = ordered.within in
@@ -99,15 +95,19 @@ some_size : (limit : Option ℕ) → IfSome limit (λ n. 0 < n) → 1 ≤ min (u
 some_size None positive = omega arith
 some_size (Some n) positive = omega (arith, positive)
 
--- where there is more, a page has a last row
-ends : (size : ℕ) (meeting : List StoredRow) → 1 ≤ size → size < length meeting → last_date (take size meeting) ≡ None → ⊥
-ends zero meeting some more none = absurd (omega (arith, some))
-ends (suc size) [] some more none = absurd (omega (arith, more))
-ends (suc size) (row ∷ rows) some more none = some_last row (take size rows) none
+none_last : (rows : List StoredRow) → last_date rows ≡ None → rows ≡ []
+none_last [] same = refl
+none_last (row ∷ rows) same = absurd (some_last row rows same)
+
+-- where it leaves some, a page has a row
+ends : (query : Query) (page rest : List StoredRow) → 1 ≤ page_size query → true ≡ nat_lt 0 (length rest)
+    → ((next : StoredRow) (others : List StoredRow) → rest ≡ next ∷ others → ¬ FitsPage query (page ++ next ∷ [])) → page ≡ [] → ⊥
+ends query page [] some more full none = omega (arith, ltb-true 0 0 (sym more))
+ends query page (next ∷ others) some more full none =
+    full next others refl (subst (λ (rows : List StoredRow). FitsPage query (rows ++ next ∷ [])) (sym none) (omega (arith, some), inl (omega arith)))
 
 pub no_more : (store : StoreState) (collection : ℕ) (only : Option Id) (query : Query) (page : List StoredRow) (more : Bool)
     → IfSome query.limit (λ n. 0 < n) → IsPage store.rows collection only query page more → next_of page more ≡ None → more ≡ false
 no_more store collection only query page false positive its none = refl
 no_more store collection only query page true positive its none =
-    absurd (ends (page_size query) its.meeting (some_size query.limit positive) (ltb-true (page_size query) (length its.meeting) (sym its.more_is))
-    (ap last_date (sym its.page_is) ∙ sym (last_same page) ∙ none))
+    absurd (ends query page its.rest (some_size query.limit positive) its.more_is its.full (none_last page (sym (last_same page) ∙ none)))

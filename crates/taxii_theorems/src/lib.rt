@@ -8,8 +8,10 @@
 //! server and with changing configurations.
 //! - `agreement`: each side parses what the other writes, so a complete pull writes every row of a
 //! walk.
+//! - `page_sizes`: a page of several objects is no larger than what a client accepts.
 #![tactic(auto)]
 
 pub mod agreement;
+pub mod page_sizes;
 pub mod runs;
 pub mod unique_answer;

@@ -1,10 +1,13 @@
-use Rattle.std.proofs.Common.{◌≡◌, ◌≤◌, map, length, take, option_map}
+use Rattle.std.proofs.Common.{◌≡◌, map, take, option_map}
+use Rattle.taxii_store.specs.Page.{FitsPage}
 use Rattle.taxii_store.specs.inner.Asking.{AsksOfCollection}
+use Rattle.taxii_store.proofs.FitLemmas.{IsCountOf}
 use Rattle.taxii_store.proofs.PageLemmas.{meeting}
 use Rattle.taxii_store.proofs.page.page_of_all.Given as goal
 
 abbrev pub invariant-loop-row : goal.invariant-loop-row
 invariant-loop-row l =
     (map (λ row. row.now) l.rows.items ≡ meeting l.library.rows l.collection (option_map (λ id. id.now) l.only) l.query (take l.row-index l.later))
-    × (length l.rows.items ≤ l.size)
+    × FitsPage l.query (map (λ row. row.now) l.rows.items)
     × AsksOfCollection l.collection (option_map (λ id. id.now) l.only) l.query l.asked
+    × IsCountOf l.bytes (map (λ row. row.now) l.rows.items)
