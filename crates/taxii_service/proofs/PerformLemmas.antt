@@ -1,5 +1,5 @@
 -- What requests do, in the words of one step.
-use Rattle.std.proofs.Common.{◌≡◌, ◌≢◌, ◌⊎◌, inl, inr, ℕ, List, [], ◌∷◌, ◌++◌, length, not, All, Bool, true, false, Result, Ok, Err, refl, sym, ap, subst, ◌∙◌, arith}
+use Rattle.std.proofs.Common.{◌≡◌, ◌≢◌, ◌⊎◌, inl, inr, ℕ, List, [], ◌∷◌, ◌++◌, length, not, All, Bool, true, false, None, Result, Ok, Err, refl, sym, ap, subst, ◌∙◌, arith}
 use Rattle.std.specs.Prelude.{IfOk, IfErr, IsOk, IsOkAnd, ◌||◌}
 use Rattle.std.specs.List.{Contains}
 use Rattle.std.proofs.lemmas.Bool.{eq-eqb}
@@ -11,17 +11,23 @@ use Rattle.taxii_routes.specs.declared.query.Query.{Query}
 use Rattle.taxii_rows.specs.declared.stored_row.StoredRow.{StoredRow}
 use Rattle.taxii_rows.specs.StoreState.{StoreState}
 use Rattle.taxii_rows.specs.Keeper.{is_date_in, without}
-use Rattle.http_messages.specs.declared.status.Status.TheVariants.{InternalServerError}
+use Rattle.http_messages.specs.declared.status.Status.TheVariants.{Okay, Accepted, InternalServerError}
 use Rattle.taxii_bodies.specs.declared.problem.Problem.{Problem as Trouble}
 use Rattle.taxii_bodies.specs.declared.problem.Problem.TheVariants.{BadValue, Repeated, Forbidden, NotFound, NotAcceptable, UnsupportedMediaType, NotJson, NotList, StoreFault, DatesUsedUp}
 use Rattle.taxii_exchange.specs.declared.answer.Answer.{Answer}
-use Rattle.taxii_exchange.specs.AnswersToRequests.{problem_status}
+use Rattle.taxii_exchange.specs.AnswersToRequests.{problem_status, body_answer, bare_answer}
 use Rattle.taxii_exchange.specs.declared.refusal.Refusal.{Refusal}
 use Rattle.taxii_exchange.specs.declared.refusal.Refusal.TheVariants.{NotAllowed, Problem, NoMemory}
 use Rattle.http_messages.specs.declared.method.Method.{Method}
 use Rattle.taxii_exchange.proofs.AnswersToRequestsLemmas.{told_status}
+use Rattle.taxii_bodies.specs.declared.collections.CollectionInfo.{CollectionInfo}
+use Rattle.taxii_exchange.specs.declared.config.Config.{Config}
+use Rattle.taxii_service.specs.declared.state.State.{State}
+use Rattle.taxii_service.specs.Adding.{IsAdding, CannotAdd, with_added}
+use Rattle.taxii_service.specs.Deleting.{AreDeleted, without_dates}
+use Rattle.taxii_service.specs.Operation.{Operation, Add, Remove, AddsBody, RemovesObject, Does, CannotDo}
+use Rattle.taxii_service.specs.inner.Performing.{MethodChanges}
 use Rattle.taxii_service.specs.Step.{IsAnswerTo}
-use Rattle.taxii_service.specs.Deleting.{AreDeleted}
 
 pub if_err : {T E : Type 0} (answer : Result T E) (P Q : E → Type 0) → ((refusal : E) → P refusal → Q refusal) → IfErr answer P → IfErr answer Q
 if_err (Ok value) P Q to its = tt
@@ -50,6 +56,55 @@ rows_go store collection id query (date ∷ dates) deleted some same = some (del
     let passes = All-contains (λ one. stays one ≡ true) store.rows row (subst (All (λ one. stays one ≡ true)) same (filter_passes stays store.rows)) there in
     let gone : stays row ≡ false = ap (λ (d : ℕ). not (is_date_in (date ∷ dates) d)) its ∙ ap not (is_in date dates) in
     let clash : true ≡ false = sym passes ∙ gone in absurd (cc clash)))
+
+-- ---- operations
+
+-- an addition is what `Add` does
+pub adds_body : (config : Config) (before after : State) (moment : ℕ) (body : List ℕ) (query : Query) (info : CollectionInfo) (operation : Operation) (answer : Answer) → operation ≡ Add info
+    → ((new : List StoredRow) × (text : List ℕ) × IsAdding before info.id moment body new text × (answer ≡ body_answer Accepted text) × (after ≡ with_added new text before))
+    → Does config before moment body query operation answer after
+adds_body config before after moment body query info operation answer is its =
+    let adds : AddsBody before moment body info.id answer after = record { new = its.0; text = its.1; adding = its.2; answer_is = its.3; after_is = its.4 } in
+    subst (λ (o : Operation). Does config before moment body query o answer after) (sym is) adds
+
+-- why an addition failed, said of the operation
+abbrev pub IsWhyNot : Config → State → ℕ → List ℕ → Query → Operation → Refusal → Type 0
+IsWhyNot config before moment body query operation refusal = (refusal ≡ NoMemory)
+    ⊎ (CannotDo before moment body operation refusal
+    ⊎ ((refusal ≡ Problem StoreFault) × MethodChanges config before moment body query operation))
+
+pub add_failed : (config : Config) (before : State) (moment : ℕ) (body : List ℕ) (query : Query) (info : CollectionInfo) (operation : Operation) (refusal : Refusal) → operation ≡ Add info
+    → ((refusal ≡ NoMemory) ⊎ (CannotAdd before info.id moment body refusal
+    ⊎ ((refusal ≡ Problem StoreFault) × ((new : List StoredRow) × (text : List ℕ) × (new ≢ []) × IsAdding before info.id moment body new text))))
+    → IsWhyNot config before moment body query operation refusal
+add_failed config before moment body query info operation refusal is (inl none) = inl none
+add_failed config before moment body query info operation refusal is (inr (inl cannot)) = inr (inl (info, is, cannot))
+add_failed config before moment body query info operation refusal is (inr (inr (fault, new, text, some, adding))) =
+    let answer = body_answer Accepted text in
+    let after = with_added new text before in
+    inr (inr (fault, answer, after, adds_body config before after moment body query info operation answer is (new, text, adding, refl, refl),
+        rows_grow before.library.rows new some))
+
+-- a deletion is what `Remove` does
+pub removes_object : (config : Config) (before after : State) (moment : ℕ) (body : List ℕ) (query : Query) (info : CollectionInfo) (id : Id) (operation : Operation) (answer : Answer)
+    → operation ≡ Remove info id
+    → ((dates : List ℕ) × AreDeleted before.library info.id id query dates × (answer ≡ bare_answer Okay None) × (after ≡ without_dates dates before))
+    → Does config before moment body query operation answer after
+removes_object config before after moment body query info id operation answer is its =
+    let removes : RemovesObject before info.id id query answer after = record { dates = its.0; deleted = its.1; answer_is = its.2; after_is = its.3 } in
+    subst (λ (o : Operation). Does config before moment body query o answer after) (sym is) removes
+
+pub remove_failed : (config : Config) (before : State) (moment : ℕ) (body : List ℕ) (query : Query) (info : CollectionInfo) (id : Id) (operation : Operation) (refusal : Refusal)
+    → operation ≡ Remove info id
+    → ((refusal ≡ NoMemory)
+    ⊎ ((refusal ≡ Problem StoreFault) × ((dates : List ℕ) × (dates ≢ []) × AreDeleted before.library info.id id query dates)))
+    → IsWhyNot config before moment body query operation refusal
+remove_failed config before moment body query info id operation refusal is (inl none) = inl none
+remove_failed config before moment body query info id operation refusal is (inr (fault, dates, some, deleted)) =
+    let answer = bare_answer Okay None in
+    let after = without_dates dates before in
+    inr (inr (fault, answer, after, removes_object config before after moment body query info id operation answer is (dates, deleted, refl, refl),
+        rows_go before.library info.id id query dates deleted some))
 
 -- ---- answers
 
