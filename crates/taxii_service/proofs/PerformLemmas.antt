@@ -82,8 +82,13 @@ add_failed config before moment body query info operation refusal is (inr (inl c
 add_failed config before moment body query info operation refusal is (inr (inr (fault, new, text, some, adding))) =
     let answer = body_answer Accepted text in
     let after = with_added new text before in
-    inr (inr (fault, answer, after, adds_body config before after moment body query info operation answer is (new, text, adding, refl, refl),
-        rows_grow before.library.rows new some))
+    inr (inr (
+      fault,
+      answer,
+      after,
+      adds_body config before after moment body query info operation answer is (new, text, adding, refl, refl),
+      rows_grow before.library.rows new some,
+    ))
 
 -- a deletion is what `Remove` does
 pub removes_object : (config : Config) (before after : State) (moment : ℕ) (body : List ℕ) (query : Query) (info : CollectionInfo) (id : Id) (operation : Operation) (answer : Answer)
@@ -103,8 +108,13 @@ remove_failed config before moment body query info id operation refusal is (inl 
 remove_failed config before moment body query info id operation refusal is (inr (fault, dates, some, deleted)) =
     let answer = bare_answer Okay None in
     let after = without_dates dates before in
-    inr (inr (fault, answer, after, removes_object config before after moment body query info id operation answer is (dates, deleted, refl, refl),
-        rows_go before.library info.id id query dates deleted some))
+    inr (inr (
+      fault,
+      answer,
+      after,
+      removes_object config before after moment body query info id operation answer is (dates, deleted, refl, refl),
+      rows_go before.library info.id id query dates deleted some,
+    ))
 
 -- ---- answers
 
