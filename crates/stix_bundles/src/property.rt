@@ -1,5 +1,5 @@
-//! Properties of an ordered object, read by binary search. So many references to a large object
-//! never cost its size each.
+//! Properties of an ordered object, read by binary search. So a reference to a large object costs
+//! a logarithm of its fields.
 
 ghost use Rattle.std.specs.Prelude.{◌≡◌, ◌↔◌, IsTrue, option_map};
 ghost use Rattle.flow_values.specs.Answers.{FindsExactly};
