@@ -1,4 +1,5 @@
 pub mod ObjectsLemmas
+pub mod PropertyLemmas
 pub mod OutlineLemmas
 pub mod AllBreaksLemmas
 pub mod TakeLemmas

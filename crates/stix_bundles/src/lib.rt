@@ -4,7 +4,7 @@
 //! that they refer to.
 //!
 //! Lookups use an index from identifiers to positions: a B-tree map, or a linear search in a bundle
-//! of up to four objects.
+//! of up to four objects. A lookup reads an object's properties by binary search.
 //!
 //! ```ignore
 //! let bundle = read_bundle(alloc, read_json(alloc, bytes)?)?;

@@ -4,7 +4,7 @@ use Rattle.stix_json.specs.DataOf.{data_of}
 use Rattle.stix_bundles.specs.Objects.{data_in}
 use Rattle.stix_bundles.specs.Lookup.{IsOf}
 use Rattle.stix_bundles.specs.inner.Index.{IsPositionOf}
-use Rattle.stix_bundles.proofs.ObjectsLemmas.{data_read}
+use Rattle.stix_bundles.proofs.ObjectsLemmas.{data_read, ordered_at}
 use Rattle.stix_bundles.proofs.IndexOfLemmas.{put_well, add_beside}
 use Rattle.stix_bundles.proofs.latest.add.Goals as goal
 
@@ -25,3 +25,6 @@ returns c =
     let held = subst (IsPositionOf (take c.args.at ds) id) (sym c.get.ensures) (c.requires.before id) in
     put_well c.one_id.ensures ds c.args.at (data_of object) there id has c.later-latest.result (c.later-latest.ensures id of held) c.args.positions.now c.put.new.self
     c.requires.before c.put.result c.put.ensures
+
+pub ordered_id-requires : goal.ordered_id-requires
+ordered_id-requires c = ordered_at c.args.objects.now c.args.at c.index-objects-at.result c.requires.there c.index-objects-at.is c.requires.ordered

@@ -1,4 +1,4 @@
-use Rattle.stix_bundles.proofs.SupersedesLemmas.{not_past, supersedes_at, earlier_at}
+use Rattle.stix_bundles.proofs.SupersedesLemmas.{not_past, ordered_found, supersedes_at, earlier_at}
 use Rattle.stix_bundles.proofs.latest.is_superseded.Goals as goal
 
 pub returns-in-Some : goal.returns-in-Some
@@ -13,3 +13,8 @@ returns-in-Some c =
 
 pub returns-in-None : goal.returns-in-None
 returns-in-None c = (λ is. absurd cc, λ over. absurd (not_past c.args.objects.now c.args.at c.args.time c.in-None.ensures.lookup.0 over))
+
+pub modified-requires : goal.modified-requires
+modified-requires c =
+    let lookup = c.in-Some.ensures.lookup in
+    ordered_found c.args.objects.now c.args.at c.in-Some.object.now lookup.0 lookup.1 c.requires

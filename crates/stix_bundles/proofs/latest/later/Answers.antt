@@ -3,7 +3,7 @@ use Rattle.std.proofs.lemmas.Bool.{false≢true}
 use Rattle.stix_json.specs.DataOf.{data_of}
 use Rattle.stix_bundles.specs.Objects.{data_in}
 use Rattle.stix_bundles.specs.inner.Index.{IsPositionOf}
-use Rattle.stix_bundles.proofs.ObjectsLemmas.{data_read}
+use Rattle.stix_bundles.proofs.ObjectsLemmas.{data_read, ordered_at}
 use Rattle.stix_bundles.proofs.IndexLemmas.{held_superseded}
 use Rattle.stix_bundles.proofs.IndexOfLemmas.{newly}
 use Rattle.stix_bundles.proofs.latest.later.Goals as goal
@@ -32,3 +32,6 @@ returns-else-is_superseded c =
     newly c.one_modified.ensures (data_in c.args.objects.now) c.args.at (data_of object) there c.modified-time.result c.modified-time.ensures (Some c.in-Some.held)
     (λ over. false≢true (sym c.if-is_superseded.false ∙ c.is_superseded.ensures.1 over)) id of
     (subst (IsPositionOf (take c.args.at (data_in c.args.objects.now)) id) c.in-Some.is is)
+
+pub modified-time-requires : goal.modified-time-requires
+modified-time-requires c = ordered_at c.args.objects.now c.args.at c.index-objects-at.result c.requires.there c.index-objects-at.is c.requires.ordered

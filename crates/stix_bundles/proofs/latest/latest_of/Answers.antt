@@ -7,7 +7,7 @@ use Rattle.stix_json.specs.DataOf.{data_of}
 use Rattle.stix_bundles.specs.Objects.{data_in}
 use Rattle.stix_bundles.specs.Lookup.{IsOf}
 use Rattle.stix_bundles.specs.inner.Index.{IsPositionOf}
-use Rattle.stix_bundles.proofs.ObjectsLemmas.{data_read}
+use Rattle.stix_bundles.proofs.ObjectsLemmas.{data_read, ordered_at}
 use Rattle.stix_bundles.proofs.IndexLemmas.{held_beside}
 use Rattle.stix_bundles.proofs.latest.latest_of.Goals as goal
 use Rattle.stix_bundles.proofs.latest.latest_of.Goals.{then-has_id, else-has_id}
@@ -34,3 +34,6 @@ returns c =
     let count = length-map c.args.objects.now data_of in
     let past : length ds ≤ c.loop-at.at = omega arith in
     subst (λ (xs : List Data). IsPositionOf xs (id_of c.args.id) c.loop-at.latest) (take_all c.loop-at.at ds past) c.loop-at.invariant
+
+pub has_id-requires : goal.has_id-requires
+has_id-requires c = ordered_at c.args.objects.now c.loop-at.at c.index-objects-at.result c.loop-at-test.true c.index-objects-at.is c.requires.ordered
