@@ -79,16 +79,10 @@ pub add_failed : (config : Config) (before : State) (moment : ℕ) (body : List 
     → IsWhyNot config before moment body query operation refusal
 add_failed config before moment body query info operation refusal is (inl none) = inl none
 add_failed config before moment body query info operation refusal is (inr (inl cannot)) = inr (inl (info, is, cannot))
-add_failed config before moment body query info operation refusal is (inr (inr (fault, new, text, some, adding))) =
+add_failed config before moment body query info operation refusal is (inr (inr (fault, (new, text, some, adding)))) =
     let answer = body_answer Accepted text in
     let after = with_added new text before in
-    inr (inr (
-      fault,
-      answer,
-      after,
-      adds_body config before after moment body query info operation answer is (new, text, adding, refl, refl),
-      rows_grow before.library.rows new some,
-    ))
+    inr (inr (fault, (answer, after, adds_body config before after moment body query info operation answer is (new, text, adding, refl, refl), rows_grow before.library.rows new some)))
 
 -- a deletion is what `Remove` does
 pub removes_object : (config : Config) (before after : State) (moment : ℕ) (body : List ℕ) (query : Query) (info : CollectionInfo) (id : Id) (operation : Operation) (answer : Answer)
@@ -105,16 +99,10 @@ pub remove_failed : (config : Config) (before : State) (moment : ℕ) (body : Li
     ⊎ ((refusal ≡ Problem StoreFault) × ((dates : List ℕ) × (dates ≢ []) × AreDeleted before.library info.id id query dates)))
     → IsWhyNot config before moment body query operation refusal
 remove_failed config before moment body query info id operation refusal is (inl none) = inl none
-remove_failed config before moment body query info id operation refusal is (inr (fault, dates, some, deleted)) =
+remove_failed config before moment body query info id operation refusal is (inr (fault, (dates, some, deleted))) =
     let answer = bare_answer Okay None in
     let after = without_dates dates before in
-    inr (inr (
-      fault,
-      answer,
-      after,
-      removes_object config before after moment body query info id operation answer is (dates, deleted, refl, refl),
-      rows_go before.library info.id id query dates deleted some,
-    ))
+    inr (inr (fault, (answer, after, removes_object config before after moment body query info id operation answer is (dates, deleted, refl, refl), rows_go before.library info.id id query dates deleted some)))
 
 -- ---- answers
 

@@ -86,7 +86,7 @@ unreadable_other body refusal (inr its) is = let wrong = sym its.0 ∙ is in abs
 
 add_other : (before : State) (collection moment : ℕ) (body : List ℕ) (refusal : Refusal) → CannotAdd before collection moment body refusal → IsOther refusal
 add_other before collection moment body refusal (inl its) = unreadable_other body refusal its
-add_other before collection moment body refusal (inr its) is = let wrong = sym its.0 ∙ is in absurd (cc wrong)
+add_other before collection moment body refusal (inr its) = λ is. let wrong = sym its.0 ∙ is in absurd (cc wrong)
 
 is_other : (config : Config) (before : State) (moment : ℕ) (request : Request) (route : Route) (text : List ℕ) (refusal : Refusal)
     → IsRefusedResource config before moment request route text refusal → IsOther refusal

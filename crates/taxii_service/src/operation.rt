@@ -23,7 +23,7 @@ pub(crate) enum Operation<'a> {
 impl<'a> Operation<'a> {
     /// What a method does with a resource that allows it.
     pub(crate) fn of(method: Method, resource: Resource<'a>) -> Operation<'a>
-        requires { allows (spec.allowed (spec.resource_of resource.entry)) method ≡ true }
+        requires { allows (spec.allowed (spec.resource_of resource)) method ≡ true }
         ensures { IsOperation method (spec.resource_of resource.entry) (operation_of result) }
     {
         match (method, resource) {

@@ -25,7 +25,7 @@ pub(crate) fn perform<K: Keeper>(
     operation: Operation<'_>,
 ) -> Result<Answer, Refusal>
     requires agrees { Agrees (K.kept keeper.old) state.old.library }
-    requires status { (resource : Resource) → operation_of operation.entry ≡ Read resource
+    requires status { (resource : Resource) → operation_of operation ≡ Read resource
         → HasStatus state.old resource }
     ensures agrees { Agrees (K.kept keeper.new) state.new.library }
     ensures keeper { without_rows (K.kept keeper.new) ≡ without_rows (K.kept keeper.old) }

@@ -28,7 +28,7 @@ pub(crate) fn read(
     resource: Resource<'_>,
     query: Query,
 ) -> Result<Answer, NoMemory>
-    requires status { HasStatus state.now (resource_of resource.entry) }
+    requires status { HasStatus state.now (resource_of resource) }
     ensures { IfOk result (IsGetAnswer config.now state.now (resource_of resource.entry) query) }
 {
     let alloc = config.alloc;

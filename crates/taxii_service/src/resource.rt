@@ -109,8 +109,12 @@ fn stored_id<'a>(library: &Library, info: &CollectionInfo, text: &'a str) -> Opt
     ensures { FindsExactly (NamesObject text.now info.now library.now.rows)
         (option_map id_of result) }
 {
-    match IdRef::read(text) {
-        Ok(id) if library.has_object(info.id, id.number, id.kind) => Some(id),
-        _ => None,
+    let Ok(id) = IdRef::read(text) else {
+        return None;
+    };
+    if library.has_object(info.id, id.number, id.kind) {
+        Some(id)
+    } else {
+        None
     }
 }

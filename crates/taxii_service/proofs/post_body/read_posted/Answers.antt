@@ -9,4 +9,4 @@ check_entries-requires c =
     subst (All IsTakenEntry) (sym c.into_vec.ensures) (taken_all are.list c.in-Ok.entries are.checked)
 
 pub returns-in-Err-clause-err : goal.returns-in-Err-clause-err
-returns-in-Err-clause-err c = c.of.ensures c.args.body.now c.in-Err.ensures.err
+returns-in-Err-clause-err c = c.refusal_of_body.ensures c.args.body.now c.in-Err.ensures.err

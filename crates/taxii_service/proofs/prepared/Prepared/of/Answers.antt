@@ -13,8 +13,7 @@ returns-in_err-planned-clause-err c =
     c.from_residual-in_err-planned.ensures.1
     (elim c.in_err-planned.ensures.err [
       | inl none ↦ inl none
-      | inr used ↦ inr (subst (CannotAdd state c.args.collection c.args.moment c.args.body.now) (sym used.0)
-          (record { posted = c.in_ok-posted.posted; posted_is = c.in_ok-posted.ensures.ok; lacks = used.1 }))
+      | inr used ↦ inr (inr (used.0, record { posted = c.in_ok-posted.posted; posted_is = c.in_ok-posted.ensures.ok; lacks = used.1 }))
     ])
 
 pub report_of-requires : goal.report_of-requires
