@@ -7,7 +7,11 @@ use Rattle.std.proofs.lemmas.List.{length-append}
 use Rattle.std.proofs.lemmas.List.Elements.{All-contains, filter_passes}
 use Rattle.flow_edges.specs.Faults.{Counted}
 use Rattle.stix_ids.specs.declared.id.Id.{Id}
+use Rattle.http_messages.specs.declared.request.Request.{Request}
 use Rattle.taxii_routes.specs.declared.query.Query.{Query}
+use Rattle.taxii_routes.specs.declared.route.Route.{Route}
+use Rattle.taxii_routes.specs.Query.{pairs_of, IsQueryOf}
+use Rattle.taxii_exchange.specs.Checking.{IsFit}
 use Rattle.taxii_rows.specs.declared.stored_row.StoredRow.{StoredRow}
 use Rattle.taxii_rows.specs.StoreState.{StoreState}
 use Rattle.taxii_rows.specs.Keeper.{is_date_in, without}
@@ -25,9 +29,11 @@ use Rattle.taxii_exchange.specs.declared.config.Config.{Config}
 use Rattle.taxii_service.specs.declared.state.State.{State}
 use Rattle.taxii_service.specs.Adding.{IsAdding, CannotAdd, with_added}
 use Rattle.taxii_service.specs.Deleting.{AreDeleted, without_dates}
-use Rattle.taxii_service.specs.Operation.{Operation, Add, Remove, AddsBody, RemovesObject, Does, CannotDo}
-use Rattle.taxii_service.specs.inner.Performing.{MethodChanges}
-use Rattle.taxii_service.specs.Step.{IsAnswerTo}
+use Rattle.taxii_service.specs.Operation.{Operation, Add, Remove, IsOperation, AddsBody, RemovesObject, Does, CannotDo}
+use Rattle.taxii_service.specs.Resource.{Resource, allowed, rights_to}
+use Rattle.taxii_service.specs.Finding.{IsResource}
+use Rattle.taxii_service.specs.inner.Performing.{MethodChanges, RouteChanges}
+use Rattle.taxii_service.specs.Step.{IsUndone, IsRefusedResource, IsDone, IsAnswerTo}
 
 pub if_err : {T E : Type 0} (answer : Result T E) (P Q : E → Type 0) → ((refusal : E) → P refusal → Q refusal) → IfErr answer P → IfErr answer Q
 if_err (Ok value) P Q to its = tt
@@ -84,6 +90,19 @@ add_failed config before moment body query info operation refusal is (inr (inr (
     let after = with_added new text before in
     inr (inr (fault, (answer, after, adds_body config before after moment body query info operation answer is (new, text, adding, refl, refl), rows_grow before.library.rows new some)))
 
+pub additions_fail : (config : Config) (before : State) (moment : ℕ) (body : List ℕ) (query : Query) (info : CollectionInfo) (operation : Operation) (result : Result Answer Refusal) → operation ≡ Add info
+    → IfErr result (λ refusal. (refusal ≡ NoMemory) ⊎ (CannotAdd before info.id moment body refusal
+    ⊎ ((refusal ≡ Problem StoreFault) × ((new : List StoredRow) × (text : List ℕ) × (new ≢ []) × IsAdding before info.id moment body new text))))
+    → IfErr result (IsWhyNot config before moment body query operation)
+additions_fail config before moment body query info operation (Ok answer) is its = tt
+additions_fail config before moment body query info operation (Err refusal) is its = add_failed config before moment body query info operation refusal is its
+
+pub additions_do : (config : Config) (before after : State) (moment : ℕ) (body : List ℕ) (query : Query) (info : CollectionInfo) (operation : Operation) (result : Result Answer Refusal) → operation ≡ Add info
+    → IfOk result (λ answer. (new : List StoredRow) × (text : List ℕ) × IsAdding before info.id moment body new text × (answer ≡ body_answer Accepted text) × (after ≡ with_added new text before))
+    → IfOk result (λ answer. Does config before moment body query operation answer after)
+additions_do config before after moment body query info operation (Ok answer) is its = adds_body config before after moment body query info operation answer is its
+additions_do config before after moment body query info operation (Err refusal) is its = tt
+
 -- a deletion is what `Remove` does
 pub removes_object : (config : Config) (before after : State) (moment : ℕ) (body : List ℕ) (query : Query) (info : CollectionInfo) (id : Id) (operation : Operation) (answer : Answer)
     → operation ≡ Remove info id
@@ -103,6 +122,36 @@ remove_failed config before moment body query info id operation refusal is (inr 
     let answer = bare_answer Okay None in
     let after = without_dates dates before in
     inr (inr (fault, (answer, after, removes_object config before after moment body query info id operation answer is (dates, deleted, refl, refl), rows_go before.library info.id id query dates deleted some)))
+
+pub removals_fail : (config : Config) (before : State) (moment : ℕ) (body : List ℕ) (query : Query) (info : CollectionInfo) (told id : Id) (operation : Operation) (result : Result Answer Refusal)
+    → told ≡ id → operation ≡ Remove info id
+    → IfErr result (λ refusal. (refusal ≡ NoMemory)
+    ⊎ ((refusal ≡ Problem StoreFault) × ((dates : List ℕ) × (dates ≢ []) × AreDeleted before.library info.id told query dates)))
+    → IfErr result (IsWhyNot config before moment body query operation)
+removals_fail config before moment body query info told id operation (Ok answer) same is its = tt
+removals_fail config before moment body query info told id operation (Err refusal) same is its =
+    remove_failed config before moment body query info id operation refusal is
+    (subst (λ (i : Id). (refusal ≡ NoMemory)
+    ⊎ ((refusal ≡ Problem StoreFault) × ((dates : List ℕ) × (dates ≢ []) × AreDeleted before.library info.id i query dates))) same its)
+
+-- ---- the request
+
+-- why a request that passed all checks failed
+pub request_fails : (config : Config) (before : State) (moment : ℕ) (request : Request) (route : Route) (text : List ℕ) (query : Query) (resource : Resource) (operation : Operation)
+    (result : Result Answer Refusal) → IsResource config.collections before route resource → IsFit (allowed resource) (rights_to resource) request → IsQueryOf (pairs_of text) query
+    → IsOperation request.method resource operation → IfErr result (IsWhyNot config before moment request.body query operation)
+    → IfErr result (λ refusal. (refusal ≡ NoMemory) ⊎ (IsRefusedResource config before moment request route text refusal
+    ⊎ ((refusal ≡ Problem StoreFault) × RouteChanges config before moment request route text)))
+request_fails config before moment request route text query resource operation (Ok answer) found fit asks is its = tt
+request_fails config before moment request route text query resource operation (Err refusal) found fit asks is (inl none) = inl none
+request_fails config before moment request route text query resource operation (Err refusal) found fit asks is (inr (inl cannot)) =
+    let undone : IsUndone before moment request resource text refusal =
+    record { query = query; operation = operation; fit = fit; query_is = asks; operation_is = is; cannot = cannot } in
+    inr (inl (inr (resource, found, inr undone)))
+request_fails config before moment request route text query resource operation (Err refusal) found fit asks is (inr (inr (fault, (answer, after, does, rows)))) =
+    let done : IsDone config before moment request route text answer after =
+    record { resource = resource; operation = operation; query = query; found = found; fit = fit; query_is = asks; operation_is = is; does = does } in
+    inr (inr (fault, (answer, after, done, rows)))
 
 -- ---- answers
 
