@@ -9,7 +9,7 @@ use Rattle.http_messages.specs.Replies.Outcome.{Whole, Fails as Refuses, Ends as
 use Rattle.taxii_client.specs.declared.reply_refusal.ReplyRefusal.{ReplyRefusal}
 use Rattle.taxii_client.specs.ReplyRefusals.{for_head}
 use Rattle.taxii_client.specs.Fetches.{IsPageReply, IsRefusedPage, FetchOutcome, IsFetchOutcome}
-use Rattle.taxii_client.specs.Fetches.Outcome.{Comes, Fails, Ends}
+use Rattle.taxii_client.specs.Fetches.FetchOutcome.{Comes, Fails, Ends}
 
 -- a body isn't a page and none
 no_page : (body : List ℕ) (envelope : Envelope) (refusal : JsonRefusal) → IsEnvelopeOf body envelope → (refusal ≡ Json.NoMemory → ⊥) → HasNoEnvelopeAs body refusal → ⊥
