@@ -1,6 +1,6 @@
 -- One step of a server (TAXII 2.1, sections 3 to 5): a request at a moment, its answer, and what
 -- the server has after it.
-use Rattle.std.specs.Prelude.{◌≡◌, ◌≢◌, ◌⊎◌, ℕ, List, [], Option, Some, None, unwrap_or}
+use Rattle.std.specs.Prelude.{◌≡◌, ◌≢◌, ◌⊎◌, ℕ, List, [], Option, Some, unwrap_or}
 use Rattle.http_messages.specs.declared.method.Method.{Method}
 use Rattle.http_messages.specs.declared.request.Request.{Request}
 use Rattle.http_messages.specs.declared.status.Status.TheVariants.{MethodNotAllowed}

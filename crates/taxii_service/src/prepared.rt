@@ -1,5 +1,4 @@
-ghost use Rattle.std.specs.Prelude.{◌≡◌, ◌⊎◌, ◌+◌, ◌<◌, ◌^◌, All, IfOk, IfErr, length};
-ghost use Rattle.taxii_service.specs.Posted.{IsPosted};
+ghost use Rattle.std.specs.Prelude.{◌≡◌, ◌⊎◌, ◌<◌, All, IfOk, IfErr};
 ghost use Rattle.taxii_store.specs.Addition.{IsAddition, UsesUpDates};
 ghost use Rattle.taxii_store.specs.Planned.{IsSound};
 ghost use Rattle.taxii_bodies.specs.Status.{status_id_of};

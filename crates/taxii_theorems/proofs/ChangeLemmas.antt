@@ -1,5 +1,5 @@
 -- A POST and a DELETE do one thing, or are refused for one cause.
-use Rattle.std.proofs.Common.{◌≡◌, ◌⊎◌, inl, inr, ℕ, ◌+◌, ◌≤◌, List, [], ◌∷◌, ◌++◌, Bool, true, false, Some, refl, sym, ap, subst, ◌∙◌, arith}
+use Rattle.std.proofs.Common.{◌≡◌, ◌⊎◌, inl, inr, ℕ, ◌+◌, ◌≤◌, List, [], ◌∷◌, ◌++◌, Bool, true, false, refl, sym, ap, subst, ◌∙◌, arith}
 use Rattle.std.specs.Prelude.{codes, bytes_eq}
 use Rattle.std.specs.List.{Contains}
 use Rattle.std.proofs.lemmas.Slice.Eq.{bytes_eq-Decides}
@@ -18,7 +18,7 @@ use Rattle.taxii_exchange.specs.AnswersToRequests.{body_answer}
 use Rattle.taxii_service.specs.declared.state.State.{State}
 use Rattle.taxii_exchange.specs.Statuses.{next_number}
 use Rattle.taxii_service.specs.Posted.{IsNotJson, HasNoObjects, IsUnreadableBody, IsPosted}
-use Rattle.taxii_service.specs.Adding.{IsAdding, LacksDatesForAddition, CannotAdd, IsStatusReport, with_added}
+use Rattle.taxii_service.specs.Adding.{IsAdding, CannotAdd, IsStatusReport, with_added}
 use Rattle.taxii_service.specs.Deleting.{deleted_picks, AllowsStandard, AreDeleted, without_dates}
 use Rattle.taxii_service.specs.Operation.{AddsBody, RemovesObject}
 use Rattle.taxii_store.specs.History.{IsDated}

@@ -1,5 +1,5 @@
 -- A request that is neither a POST nor a DELETE has one step.
-use Rattle.std.proofs.Common.{◌≡◌, ◌≢◌, ◌⊎◌, inl, inr, ℕ, List, [], Option, unwrap_or, refl, sym, subst, ◌∙◌}
+use Rattle.std.proofs.Common.{◌≡◌, ◌≢◌, ◌⊎◌, inl, inr, ℕ, List, [], Option, unwrap_or, sym, subst, ◌∙◌}
 use Rattle.http_messages.specs.declared.method.Method.{Method}
 use Rattle.http_messages.specs.declared.method.Method.TheVariants.{Post, Delete}
 use Rattle.http_messages.specs.declared.request.Request.{Request}

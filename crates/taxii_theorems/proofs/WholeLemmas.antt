@@ -5,11 +5,11 @@ use Rattle.http_messages.specs.declared.request.Request.{Request}
 use Rattle.taxii_exchange.specs.declared.answer.Answer.{Answer}
 use Rattle.taxii_routes.specs.declared.query.Query.{Query}
 use Rattle.taxii_routes.specs.declared.route.Route.{Route}
-use Rattle.taxii_routes.specs.Query.{pairs_of, IsQueryOf}
+use Rattle.taxii_routes.specs.Query.{pairs_of}
 use Rattle.taxii_exchange.specs.declared.config.Config.{Config}
 use Rattle.taxii_exchange.specs.declared.refusal.Refusal.{Refusal}
 use Rattle.taxii_bodies.specs.declared.collections.CollectionInfo.{CollectionInfo}
-use Rattle.taxii_exchange.specs.Checking.{IsFit, IsRefusedByCheck}
+use Rattle.taxii_exchange.specs.Checking.{IsRefusedByCheck}
 use Rattle.taxii_service.specs.Resource.{Resource, allowed, rights_to}
 use Rattle.taxii_service.specs.Adding.{CannotAdd}
 use Rattle.taxii_service.specs.Operation.{Operation, Read, Add, Remove, IsOperation, Does, CannotDo}

@@ -1,7 +1,7 @@
 -- A client that pulls a collection from a server, with a new connection per page: each page is a
 -- round that the server answered (TAXII 2.1, sections 3.4 and 5.4). Other requests and restarts of
 -- the server may occur in between.
-use Rattle.std.specs.Prelude.{◌≡◌, ⊤, ℕ, ◌<◌, ◌^◌, Bool, List, [], ◌∷◌, ◌++◌, All, map, length, Option, Some, None}
+use Rattle.std.specs.Prelude.{◌≡◌, ⊤, ℕ, ◌<◌, ◌^◌, Bool, List, [], ◌∷◌, ◌++◌, All, map, length, Option, Some}
 use Rattle.std.specs.List.{Contains}
 use Rattle.taxii_exchange.specs.Answers.{IsAnswerText}
 use Rattle.taxii_rows.specs.declared.stored_row.StoredRow.{StoredRow}

@@ -1,6 +1,6 @@
 //! Theorems about the definitions. Each `ensures` states one; the functions have no effect.
 
-ghost use Rattle.std.specs.Prelude.{◌≡◌, ◌≤◌, ◌<◌, ◌^◌, ◌++◌, ℕ, ℤ, Bool, List, Option, Some, None};
+ghost use Rattle.std.specs.Prelude.{◌≡◌, ◌≤◌, ◌<◌, ◌^◌, ◌++◌, ℕ, ℤ, Bool, List, Option, Some};
 ghost use Rattle.std.specs.Prelude.{All, length};
 ghost use Rattle.http_messages.specs.declared.status.Status.TheVariants.{Okay};
 ghost use Rattle.taxii_exchange.specs.declared.answer.Answer.{Answer};

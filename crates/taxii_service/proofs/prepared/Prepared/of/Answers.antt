@@ -1,4 +1,4 @@
-use Rattle.std.proofs.Common.{◌≡◌, ◌⊎◌, inl, inr, length, sym, subst, ◌∙◌, arith}
+use Rattle.std.proofs.Common.{◌≡◌, ◌⊎◌, inl, inr, length, ◌∙◌, arith}
 use Rattle.taxii_exchange.specs.declared.refusal.Refusal.TheVariants.{NoMemory}
 use Rattle.taxii_store.specs.Addition.{first_date}
 use Rattle.taxii_service.specs.Adding.{CannotAdd}
