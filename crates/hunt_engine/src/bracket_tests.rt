@@ -59,7 +59,8 @@ fn test_bracket(
     requires certain { IsCertain (data_in bundle.now)
         (bracket_leaves brackets.now) position roots.now }
     ensures { OnOk result (AddsPositions (λ root added. (added ≡ position) × Contains roots.now root
-        × IsMetBracket (data_in bundle.now) (bracket_leaves brackets.now) root position) memo.old memo.new) }
+        × IsMetBracket (data_in bundle.now) (bracket_leaves brackets.now) root position)
+        memo.old memo.new) }
 {
     let Some(leaf) = brackets.leaves.get(position as usize) else {
         return Ok(());

@@ -9,7 +9,7 @@ use http_messages::Method;
 use stix_ids::IdRef;
 use taxii_bodies::CollectionInfo;
 
-/// What a request that passed all checks does.
+/// The effect of a request that passed all checks.
 #[derive(Clone, Copy)]
 pub(crate) enum Operation<'a> {
     /// A GET reads a resource.
@@ -21,7 +21,7 @@ pub(crate) enum Operation<'a> {
 }
 
 impl<'a> Operation<'a> {
-    /// What a method does with a resource that allows it.
+    /// The operation of a method on a resource that allows it.
     pub(crate) fn of(method: Method, resource: Resource<'a>) -> Operation<'a>
         requires { allows (spec.allowed (spec.resource_of resource)) method ≡ true }
         ensures { IsOperation method (spec.resource_of resource.entry) (operation_of result) }

@@ -35,7 +35,8 @@ pub(crate) fn perform<K: Keeper>(
     ensures err { IfErr result (λ refusal. (refusal ≡ Refused.NoMemory)
         ⊎ (CannotDo state.old moment body.now (operation_of operation.entry) refusal
         ⊎ ((refusal ≡ Refused.Problem Trouble.StoreFault)
-        × MethodChanges config.now state.old moment body.now query (operation_of operation.entry)))) }
+        × MethodChanges config.now state.old moment body.now query
+        (operation_of operation.entry)))) }
     ensures unchanged { OnErr result (state.new ≡ state.old) }
     ensures causes { Counted (result ≡ Err (Refused.Problem Trouble.StoreFault))
         (K.faults keeper.old) (K.faults keeper.new) }

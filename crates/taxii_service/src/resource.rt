@@ -86,7 +86,7 @@ impl<'a> Resource<'a> {
         }
     }
 
-    /// What a client may do with the resource.
+    /// The client's rights on the resource.
     pub fn rights(self) -> Rights
         ensures { result ≡ spec.rights_to (spec.resource_of self.entry) }
     {
