@@ -92,6 +92,7 @@ for name, comparison in {
 match("comparison/one", "one such comparison", "[user-account:account_login = 'a']", OBJECTS)
 
 case("check/bundle", "`check` of a bundle of 100,000 objects, 56 MB", ("{stix_command}", "check"), BUNDLE, target=Target(3, "memory", "input"))
+case("check/versions-of-wide", "`check` of 20,000 versions of an object, one of 400,000 properties", ("{stix_command}", "check"), ("versions-of-wide", 20_000, 400_000), target=Target(2))
 
 # stix_hunt
 
@@ -142,6 +143,7 @@ line("lists", "10,000 observations of such an object", f"[{THING}:list[*] = -1]"
 line("not-equal", "the same with `!=`", f"[{THING}:list[*] != 1]", (*NUMBERS[1], "apart"))
 line("references", "10,000 objects that refer to one, which refers to 70,000", REFERENCES, ("references", 10_000, 70_000))
 line("references-apart", "the same, each in an observation", REFERENCES, ("references", 10_000, 50_000, "apart"))
+line("references-to-wide", "20,000 references to an object of 400,000 properties", f"[{THING}:n = 1]", ("references-to-wide", 20_000, 400_000))
 line("ring", "350 objects, each of which refers to all", f"[{THING}:{'a_refs[*].' * 7}n = 1]", ("ring", "350"))
 line("properties", "1,000 comparisons, an object of 500,000 properties", f"[{' OR '.join(f'{THING}:p{it * 500} = -1' for it in range(1, 1001))}]", ("properties", 500_000))
 line("offsets", "1,000 comparisons, a list of 3,000,000", f"[{' OR '.join(f'{THING}:list[{it}] = -1' for it in range(1, 1001))}]", ("list-in-one", "1", 3_000_000))
