@@ -51,9 +51,10 @@ pub record DeadlineState : Type 0 where
   pub contents : Option (List ℕ)
   pub deadline : ℕ
 
--- the bytes left in the stream and its contents, if they are observable, and the phase of its
--- client
+-- the bytes left in the stream and its contents, if they are observable, the phase of its client,
+-- and the nanoseconds for which its calls may still wait
 pub record TimedState : Type 0 where
   pub remaining : Option (List ℕ)
   pub contents : Option (List ℕ)
   pub phase : Phase
+  pub left : ℕ

@@ -4,8 +4,8 @@
 //!
 //! Each trait has ghost members for its observable state and counts its faults. `TcpDoor`,
 //! `TcpDial` and `SystemClock` implement the traits for the operating system, where nothing but the
-//! faults is observable. They set timeouts: see `Phase` for those of a client, and `Deadline` for
-//! those of a peer.
+//! faults is observable. They set timeouts: see `Phase` and `ConnectionTime` for those of a client,
+//! and `Deadline` for those of a peer.
 //!
 //! ```ignore
 //! let mut door = TcpDoor::new(rt);
@@ -28,5 +28,6 @@ pub use dial::{Dial, MAX_HOST};
 pub use door::Door;
 pub use link::Link;
 pub use system::{
-    Deadline, DeadlineStream, Phase, SystemClock, TcpDial, TcpDoor, TcpLink, TimedStream,
+    ConnectionTime, Deadline, DeadlineStream, Phase, SystemClock, TcpDial, TcpDoor, TcpLink,
+    TimedStream,
 };

@@ -1,3 +1,4 @@
+mod connection_time;
 mod deadline;
 mod deadline_stream;
 mod phase;
@@ -7,6 +8,7 @@ mod tcp_door;
 mod tcp_link;
 mod timed_stream;
 
+pub use connection_time::ConnectionTime;
 pub use deadline::Deadline;
 pub use deadline_stream::DeadlineStream;
 pub use phase::Phase;

@@ -115,3 +115,63 @@ fn a_caller_keeps_its_pace(rt: HostRuntime) -> Result<(), Fail> {
     assert_eq!(rt; link.read(&mut buffer), Err(Fault));
     Ok(())
 }
+
+/// A stream whose reads and writes take 9 seconds each.
+#[derive(Drop)]
+struct Slow<'w> {
+    clock: &'w HandClock,
+}
+
+impl<'w> Slow<'w> {
+    fn pass(&self) {
+        self.clock
+            .seconds
+            .set(self.clock.seconds.get().saturating_add(9));
+    }
+}
+
+impl<'w> Read for Slow<'w> {
+    fn read(&mut self, buf: &mut [u8]) -> io::Result<usize> {
+        self.pass();
+        Ok(buf.len())
+    }
+}
+
+impl<'w> Write for Slow<'w> {
+    fn write(&mut self, buf: &[u8]) -> io::Result<usize> {
+        self.pass();
+        Ok(buf.len())
+    }
+
+    fn flush(&mut self) -> io::Result<()> {
+        Ok(())
+    }
+}
+
+impl<'w> OpenStream for Slow<'w> {
+    fn set_read_timeout(&self, _: Option<Duration>) -> io::Result<()> {
+        Ok(())
+    }
+
+    fn set_write_timeout(&self, _: Option<Duration>) -> io::Result<()> {
+        Ok(())
+    }
+}
+
+#[test]
+fn a_connection_has_a_minute(rt: HostRuntime) -> Result<(), Fail> {
+    let clock = HandClock {
+        seconds: Cell::new(1_000),
+    };
+    let mut link = TcpLink::new(TimedStream::new(Slow { clock: &clock }, &clock));
+    let mut buffer = [0u8; 4];
+    // Each request and each response is in time, and yet the calls wait for a minute in all.
+    for _ in 0..3 {
+        assert_eq!(rt; link.read(&mut buffer), Ok(4));
+        assert_eq!(rt; link.write(&buffer), Ok(4));
+    }
+    assert_eq!(rt; link.read(&mut buffer), Ok(4));
+    assert_eq!(rt; link.read(&mut buffer), Err(Fault));
+    assert_eq!(rt; link.write(&buffer), Err(Fault));
+    Ok(())
+}

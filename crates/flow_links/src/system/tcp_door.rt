@@ -29,7 +29,7 @@ struct Port<L: OpenListener> {
 
 /// A TCP listener on the loopback interface. Links are not observable; the value in contracts is
 /// the address, and the counts of lost clients and of faults. `TCP_NODELAY` is set, and each
-/// connection has the timeouts of `Phase`.
+/// connection has the timeouts of `Phase` within those of `ConnectionTime`.
 ///
 /// A client is lost if accepting it fails, for example if it has gone or file descriptors run out.
 /// The loss is counted, and the next accept follows a tenth of a second later. A hundred losses in
@@ -160,9 +160,9 @@ impl<'r, R: Net + Timer> Door for TcpDoor<'r, R> {
         }
     }
 
-    /// Closes the link. If no call on it failed, it first shuts down writing, then drops input for
-    /// at most 2 seconds and 16,777,216 bytes. So a response that the client hasn't read yet still
-    /// reaches it.
+    /// Closes the link. If no call on it failed, it first shuts down writing. If input is pending, it
+    /// then drops input for at most 2 seconds and 16,777,216 bytes. So a response that the client
+    /// hasn't read yet still reaches it.
     fn finish(&mut self, link: TcpLink<TimedStream<'r, R::Stream, R>>)
         ensures back { Finishes {L = StreamState} link.entry None None }
         ensures quiet { self.new ≡ self.old }
