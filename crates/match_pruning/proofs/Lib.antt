@@ -10,3 +10,4 @@ pub mod CompletionBoundLemmas
 pub mod EarliestStartLemmas
 pub mod SkipIndexLemmas
 pub mod GreedyCompletionLemmas
+pub mod BegunLemmas

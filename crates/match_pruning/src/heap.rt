@@ -3,14 +3,20 @@
 //! The children of index p are 4 p + 1 to 4 p + 4. Four children halve the depth of a binary heap,
 //! and the four lie side by side in memory. `sift_up` and `sift_down` are the textbook operations:
 //! each swap restores the order at one index and may break it at the next, O(log n) in all.
+//!
+//! `last_begun` is a range query that prunes. What stands below an element begins no earlier, so
+//! below one that begins too late it looks at nothing. On each level these are neighbors.
 
-ghost use Rattle.std.specs.Prelude.{◌≡◌, ◌<◌, ◌≤◌, ◌+◌, ◌*◌, int_lt, length, IfSome, IfNone};
+ghost use Rattle.std.specs.Prelude.{◌≡◌, ◌≤ℤ◌, ◌<◌, ◌≤◌, ◌+◌, ◌*◌, int_lt, length};
+ghost use Rattle.std.specs.Prelude.{IfSome, IfNone};
 ghost use Rattle.match_pruning.specs.declared.partial_match.PartialMatch.{PartialMatch};
 ghost use Rattle.match_pruning.specs.inner.PartialMatches.{partial_match_trees};
 ghost use Rattle.match_pruning.specs.inner.UpToOrder.{AreSameMultiset};
 ghost use Rattle.match_pruning.specs.inner.Heaps.{IsHeap, IsHeapBelow, IsEarliestChild, time_at};
+ghost use Rattle.match_pruning.specs.inner.Heaps.{AreLater, IsLastBegun};
 
 use crate::partial_match::PartialMatch;
+use stix_times::Instant;
 
 /// How many children an index has.
 const WIDTH: usize = 4;
@@ -73,6 +79,55 @@ fn earliest_child(held: &[PartialMatch], at: usize) -> Option<usize>
         }
     }
     Some(earliest)
+}
+
+/// The index of the last element before `end` that begins at `time` or earlier, if there is one.
+/// The first `heaped` elements are a heap. Takes O(log n) for each run of later ones.
+pub fn last_begun(
+    held: &[PartialMatch],
+    heaped: usize,
+    end: usize,
+    time: Instant,
+) -> Option<usize>
+    requires inside { end ≤ length held.now }
+    requires heap { IsHeap held.now heaped }
+    ensures some { IfSome result (λ at. IsLastBegun held.now time at end) }
+    ensures none { IfNone result (AreLater held.now time 0 end) }
+{
+    let mut from = end;
+    while from > 0 {
+        let start = later_run(held, heaped, from - 1, time);
+        if start == from {
+            return Some(from - 1);
+        }
+        from = start;
+    }
+    None
+}
+
+/// The start of the run of elements up to `place` that all begin after `time`; `place + 1` where
+/// the one at `place` doesn't. The run is known by its ancestors: where the parents begin later, so
+/// do all of their children.
+#[cycle(later_run)]
+fn later_run(held: &[PartialMatch], heaped: usize, place: usize, time: Instant) -> usize
+    requires inside { place < length held.now }
+    requires heap { IsHeap held.now heaped }
+    ensures later { AreLater held.now time result (place + 1) }
+    ensures bound { result ≤ place + 1 }
+    ensures begun { (d : PartialMatch) → result ≡ place + 1 → time_at held.now d place ≤ℤ time }
+{
+    if held[place].earliest <= time {
+        return place + 1;
+    }
+    if place == 0 || place >= heaped {
+        return place;
+    }
+    let parent = (place - 1) / WIDTH;
+    let first = later_run(held, heaped, parent, time);
+    if first > parent {
+        return place;
+    }
+    WIDTH * first + 1
 }
 
 /// Whether the element at `place` begins earlier than the one at `other`.

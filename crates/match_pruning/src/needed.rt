@@ -54,8 +54,9 @@ pub fn is_needed(
             return Ok(false);
         }
     }
-    let mut lefts = innermost.left.held.as_slice();
-    while let Some((left, earlier)) = lefts.split_last() {
+    let mut end = innermost.left.held.len();
+    while let Some(at) = innermost.left.last_begun(end, partial_match.earliest) {
+        let left = &innermost.left.held[at];
         if Join::Then.may_join(left, partial_match) {
             let longer = Join::Then.joined(alloc, left, partial_match)?;
             let is = is_needed(alloc, &longer, now, above);
@@ -64,7 +65,7 @@ pub fn is_needed(
                 return Ok(true);
             }
         }
-        lefts = earlier;
+        end = at;
     }
     Ok(false)
 }

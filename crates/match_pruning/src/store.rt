@@ -1,15 +1,15 @@
 ghost use Rattle.std.specs.Prelude.{◌≡◌, ◌++◌, ◌∷◌, ◌≤◌, ◌<◌, [], true, length, not};
-ghost use Rattle.std.specs.Prelude.{slice_index_or, OnOk};
+ghost use Rattle.std.specs.Prelude.{slice_index_or, OnOk, IfSome, IfNone};
 ghost use Rattle.std.proofs.Props.{props};
 ghost use Rattle.match_pruning.specs.Stores.{window_of};
 ghost use Rattle.match_pruning.specs.inner.Retains.{retains};
 ghost use Rattle.match_pruning.specs.inner.PartialMatches.{partial_match_tree, partial_match_trees};
 ghost use Rattle.match_pruning.specs.declared.partial_match.PartialMatch.{PartialMatch};
-ghost use Rattle.match_pruning.specs.inner.Heaps.{IsHeap};
+ghost use Rattle.match_pruning.specs.inner.Heaps.{IsHeap, AreLater, IsLastBegun};
 ghost use Rattle.match_pruning.specs.inner.Steps.{kept};
 ghost use Rattle.match_pruning.specs.inner.UpToOrder.{AreSameMultiset};
 
-use crate::heap::{sift_down, sift_up};
+use crate::heap::{last_begun, sift_down, sift_up};
 use crate::partial_match::PartialMatch;
 use crate::{Window, expired};
 use flow_values::NoMemory;
@@ -108,6 +108,16 @@ impl Store {
             Some(first) => is_retained(window, first.earliest, now),
             None => true,
         }
+    }
+
+    /// The index of the last partial match before `end` that begins at `time` or earlier, if there
+    /// is one. None ends before it begins, so all that end by `time` are found.
+    pub fn last_begun(&self, end: usize, time: Instant) -> Option<usize>
+        requires { end ≤ length self.now.held.items }
+        ensures some { IfSome result (λ at. IsLastBegun self.now.held.items time at end) }
+        ensures none { IfNone result (AreLater self.now.held.items time 0 end) }
+    {
+        last_begun(&self.held, self.heaped, end, time)
     }
 
     /// Appends the new partial matches that haven't expired.

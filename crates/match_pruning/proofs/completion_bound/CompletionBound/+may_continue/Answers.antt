@@ -19,7 +19,7 @@ returns-then-not-branch t c = λ greedy_completion h wants.
     let by_pending_lefts = subst (λ (z : List PendingLeft). is_needed now (pending_lefts_of z) greedy_completion ≡ true) c.in-Some.ensures.cases.0 wants in
     let one = needed_by_one now (pending_left_trees x) (pending_lefts_of above) (partial_match_tree c.args.partial_match.now) greedy_completion c.args.self.now h (sym c.is_retained.ensures ∙ c.if-is_retained.false)
     (subst (λ (z : List PendingLeftTrees). is_needed now z greedy_completion ≡ true) (pending_lefts_more above x) by_pending_lefts) in
-    let on = c.in_ok-take.ensures greedy_completion one.0 h (subst (λ (z : List PartialMatch). Contains (partial_match_trees z) one.0) (sym c.deref.ensures.value) one.1) one.2 in
+    let on = c.in_ok-take.ensures greedy_completion one.0 h one.1 one.2 in
     sym c.if-not-branch.true ∙ on.0
 
 pub returns : goal.returns
@@ -28,5 +28,5 @@ returns t c = λ greedy_completion h wants.
     let by_pending_lefts = subst (λ (z : List PendingLeft). is_needed now (pending_lefts_of z) greedy_completion ≡ true) c.in-Some.ensures.cases.0 wants in
     let one = needed_by_one now (pending_left_trees x) (pending_lefts_of above) (partial_match_tree c.args.partial_match.now) greedy_completion c.args.self.now h (sym c.is_retained.ensures ∙ c.if-is_retained.false)
     (subst (λ (z : List PendingLeftTrees). is_needed now z greedy_completion ≡ true) (pending_lefts_more above x) by_pending_lefts) in
-    let on = c.in_ok-take.ensures greedy_completion one.0 h (subst (λ (z : List PartialMatch). Contains (partial_match_trees z) one.0) (sym c.deref.ensures.value) one.1) one.2 in
+    let on = c.in_ok-take.ensures greedy_completion one.0 h one.1 one.2 in
     c.in_ok-may.ensures (joined_matches join.Then one.0 greedy_completion) on.1 one.3
