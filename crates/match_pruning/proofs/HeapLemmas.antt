@@ -243,3 +243,11 @@ later_children f n place from t heap some inside parents i low high =
     let first : from ≤ (i - 1) / 4 = omega (arith, low) in
     let last : (i - 1) / 4 < (place - 1) / 4 + 1 = omega (arith, low, high) in
     lt_le_trans t (f ((i - 1) / 4)) (f i) (parents ((i - 1) / 4) first last) (heap ((i - 1) / 4) i above (omega (arith, high, inside)))
+
+pub later_children_to : (f : ℕ → ℤ) (n place end : ℕ) (t : ℤ) → AreHeaped f n → 0 < place →
+    ((i : ℕ) → (place - 1) / 4 ≤ i → i < end → t <ℤ f i) → (i : ℕ) → place ≤ i → i < 4 * end + 1 → i < n → t <ℤ f i
+later_children_to f n place end t heap some parents i low high inside =
+    let above : IsChild ((i - 1) / 4) i = parent_of i (omega (arith, some, low)) in
+    let first : (place - 1) / 4 ≤ (i - 1) / 4 = omega (arith, low) in
+    let last : (i - 1) / 4 < end = omega (arith, some, low, high) in
+    lt_le_trans t (f ((i - 1) / 4)) (f i) (parents ((i - 1) / 4) first last) (heap ((i - 1) / 4) i above inside)

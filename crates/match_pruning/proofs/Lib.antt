@@ -11,3 +11,4 @@ pub mod EarliestStartLemmas
 pub mod SkipIndexLemmas
 pub mod GreedyCompletionLemmas
 pub mod BegunLemmas
+pub mod EndLemmas

@@ -265,11 +265,7 @@ fn are_many(numbers: &mut Vec<u64>) -> bool
 /// The latest begin before `bound` of a stored partial match that may precede a completion which
 /// begins at `bound` at the latest. Looks at the newest first, and tests disjointness only where
 /// the begin improves the result.
-fn latest_before(
-    bound: Instant,
-    partial_match: &PartialMatch,
-    store: &Store,
-) -> Option<Instant>
+fn latest_before(bound: Instant, partial_match: &PartialMatch, store: &Store) -> Option<Instant>
     ensures { (left : PartialMatchTree) → Contains (partial_match_trees store.now.held.items) left
         → may_precede left bound (partial_match_tree partial_match.now) ≡ true
         → left.earliest <ℤ bound → (time : ℤ) × (result ≡ Some time) × (left.earliest ≤ℤ time) }

@@ -1,6 +1,6 @@
 -- For private clauses: a 4-ary heap by earliest time. The children of index p are 4 p + 1 to 4 p +
 -- 4.
-use Rattle.std.specs.Prelude.{ℕ, ◌+◌, ◌*◌, ◌≤◌, ◌<◌, ℤ, ◌≤ℤ◌, ◌<ℤ◌, List, slice_index_or}
+use Rattle.std.specs.Prelude.{ℕ, ◌+◌, ◌*◌, ◌≤◌, ◌<◌, ℤ, ◌≤ℤ◌, ◌<ℤ◌, List, length, slice_index_or}
 use Rattle.match_pruning.specs.declared.partial_match.PartialMatch.{PartialMatch}
 
 abbrev pub IsChild : ℕ → ℕ → Type 0
@@ -40,3 +40,10 @@ pub record IsLastBegun (held : List PartialMatch) (time : ℤ) (at end : ℕ) : 
   pub inside : at < end
   pub begun : (d : PartialMatch) → time_at held d at ≤ℤ time
   pub later : AreLater held time (at + 1) end
+
+-- the first element from an index on that begins at the time or earlier
+pub record IsNextBegun (held : List PartialMatch) (time : ℤ) (at start : ℕ) : Type 0 where
+  pub after : start ≤ at
+  pub inside : at < length held
+  pub begun : (d : PartialMatch) → time_at held d at ≤ℤ time
+  pub later : AreLater held time start at

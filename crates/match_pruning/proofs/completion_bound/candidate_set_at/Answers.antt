@@ -38,10 +38,10 @@ begins_by a b e = subst (λ (t : ℤ). a ≤ℤ t) e (le_self a)
 
 pub loop-at-init : goal.loop-at-init
 loop-at-init c =
-  let all : c.len-end.result ≡ length c.args.store.now.held.items = search rules in record {
-  within = omega (arith, all);
-  rest = λ left there may e. inl (among_all c.args.store.now.held.items c.len-end.result left all there);
-}
+    let all : c.len-end.result ≡ length c.args.store.now.held.items = search rules in record {
+      within = omega (arith, all);
+      rest = λ left there may e. inl (among_all c.args.store.now.held.items c.len-end.result left all there);
+    }
 
 pub loop-at-preserved-then-may_precede : goal.loop-at-preserved-then-may_precede
 loop-at-preserved-then-may_precede c =

@@ -12,10 +12,10 @@ use Rattle.match_pruning.proofs.completion_bound.latest_before.Goals.{else-is_la
 
 pub loop-at-init : goal.loop-at-init
 loop-at-init c =
-  let all : c.len-end.result ≡ length c.args.store.now.held.items = search rules in record {
-  within = omega (arith, all);
-  rest = λ left there may before. inl (among_all c.args.store.now.held.items c.len-end.result left all there);
-}
+    let all : c.len-end.result ≡ length c.args.store.now.held.items = search rules in record {
+      within = omega (arith, all);
+      rest = λ left there may before. inl (among_all c.args.store.now.held.items c.len-end.result left all there);
+    }
 
 pub loop-at-preserved : goal.loop-at-preserved
 loop-at-preserved c =

@@ -26,11 +26,11 @@ returns-then-branch t c = sym (c.in_ok-continues.ensures c.if-branch.true (parti
 
 pub loop-at-init : goal.loop-at-init
 loop-at-init t c =
-  let held = c.in-Some.innermost.now.left.held.items in
-  let all : c.len-end.result ≡ length held = search rules in record {
-  within = omega (arith, all);
-  rest = λ left there wants. among_all held c.len-end.result left all there;
-}
+    let held = c.in-Some.innermost.now.left.held.items in
+    let all : c.len-end.result ≡ length held = search rules in record {
+      within = omega (arith, all);
+      rest = λ left there wants. among_all held c.len-end.result left all there;
+    }
 
 pub returns-then-branch-2 : goal.returns-then-branch-2
 returns-then-branch-2 t c =
@@ -83,7 +83,7 @@ returns t c =
     let p = partial_match_tree c.args.partial_match.now in let x = c.in-Some.innermost.now in let above = c.in-Some.above.now in let held = x.left.held.items in
     let f = λ (h : PartialMatchTree). may_join join.Then h p && is_needed c.args.now (pending_lefts_of above) (joined_matches join.Then h p) in
     let none : list_any f (partial_match_trees held) ≡ false = any_false f (partial_match_trees held) (λ left there wants.
-        none_begun held p.earliest c.loop-at.end left c.in_default-last_begun.ensures.none (c.loop-at.invariant.rest left there wants) (joins_begun held left p _ there wants)) in
+    none_begun held p.earliest c.loop-at.end left c.in_default-last_begun.ensures.none (c.loop-at.invariant.rest left there wants) (joins_begun held left p _ there wants)) in
     sym (needed_by c.args.now c.args.pending_lefts.now above x p c.in-Some.ensures.cases.0
     ∙ ap (λ z. retains x.window p.earliest c.args.now || z) none
     ∙ ap (λ z. z || false) (sym c.is_retained.ensures ∙ c.if-is_retained.false))
