@@ -74,7 +74,7 @@ impl EarliestStart {
     }
 
     /// The first end, up to now, of a left operand that may begin so. What begins after the first
-    /// end so far ends after it too, and is left out.
+    /// end so far also ends after it, and is skipped.
     fn first_end(&self, now: Instant, store: &Store) -> End
         ensures now { result.time ≤ℤ now }
         ensures free { result.time ≡ now → result.number ≡ None }

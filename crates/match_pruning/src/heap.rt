@@ -4,9 +4,9 @@
 //! and the four lie side by side in memory. `sift_up` and `sift_down` are the textbook operations:
 //! each swap restores the order at one index and may break it at the next, O(log n) in all.
 //!
-//! `last_begun` and `next_begun` are range queries that prune. What stands below an element begins
-//! no earlier, so below one that begins too late they look at nothing. On each level these are
-//! neighbors.
+//! `last_begun` and `next_begun` are range queries by pruned traversal. No descendant of an element
+//! begins before it, so they skip the descendants of one that begins after the time asked. On each
+//! level these are a run of indices.
 
 ghost use Rattle.std.specs.Prelude.{◌≡◌, ◌≤ℤ◌, ◌<◌, ◌≤◌, ◌+◌, ◌*◌, int_lt, length};
 ghost use Rattle.std.specs.Prelude.{IfSome, IfNone};
@@ -83,7 +83,7 @@ fn earliest_child(held: &[PartialMatch], at: usize) -> Option<usize>
 }
 
 /// The index of the last element before `end` that begins at `time` or earlier, if there is one.
-/// The first `heaped` elements are a heap. Takes O(log n) for each run of later ones.
+/// The first `heaped` elements are a heap. O(log n) for each run of later ones.
 pub fn last_begun(held: &[PartialMatch], heaped: usize, end: usize, time: Instant) -> Option<usize>
     requires inside { end ≤ length held.now }
     requires heap { IsHeap held.now heaped }
@@ -101,9 +101,8 @@ pub fn last_begun(held: &[PartialMatch], heaped: usize, end: usize, time: Instan
     None
 }
 
-/// The start of the run of elements up to `place` that all begin after `time`; `place + 1` where
-/// the one at `place` doesn't. The run is known by its ancestors: where the parents begin later, so
-/// do all of their children.
+/// The start of a run of elements up to `place` that all begin after `time`; `place + 1` where the
+/// one at `place` doesn't. Children of a run of parents that begin later are such a run.
 #[cycle(later_run)]
 fn later_run(held: &[PartialMatch], heaped: usize, place: usize, time: Instant) -> usize
     requires inside { place < length held.now }
@@ -127,7 +126,7 @@ fn later_run(held: &[PartialMatch], heaped: usize, place: usize, time: Instant) 
 }
 
 /// The index of the first element from `start` on that begins at `time` or earlier, if there is
-/// one. The first `heaped` elements are a heap. Takes O(log n) for each run of later ones.
+/// one. The first `heaped` elements are a heap. O(log n) for each run of later ones.
 pub fn next_begun(
     held: &[PartialMatch],
     heaped: usize,
@@ -150,8 +149,8 @@ pub fn next_begun(
     None
 }
 
-/// The end of the run of elements from `place` on that all begin after `time`; `place` where the
-/// one there doesn't.
+/// The end of a run of elements from `place` on that all begin after `time`; `place` where the one
+/// there doesn't. Children of a run of parents that begin later are such a run.
 #[cycle(later_run_end)]
 fn later_run_end(held: &[PartialMatch], heaped: usize, place: usize, time: Instant) -> usize
     requires inside { place < length held.now }

@@ -5,7 +5,7 @@
 //! them keeps the stores small. The exact test is a depth-first search over the left operands,
 //! exponential in the nesting of `FOLLOWEDBY`s. So it first tries `GreedyCompletion`, which proves
 //! "needed", and `CompletionBound`, which proves "not needed". Both are linear, and the search
-//! decides the rest.
+//! decides the rest. All three skip what begins too late to precede.
 
 ghost use Rattle.std.specs.Prelude.{◌≡◌, IfOk};
 ghost use Rattle.match_pruning.specs.inner.PartialMatches.{partial_match_tree};

@@ -112,7 +112,7 @@ impl Store {
     }
 
     /// The index of the last partial match before `end` that begins at `time` or earlier, if there
-    /// is one. None ends before it begins, so all that end by `time` are found.
+    /// is one. Repeated calls find all that end by `time`, since each begins before it ends.
     pub fn last_begun(&self, end: usize, time: Instant) -> Option<usize>
         requires { end ≤ length self.now.held.items }
         ensures some { IfSome result (λ at. IsLastBegun self.now.held.items time at end) }

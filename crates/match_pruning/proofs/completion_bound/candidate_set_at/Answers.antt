@@ -8,11 +8,10 @@ use Rattle.std.proofs.lemmas.Cmp.{int_eq_equiv}
 use Rattle.std.proofs.lemmas.Option.{slice_get_read}
 use Rattle.std.proofs.lemmas.List.Elements.{Contains-append_left, Contains-append_right}
 use Rattle.match_bindings.specs.BindTree.{tree_of}
-use Rattle.match_pruning.specs.declared.partial_match.PartialMatch.{PartialMatch}
 use Rattle.match_pruning.specs.PartialMatchTree.{PartialMatchTree}
 use Rattle.match_pruning.specs.inner.Numbers.{numbers}
 use Rattle.match_pruning.specs.inner.Picks.{HasNumberAt}
-use Rattle.match_pruning.specs.inner.PartialMatches.{partial_match_tree, partial_match_trees}
+use Rattle.match_pruning.specs.inner.PartialMatches.{partial_match_tree}
 use Rattle.match_pruning.specs.inner.CompletionBounds.{may_precede}
 use Rattle.match_pruning.proofs.CompletionBoundLemmas.{of_some}
 use Rattle.match_pruning.proofs.RetainsLemmas.{le_self}

@@ -1,5 +1,5 @@
 -- The parents begin later, so their children do.
-use Rattle.std.proofs.Common.{◌<◌, arith, rules}
+use Rattle.std.proofs.Common.{◌<◌, arith}
 use Rattle.match_pruning.specs.inner.Heaps.{time_at}
 use Rattle.match_pruning.proofs.HeapLemmas.{later_children}
 use Rattle.match_pruning.proofs.heap.+later_run.Goals as goal

@@ -1,11 +1,9 @@
 -- A greedy completion that is needed goes on by something held on the innermost left side.
 use Rattle.std.proofs.Common.{◌≡◌, List, sym, ◌∙◌, subst}
 use Rattle.std.specs.Prelude.{true}
-use Rattle.std.specs.List.{Contains}
 use Rattle.match_pruning.specs.declared.join.Join.TheVariants as join
 use Rattle.match_pruning.specs.declared.pending_left.PendingLeft.{PendingLeft}
-use Rattle.match_pruning.specs.declared.partial_match.PartialMatch.{PartialMatch}
-use Rattle.match_pruning.specs.inner.PartialMatches.{partial_match_tree, partial_match_trees}
+use Rattle.match_pruning.specs.inner.PartialMatches.{partial_match_tree}
 use Rattle.match_pruning.specs.inner.Steps.{joined_matches}
 use Rattle.match_pruning.specs.inner.Needed.{PendingLeftTrees, is_needed}
 use Rattle.match_pruning.specs.inner.PendingLefts.{pending_left_trees, pending_lefts_of}

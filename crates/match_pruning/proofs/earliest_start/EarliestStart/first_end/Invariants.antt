@@ -1,4 +1,4 @@
-use Rattle.std.proofs.Common.{◌≡◌, ◌+◌, ◌-◌, ◌≤ℤ◌, length, ◌⊎◌}
+use Rattle.std.proofs.Common.{◌≡◌, ◌-◌, ◌≤ℤ◌, length, ◌⊎◌}
 use Rattle.std.specs.Prelude.{None}
 use Rattle.std.specs.List.{Contains}
 use Rattle.match_pruning.specs.PartialMatchTree.{PartialMatchTree}
