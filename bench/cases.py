@@ -187,6 +187,9 @@ BOTH = (
     "(((u AND u) FOLLOWEDBY (u AND u)) FOLLOWEDBY (((u FOLLOWEDBY u) FOLLOWEDBY u) FOLLOWEDBY u)))))"
 )
 nested("both", "17 brackets nested on both sides, 20 logins", re.sub(r"\bu\b", login("u"), BOTH), (20, 0, 0))
+X, Y, Z = login("x"), login("y"), login("z")
+match("nested/late", "100,000 of x retained, 10,000 of z that began before them", f"{X} FOLLOWEDBY {Z}", ("runs", "x=100000,z=10000@0"))
+match("nested/scan", "one of x, 20,000 of y, 20,000 of x, 3 of z", right([X, Y, Z]), ("runs", "x=1,y=20000,x=20000,z=3"))
 PACKED = f"(({ANY} FOLLOWEDBY {ANY}) AND (({ANY} REPEATS 2 TIMES) REPEATS 2 TIMES)) REPEATS 3 TIMES"
 nested("packed", "AND of REPEATS, thrice, 9 logins at once", PACKED, (9, 9, 0))
 

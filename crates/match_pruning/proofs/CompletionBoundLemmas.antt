@@ -1,19 +1,16 @@
 -- What bounds the sequences that join a new thing to one thing held on the left of each FOLLOWEDBY.
-use Rattle.std.proofs.Common.{◌≡◌, ℕ, zero, suc, ◌+◌, ◌<◌, ℤ, ◌≤ℤ◌, ◌<ℤ◌, List, [], ◌∷◌, ◌++◌, length, get_or, take, refl, sym, ◌∙◌, ap, subst, arith, ◌⊎◌, inl, inr}
+use Rattle.std.proofs.Common.{◌≡◌, ℕ, zero, suc, ℤ, ◌≤ℤ◌, ◌<ℤ◌, List, [], ◌∷◌, refl, sym, ◌∙◌, subst, arith, inl, inr}
 use Rattle.std.specs.Prelude.{Bool, true, false, int_lt, nat_eq, Option, Some, IfSome}
 use Rattle.std.specs.List.{Contains, IsDistinct, list_any}
 use Rattle.std.proofs.lemmas.Bool.{and_parts, and_from, or_right, or_cases}
 use Rattle.std.proofs.lemmas.Int.{ints, clamps}
-use Rattle.std.proofs.lemmas.List.{take_more}
-use Rattle.std.proofs.lemmas.List.Elements.{Contains-push_cases}
 use Rattle.match_bindings.specs.BindTree.{has}
-use Rattle.match_bindings.proofs.ListLemmas.{map_append}
 use Rattle.match_bindings.proofs.IsBindingLemmas.{apart_to, apart_from, lt_true, le_true, true_le}
 use Rattle.match_pruning.specs.declared.join.Join.TheVariants as join
 use Rattle.match_pruning.specs.declared.partial_match.PartialMatch.{PartialMatch}
 use Rattle.match_pruning.specs.declared.completion_bound.CompletionBound.{CompletionBound}
 use Rattle.match_pruning.specs.PartialMatchTree.{PartialMatchTree}
-use Rattle.match_pruning.specs.inner.PartialMatches.{partial_match_tree, partial_match_trees}
+use Rattle.match_pruning.specs.inner.PartialMatches.{partial_match_trees}
 use Rattle.match_pruning.specs.inner.Steps.{joined_matches, may_join}
 use Rattle.match_pruning.specs.inner.Retains.{retains}
 use Rattle.match_pruning.specs.inner.Numbers.{numbers}
@@ -117,17 +114,3 @@ needed_by_one now x above p greedy_completion r h gone wants = elim (or_cases _ 
   | inl retained ↦ absurd (let e : false ≡ true = sym gone ∙ retains_later x.window greedy_completion.earliest r.earliest now h.bound retained in cc)
   | inr any ↦ (let found = any_item _ x.left any in let parts = and_parts _ _ found.2 in (found.0, found.1, parts.0, parts.1))
 ]
-
--- ---- a list of things, step by step
-
--- one of those before the last, or the last
-pub of_last : (lefts earlier : List PartialMatch) (l : PartialMatch) (left : PartialMatchTree) → lefts ≡ earlier ++ l ∷ [] → Contains (partial_match_trees lefts) left →
-    Contains (partial_match_trees earlier) left ⊎ (partial_match_tree l ≡ left)
-of_last lefts earlier l left is there =
-    Contains-push_cases (partial_match_trees earlier) (partial_match_tree l) left
-    (subst (λ (z : List PartialMatchTree). Contains z left) (ap partial_match_trees is ∙ map_append partial_match_tree earlier (l ∷ [])) there)
-
--- one of the first ones, or the next
-pub of_next : (held : List PartialMatch) (at : ℕ) (d : PartialMatch) (left : PartialMatchTree) → at < length held → Contains (partial_match_trees (take (at + 1) held)) left →
-    Contains (partial_match_trees (take at held)) left ⊎ (partial_match_tree (get_or held at d) ≡ left)
-of_next held at d left h there = of_last (take (at + 1) held) (take at held) (get_or held at d) left (take_more held at d h) there

@@ -28,8 +28,11 @@ is_or a b = elim (cases_order a b) [
 le_by : (a b c d : ℤ) → a ≡ c → b ≡ d → c ≤ℤ d → a ≤ℤ b
 le_by a b c d e f h = subst (λ (z : ℤ). z ≤ℤ b) (sym e) (subst (λ (z : ℤ). c ≤ℤ z) (sym f) h)
 
-lt_le : (a b : ℤ) → a <ℤ b → a ≤ℤ b
+pub lt_le : (a b : ℤ) → a <ℤ b → a ≤ℤ b
 lt_le a b h = omega (arith, ints)
+
+lt_le_trans : (a b c : ℤ) → a <ℤ b → b ≤ℤ c → a <ℤ c
+lt_le_trans a b c h k = omega (arith, ints)
 
 pub parent_of : (at : ℕ) → 0 < at → IsChild ((at - 1) / 4) at
 parent_of at some = (omega arith, omega arith)
@@ -229,3 +232,22 @@ same_without w t h held other gone e weight =
 pub first_of : (held : List PartialMatch) (x d : PartialMatch) → ◌≡◌ {A = Option PartialMatch} (Some x) (slice_get held 0) → x ≡ get_or held 0 d
 first_of [] x d e = absurd (cc)
 first_of (y ∷ held) x d e = cc
+
+-- ---- what begins later
+
+-- where the parents begin after a time, so do their children
+pub later_children : (f : ℕ → ℤ) (n place from : ℕ) (t : ℤ) → AreHeaped f n → 0 < place → place < n →
+    ((i : ℕ) → from ≤ i → i < (place - 1) / 4 + 1 → t <ℤ f i) → (i : ℕ) → 4 * from + 1 ≤ i → i < place + 1 → t <ℤ f i
+later_children f n place from t heap some inside parents i low high =
+    let above : IsChild ((i - 1) / 4) i = parent_of i (omega (arith, low)) in
+    let first : from ≤ (i - 1) / 4 = omega (arith, low) in
+    let last : (i - 1) / 4 < (place - 1) / 4 + 1 = omega (arith, low, high) in
+    lt_le_trans t (f ((i - 1) / 4)) (f i) (parents ((i - 1) / 4) first last) (heap ((i - 1) / 4) i above (omega (arith, high, inside)))
+
+pub later_children_to : (f : ℕ → ℤ) (n place end : ℕ) (t : ℤ) → AreHeaped f n → 0 < place →
+    ((i : ℕ) → (place - 1) / 4 ≤ i → i < end → t <ℤ f i) → (i : ℕ) → place ≤ i → i < 4 * end + 1 → i < n → t <ℤ f i
+later_children_to f n place end t heap some parents i low high inside =
+    let above : IsChild ((i - 1) / 4) i = parent_of i (omega (arith, some, low)) in
+    let first : (place - 1) / 4 ≤ (i - 1) / 4 = omega (arith, low) in
+    let last : (i - 1) / 4 < end = omega (arith, some, low, high) in
+    lt_le_trans t (f ((i - 1) / 4)) (f i) (parents ((i - 1) / 4) first last) (heap ((i - 1) / 4) i above inside)

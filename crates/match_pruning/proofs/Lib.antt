@@ -10,3 +10,5 @@ pub mod CompletionBoundLemmas
 pub mod EarliestStartLemmas
 pub mod SkipIndexLemmas
 pub mod GreedyCompletionLemmas
+pub mod BegunLemmas
+pub mod EndLemmas

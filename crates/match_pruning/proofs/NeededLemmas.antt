@@ -4,7 +4,7 @@ use Rattle.std.specs.Prelude.{Bool, true, false, ◌&&◌, ◌||◌, map, filter
 use Rattle.std.specs.List.{Contains, list_any}
 use Rattle.std.proofs.lemmas.List.{take-append-drop, length-map}
 use Rattle.std.proofs.lemmas.List.Elements.{filter-append}
-use Rattle.std.proofs.lemmas.List.Folds.{list_any-append, list_any_at}
+use Rattle.std.proofs.lemmas.List.Folds.{list_any_at}
 use Rattle.match_bindings.proofs.ListLemmas.{map_append}
 use Rattle.match_pruning.specs.declared.join.Join.{Join}
 use Rattle.match_pruning.specs.declared.join.Join.TheVariants as join
@@ -122,19 +122,6 @@ any_of f xs x h excludes = list_any_at f xs h.0 x h.1 (ap f h.2 ∙ excludes)
 pub or_true : (a : Bool) → (a || true) ≡ true
 or_true true = refl
 or_true false = refl
-
-pub any_of_none : (f : PartialMatchTree → Bool) (xs : List PartialMatch) → length xs ≡ 0 → list_any f (partial_match_trees xs) ≡ false
-any_of_none f [] h = refl
-any_of_none f (x ∷ xs) h = absurd (omega (arith, h))
-
-pub any_last : (f : PartialMatchTree → Bool) (xs : List PartialMatch) (x : PartialMatch) → list_any f (partial_match_trees (xs ++ x ∷ [])) ≡ (list_any f (partial_match_trees xs) || f (partial_match_tree x))
-any_last f xs x =
-    ap (list_any f) (map_append partial_match_tree xs (x ∷ []))
-    ∙ list_any-append f (partial_match_trees xs) (partial_match_tree x ∷ [])
-    ∙ ap (λ z. list_any f (partial_match_trees xs) || z) (last (f (partial_match_tree x))) where
-      last : (b : Bool) → (b || false) ≡ b
-      last true = refl
-      last false = refl
 
 pub needed_by : (now : ℤ) (pending_lefts : List PendingLeft) (above : List PendingLeft) (x : PendingLeft) (p : PartialMatchTree) → pending_lefts ≡ above ++ x ∷ [] →
     is_needed now (pending_lefts_of pending_lefts) p

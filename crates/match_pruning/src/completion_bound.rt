@@ -29,7 +29,7 @@ use crate::matching::Matching;
 use crate::numbers::{push_numbers, sort_dedup};
 use crate::partial_match::PartialMatch;
 use crate::pending_left::PendingLeft;
-use crate::store::is_retained;
+use crate::store::{Store, is_retained};
 use flow_values::NoMemory;
 use match_bindings::are_disjoint;
 use std::alloc::Global;
@@ -101,7 +101,7 @@ impl CompletionBound {
         if is_retained(&innermost.window, self.earliest, now) {
             return Ok(true);
         }
-        if !self.take(alloc, partial_match, &innermost.left.held)? {
+        if !self.take(alloc, partial_match, &innermost.left)? {
             return Ok(false);
         }
         let may = self.may_continue(alloc, partial_match, now, above)?;
@@ -115,22 +115,22 @@ impl CompletionBound {
         &mut self,
         alloc: Global,
         partial_match: &PartialMatch,
-        held: &[PartialMatch],
+        store: &Store,
     ) -> Result<bool, NoMemory>
         ensures { IfOk result (λ may. (greedy_completion left : PartialMatchTree)
             → IsReachedCompletion (partial_match_tree partial_match.now) self.old greedy_completion
-            → Contains (partial_match_trees held.now) left
+            → Contains (partial_match_trees store.now.held.items) left
             → may_join join.Then left greedy_completion ≡ true
             → (may ≡ true) × IsReachedCompletion (partial_match_tree partial_match.now) self.new
             (joined_matches join.Then left greedy_completion)) }
     {
         let bound = self.earliest;
-        if self.record_candidates(alloc, bound, partial_match, held)? {
+        if self.record_candidates(alloc, bound, partial_match, store)? {
             return Ok(true);
         }
-        match latest_before(bound, partial_match, held) {
+        match latest_before(bound, partial_match, store) {
             Some(earliest) => {
-                self.lower_to(alloc, earliest, partial_match, held)?;
+                self.lower_to(alloc, earliest, partial_match, store)?;
                 Ok(true)
             }
             None => Ok(false),
@@ -143,12 +143,12 @@ impl CompletionBound {
         alloc: Global,
         earliest: Instant,
         partial_match: &PartialMatch,
-        held: &[PartialMatch],
+        store: &Store,
     ) -> Result<(), NoMemory>
         ensures { OnOk result ((before : CompletionBound)
             (greedy_completion left : PartialMatchTree) → before.earliest ≡ self.old.earliest
             → IsReachedCompletion (partial_match_tree partial_match.now) before greedy_completion
-            → Contains (partial_match_trees held.now) left
+            → Contains (partial_match_trees store.now.held.items) left
             → may_join join.Then left greedy_completion ≡ true
             → left.earliest ≤ℤ earliest → IsReachedCompletion
             (partial_match_tree partial_match.now) self.new
@@ -157,7 +157,7 @@ impl CompletionBound {
         let bound = self.earliest;
         self.earliest = earliest;
         self.matching = Matching::new(alloc);
-        self.record_candidates(alloc, bound, partial_match, held)?;
+        self.record_candidates(alloc, bound, partial_match, store)?;
         Ok(())
     }
 
@@ -169,12 +169,12 @@ impl CompletionBound {
         alloc: Global,
         bound: Instant,
         partial_match: &PartialMatch,
-        held: &[PartialMatch],
+        store: &Store,
     ) -> Result<bool, NoMemory>
         ensures earliest { OnOk result (self.new.earliest ≡ self.old.earliest) }
         // Each left operand that begins at the bound extends the assignment by its own numbers.
         ensures noted { IfOk result (λ may. (left : PartialMatchTree) (x : BindTree)
-            → Contains (partial_match_trees held.now) left
+            → Contains (partial_match_trees store.now.held.items) left
             → may_precede left bound (partial_match_tree partial_match.now) ≡ true
             → left.earliest ≡ self.old.earliest → disjoint left.tree x ≡ true
             → HasPerfectMatching self.old.matching.list.items x
@@ -190,7 +190,7 @@ impl CompletionBound {
                 self.earliest,
                 bound,
                 partial_match,
-                held,
+                store,
             )? {
                 CandidateSet::Few(numbers) => numbers,
                 CandidateSet::Many => continue,
@@ -221,16 +221,19 @@ fn candidate_set_at(
     earliest: Instant,
     bound: Instant,
     partial_match: &PartialMatch,
-    held: &[PartialMatch],
+    store: &Store,
 ) -> Result<CandidateSet, NoMemory>
     ensures { IfOk result (λ candidate_set. (left : PartialMatchTree)
-        → Contains (partial_match_trees held.now) left
+        → Contains (partial_match_trees store.now.held.items) left
         → may_precede left bound (partial_match_tree partial_match.now) ≡ true
         → left.earliest ≡ earliest → IsInCandidateSet candidate_set place left.tree) }
 {
     let mut found = Vec::new(alloc);
     let mut numbers = Vec::new(alloc);
-    for left in held {
+    let mut end = store.held.len();
+    while let Some(at) = store.last_begun(end, earliest) {
+        let left = &store.held[at];
+        end = at;
         if left.earliest == earliest && may_precede(left, bound, partial_match) {
             numbers.clear();
             push_numbers(&left.bind, &mut numbers)?;
@@ -262,23 +265,20 @@ fn are_many(numbers: &mut Vec<u64>) -> bool
 /// The latest begin before `bound` of a stored partial match that may precede a completion which
 /// begins at `bound` at the latest. Looks at the newest first, and tests disjointness only where
 /// the begin improves the result.
-fn latest_before(
-    bound: Instant,
-    partial_match: &PartialMatch,
-    held: &[PartialMatch],
-) -> Option<Instant>
-    ensures { (left : PartialMatchTree) → Contains (partial_match_trees held.now) left
+fn latest_before(bound: Instant, partial_match: &PartialMatch, store: &Store) -> Option<Instant>
+    ensures { (left : PartialMatchTree) → Contains (partial_match_trees store.now.held.items) left
         → may_precede left bound (partial_match_tree partial_match.now) ≡ true
         → left.earliest <ℤ bound → (time : ℤ) × (result ≡ Some time) × (left.earliest ≤ℤ time) }
 {
     let mut latest = None;
-    let mut lefts = held;
-    while let Some((left, earlier)) = lefts.split_last() {
+    let mut end = store.held.len();
+    while let Some(at) = store.last_begun(end, bound) {
+        let left = &store.held[at];
         let is_later = is_between(&latest, left.earliest, bound);
         if is_later && may_precede(left, bound, partial_match) {
             latest = Some(left.earliest);
         }
-        lefts = earlier;
+        end = at;
     }
     latest
 }

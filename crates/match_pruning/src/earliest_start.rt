@@ -17,6 +17,7 @@ ghost use Rattle.match_pruning.specs.inner.PendingLefts.{pending_lefts_of};
 
 use crate::partial_match::PartialMatch;
 use crate::pending_left::PendingLeft;
+use crate::store::Store;
 use match_bindings::{Bind, are_disjoint, greatest_number};
 use stix_times::Instant;
 
@@ -65,21 +66,23 @@ impl EarliestStart {
                 taken: None,
             };
         }
-        let end = self.first_end(now, &pending_left.left.held);
+        let end = self.first_end(now, &pending_left.left);
         EarliestStart {
             start: Some(end.time),
             taken: end.number,
         }
     }
 
-    /// The first end, up to now, of a left operand that may begin so.
-    fn first_end(&self, now: Instant, held: &[PartialMatch]) -> End
+    /// The first end, up to now, of a left operand that may begin so. What begins after the first
+    /// end so far also ends after it, and is skipped.
+    fn first_end(&self, now: Instant, store: &Store) -> End
         ensures now { result.time ≤ℤ now }
         ensures free { result.time ≡ now → result.number ≡ None }
-        ensures held { (left : PartialMatchTree) → Contains (partial_match_trees held.now) left
+        ensures held { (left : PartialMatchTree)
+            → Contains (partial_match_trees store.now.held.items) left
             → MayBegin self.now left → result.time ≤ℤ left.latest }
-        ensures number { (left : PartialMatchTree) → Contains (partial_match_trees held.now) left
-            → MayBegin self.now left
+        ensures number { (left : PartialMatchTree)
+            → Contains (partial_match_trees store.now.held.items) left → MayBegin self.now left
             → (n : ℕ) → result.number ≡ Some n → result.time ≡ left.latest
             → has n left.tree ≡ true }
     {
@@ -90,10 +93,13 @@ impl EarliestStart {
         if self.is_now(now) {
             return end;
         }
-        for left in held {
+        let mut start = 0;
+        while let Some(at) = store.next_begun(start, end.time) {
+            let left = &store.held[at];
             if self.may_begin(left) {
                 end = end.with(left);
             }
+            start = at + 1;
         }
         end
     }

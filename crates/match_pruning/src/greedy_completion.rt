@@ -19,7 +19,7 @@ ghost use Rattle.match_pruning.specs.inner.CompletionBounds.{IsGreedyCompletion}
 use crate::numbers::{numbers_of, push_numbers, share_number};
 use crate::partial_match::PartialMatch;
 use crate::pending_left::PendingLeft;
-use crate::store::is_retained;
+use crate::store::{Store, is_retained};
 use flow_values::NoMemory;
 use match_bindings::Bind;
 use std::alloc::Global;
@@ -65,7 +65,7 @@ impl GreedyCompletion {
         if is_retained(&innermost.window, self.earliest, now) {
             return Ok(true);
         }
-        if !self.take_last(&innermost.left.held)? {
+        if !self.take_last(&innermost.left)? {
             return Ok(false);
         }
         let on = self.continues(now, above)?;
@@ -74,20 +74,22 @@ impl GreedyCompletion {
 
     /// Adds the newest stored partial match that ends no later than the completion begins and
     /// shares no number with it. False if there is none.
-    fn take_last(&mut self, held: &[PartialMatch]) -> Result<bool, NoMemory>
+    fn take_last(&mut self, store: &Store) -> Result<bool, NoMemory>
         ensures { IfOk result (λ took. took ≡ true → (partial_match : PartialMatchTree)
             → IsGreedyCompletion self.old partial_match
-            → (left : PartialMatchTree) × Contains (partial_match_trees held.now) left
+            → (left : PartialMatchTree)
+            × Contains (partial_match_trees store.now.held.items) left
             × (may_join join.Then left partial_match ≡ true)
             × IsGreedyCompletion self.new (joined_matches join.Then left partial_match)) }
     {
-        let mut lefts = held;
-        while let Some((left, earlier)) = lefts.split_last() {
+        let mut end = store.held.len();
+        while let Some(at) = store.last_begun(end, self.earliest) {
+            let left = &store.held[at];
             if left.latest <= self.earliest && self.add(&left.bind)? {
                 self.earliest = left.earliest;
                 return Ok(true);
             }
-            lefts = earlier;
+            end = at;
         }
         Ok(false)
     }

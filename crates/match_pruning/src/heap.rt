@@ -3,14 +3,21 @@
 //! The children of index p are 4 p + 1 to 4 p + 4. Four children halve the depth of a binary heap,
 //! and the four lie side by side in memory. `sift_up` and `sift_down` are the textbook operations:
 //! each swap restores the order at one index and may break it at the next, O(log n) in all.
+//!
+//! `last_begun` and `next_begun` are range queries by pruned traversal. No descendant of an element
+//! begins before it, so they skip the descendants of one that begins after the time asked. On each
+//! level these are a run of indices.
 
-ghost use Rattle.std.specs.Prelude.{◌≡◌, ◌<◌, ◌≤◌, ◌+◌, ◌*◌, int_lt, length, IfSome, IfNone};
+ghost use Rattle.std.specs.Prelude.{◌≡◌, ◌≤ℤ◌, ◌<◌, ◌≤◌, ◌+◌, ◌*◌, int_lt, length};
+ghost use Rattle.std.specs.Prelude.{IfSome, IfNone};
 ghost use Rattle.match_pruning.specs.declared.partial_match.PartialMatch.{PartialMatch};
 ghost use Rattle.match_pruning.specs.inner.PartialMatches.{partial_match_trees};
 ghost use Rattle.match_pruning.specs.inner.UpToOrder.{AreSameMultiset};
 ghost use Rattle.match_pruning.specs.inner.Heaps.{IsHeap, IsHeapBelow, IsEarliestChild, time_at};
+ghost use Rattle.match_pruning.specs.inner.Heaps.{AreLater, IsLastBegun, IsNextBegun};
 
 use crate::partial_match::PartialMatch;
+use stix_times::Instant;
 
 /// How many children an index has.
 const WIDTH: usize = 4;
@@ -73,6 +80,101 @@ fn earliest_child(held: &[PartialMatch], at: usize) -> Option<usize>
         }
     }
     Some(earliest)
+}
+
+/// The index of the last element before `end` that begins at `time` or earlier, if there is one.
+/// The first `heaped` elements are a heap. O(log n) for each run of later ones.
+pub fn last_begun(held: &[PartialMatch], heaped: usize, end: usize, time: Instant) -> Option<usize>
+    requires inside { end ≤ length held.now }
+    requires heap { IsHeap held.now heaped }
+    ensures some { IfSome result (λ at. IsLastBegun held.now time at end) }
+    ensures none { IfNone result (AreLater held.now time 0 end) }
+{
+    let mut from = end;
+    while from > 0 {
+        let start = later_run(held, heaped, from - 1, time);
+        if start == from {
+            return Some(from - 1);
+        }
+        from = start;
+    }
+    None
+}
+
+/// The start of a run of elements up to `place` that all begin after `time`; `place + 1` where the
+/// one at `place` doesn't. Children of a run of parents that begin later are such a run.
+#[cycle(later_run)]
+fn later_run(held: &[PartialMatch], heaped: usize, place: usize, time: Instant) -> usize
+    requires inside { place < length held.now }
+    requires heap { IsHeap held.now heaped }
+    ensures later { AreLater held.now time result (place + 1) }
+    ensures bound { result ≤ place + 1 }
+    ensures begun { (d : PartialMatch) → result ≡ place + 1 → time_at held.now d place ≤ℤ time }
+{
+    if held[place].earliest <= time {
+        return place + 1;
+    }
+    if place == 0 || place >= heaped {
+        return place;
+    }
+    let parent = (place - 1) / WIDTH;
+    let first = later_run(held, heaped, parent, time);
+    if first > parent {
+        return place;
+    }
+    WIDTH * first + 1
+}
+
+/// The index of the first element from `start` on that begins at `time` or earlier, if there is
+/// one. The first `heaped` elements are a heap. O(log n) for each run of later ones.
+pub fn next_begun(
+    held: &[PartialMatch],
+    heaped: usize,
+    start: usize,
+    time: Instant,
+) -> Option<usize>
+    requires within { heaped ≤ length held.now }
+    requires heap { IsHeap held.now heaped }
+    ensures some { IfSome result (λ at. IsNextBegun held.now time at start) }
+    ensures none { IfNone result (AreLater held.now time start (length held.now)) }
+{
+    let mut at = start;
+    while at < held.len() {
+        let end = later_run_end(held, heaped, at, time);
+        if end == at {
+            return Some(at);
+        }
+        at = end;
+    }
+    None
+}
+
+/// The end of a run of elements from `place` on that all begin after `time`; `place` where the one
+/// there doesn't. Children of a run of parents that begin later are such a run.
+#[cycle(later_run_end)]
+fn later_run_end(held: &[PartialMatch], heaped: usize, place: usize, time: Instant) -> usize
+    requires inside { place < length held.now }
+    requires within { heaped ≤ length held.now }
+    requires heap { IsHeap held.now heaped }
+    ensures later { AreLater held.now time place result }
+    ensures bound { (place ≤ result) × (result ≤ length held.now) }
+    ensures begun { (d : PartialMatch) → result ≡ place → time_at held.now d place ≤ℤ time }
+{
+    if held[place].earliest <= time {
+        return place;
+    }
+    if place == 0 || place >= heaped {
+        return place + 1;
+    }
+    let parent = (place - 1) / WIDTH;
+    let end = later_run_end(held, heaped, parent, time);
+    if end == parent {
+        return place + 1;
+    }
+    if end > (heaped - 1) / WIDTH {
+        return heaped;
+    }
+    WIDTH * end + 1
 }
 
 /// Whether the element at `place` begins earlier than the one at `other`.

@@ -5,7 +5,8 @@
 //!
 //! - **Windows.** `windows` computes the window of each store from the qualifiers above it, and
 //!   `expired` decides when a partial match has left it. `store` keeps partial matches in a 4-ary
-//!   heap by their earliest time, so that dropping the expired ones costs a logarithm each.
+//!   heap by their earliest time, so that dropping the expired ones costs a logarithm each, and a
+//!   search for what begins by a time skips the rest.
 //! - **Joins.** `join` joins what is new on one side with what is stored on the other. Where both
 //!   sides are long, `skip_index` skips blocks of candidates that share an observation with the
 //!   query, so only disjoint ones are tried.

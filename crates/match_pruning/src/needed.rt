@@ -5,7 +5,7 @@
 //! them keeps the stores small. The exact test is a depth-first search over the left operands,
 //! exponential in the nesting of `FOLLOWEDBY`s. So it first tries `GreedyCompletion`, which proves
 //! "needed", and `CompletionBound`, which proves "not needed". Both are linear, and the search
-//! decides the rest.
+//! decides the rest. All three skip what begins too late to precede.
 
 ghost use Rattle.std.specs.Prelude.{◌≡◌, IfOk};
 ghost use Rattle.match_pruning.specs.inner.PartialMatches.{partial_match_tree};
@@ -54,8 +54,9 @@ pub fn is_needed(
             return Ok(false);
         }
     }
-    let mut lefts = innermost.left.held.as_slice();
-    while let Some((left, earlier)) = lefts.split_last() {
+    let mut end = innermost.left.held.len();
+    while let Some(at) = innermost.left.last_begun(end, partial_match.earliest) {
+        let left = &innermost.left.held[at];
         if Join::Then.may_join(left, partial_match) {
             let longer = Join::Then.joined(alloc, left, partial_match)?;
             let is = is_needed(alloc, &longer, now, above);
@@ -64,7 +65,7 @@ pub fn is_needed(
                 return Ok(true);
             }
         }
-        lefts = earlier;
+        end = at;
     }
     Ok(false)
 }

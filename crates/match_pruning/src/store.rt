@@ -1,15 +1,16 @@
 ghost use Rattle.std.specs.Prelude.{◌≡◌, ◌++◌, ◌∷◌, ◌≤◌, ◌<◌, [], true, length, not};
-ghost use Rattle.std.specs.Prelude.{slice_index_or, OnOk};
+ghost use Rattle.std.specs.Prelude.{slice_index_or, OnOk, IfSome, IfNone};
 ghost use Rattle.std.proofs.Props.{props};
 ghost use Rattle.match_pruning.specs.Stores.{window_of};
 ghost use Rattle.match_pruning.specs.inner.Retains.{retains};
 ghost use Rattle.match_pruning.specs.inner.PartialMatches.{partial_match_tree, partial_match_trees};
 ghost use Rattle.match_pruning.specs.declared.partial_match.PartialMatch.{PartialMatch};
-ghost use Rattle.match_pruning.specs.inner.Heaps.{IsHeap};
+ghost use Rattle.match_pruning.specs.inner.Heaps.{IsHeap, AreLater};
+ghost use Rattle.match_pruning.specs.inner.Heaps.{IsLastBegun, IsNextBegun};
 ghost use Rattle.match_pruning.specs.inner.Steps.{kept};
 ghost use Rattle.match_pruning.specs.inner.UpToOrder.{AreSameMultiset};
 
-use crate::heap::{sift_down, sift_up};
+use crate::heap::{last_begun, next_begun, sift_down, sift_up};
 use crate::partial_match::PartialMatch;
 use crate::{Window, expired};
 use flow_values::NoMemory;
@@ -108,6 +109,26 @@ impl Store {
             Some(first) => is_retained(window, first.earliest, now),
             None => true,
         }
+    }
+
+    /// The index of the last partial match before `end` that begins at `time` or earlier, if there
+    /// is one. Repeated calls find all that end by `time`, since each begins before it ends.
+    pub fn last_begun(&self, end: usize, time: Instant) -> Option<usize>
+        requires { end ≤ length self.now.held.items }
+        ensures some { IfSome result (λ at. IsLastBegun self.now.held.items time at end) }
+        ensures none { IfNone result (AreLater self.now.held.items time 0 end) }
+    {
+        last_begun(&self.held, self.heaped, end, time)
+    }
+
+    /// The index of the first partial match from `start` on that begins at `time` or earlier, if
+    /// there is one.
+    pub fn next_begun(&self, start: usize, time: Instant) -> Option<usize>
+        ensures some { IfSome result (λ at. IsNextBegun self.now.held.items time at start) }
+        ensures none { IfNone result (AreLater self.now.held.items time start
+            (length self.now.held.items)) }
+    {
+        next_begun(&self.held, self.heaped, start, time)
     }
 
     /// Appends the new partial matches that haven't expired.

@@ -19,7 +19,7 @@ returns-then-not-branch-clause-noted c = λ left x there may e apart h.
     let before = c.loop-place.invariant in
     let found = subst (λ candidate_set. IsInCandidateSet candidate_set c.loop-place.place left.tree) c.in-Few.is (c.in_ok-numbers.ensures left there may (e ∙ sym before.earliest)) in
     let more = picks_more c.loop-place.place c.loop-place.self.matching.list.items (record { numbers = c.in-Few.numbers }) left.tree x
-    (before.picks left x there may e apart h) apart (held_once c.args.held.now left there) found in
+    (before.picks left x there may e apart h) apart (held_once c.args.store.now.held.items left there) found in
     absurd (c.in_ok-admit.ensures.short c.if-not-branch.true (Pair left.tree x)
     (subst (λ (z : List Neighbors). HasPerfectMatching z (Pair left.tree x)) (sym c.in_ok-admit.ensures.added) (picks_end (c.loop-place.place + 1) _ left.tree x more)))
 
@@ -39,6 +39,6 @@ loop-place-preserved c =
       picks = λ left x there may e apart h.
           let found = subst (λ candidate_set. IsInCandidateSet candidate_set place left.tree) c.in-Few.is (c.in_ok-numbers.ensures left there may (e ∙ sym before.earliest)) in
           let more = picks_more place c.loop-place.self.matching.list.items (record { numbers = c.in-Few.numbers }) left.tree x
-          (before.picks left x there may e apart h) apart (held_once c.args.held.now left there) found in
+          (before.picks left x there may e apart h) apart (held_once c.args.store.now.held.items left there) found in
           subst (λ (z : List Neighbors). HasPicksTo (place + 1) z left.tree x) (sym c.in_ok-admit.ensures.added) more;
     }

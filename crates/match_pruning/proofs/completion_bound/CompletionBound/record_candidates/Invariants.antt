@@ -12,7 +12,7 @@ use Rattle.match_pruning.proofs.completion_bound.CompletionBound.record_candidat
 abbrev pub invariant-loop-place : goal.invariant-loop-place
 invariant-loop-place l = record {
   earliest : l.self.earliest ≡ l.fn.self.earliest;
-  picks : (left : PartialMatchTree) (x : BindTree) → Contains (partial_match_trees l.held) left → may_precede left l.bound (partial_match_tree l.partial_match) ≡ true →
+  picks : (left : PartialMatchTree) (x : BindTree) → Contains (partial_match_trees l.store.held.items) left → may_precede left l.bound (partial_match_tree l.partial_match) ≡ true →
       left.earliest ≡ l.fn.self.earliest → disjoint left.tree x ≡ true → HasPerfectMatching l.fn.self.matching.list.items x →
       HasPicksTo l.place l.self.matching.list.items left.tree x;
 }

@@ -27,6 +27,5 @@ returns t c = λ yes partial_match s.
     let found = c.in_ok-take_last.ensures c.if-not-branch.false partial_match s in
     let wants = c.in_ok-on.ensures yes (joined_matches join.Then found.0 partial_match) found.3 in
     needed_by c.args.now c.args.pending_lefts.now above x partial_match c.in-Some.ensures.cases.0
-    ∙ ap (λ z. retains x.window partial_match.earliest c.args.now || list_any f (partial_match_trees z)) (sym c.deref.ensures.value)
-    ∙ ap (λ z. retains x.window partial_match.earliest c.args.now || z) (any_of f (partial_match_trees c.deref.result.now) found.0 found.1 (and_from _ _ found.2 wants))
+    ∙ ap (λ z. retains x.window partial_match.earliest c.args.now || z) (any_of f (partial_match_trees x.left.held.items) found.0 found.1 (and_from _ _ found.2 wants))
     ∙ or_true (retains x.window partial_match.earliest c.args.now)
