@@ -153,6 +153,7 @@ line("hex", "6.8 MB in hex, IN with 8,000 constants", f"[{THING}:a_ref.text_hex 
 line("like-long", "a text of 8 MB, LIKE with 60,000 characters between %", f"[{THING}:a_ref.text LIKE '%{AB}%']", ("text-in-one", "text", 8_387_000, "1"))
 line("like-parts", "the same, 30,000 times %a, and b", f"[{THING}:a_ref.text LIKE '{'%a' * 30_000}%b']", ("text-in-one", "text", 8_387_000, "1"))
 line("like-underscore", "the same, 60 characters with _ between %", f"[{THING}:a_ref.text LIKE '%{'a' * 30}_{'a' * 29}b%']", ("text-in-one", "text", 8_387_000, "1"))
+line("like-wildcards", "the same, 30,000 characters with _ between %", f"[{THING}:a_ref.text LIKE '%{'a' * 29_998}_b%']", ("text-in-one", "text", 8_387_000, "1"))
 line("like-many", "2,000,000 texts of one character, LIKE with 60,000", f"[{THING}:list[*] LIKE '%{'b' * 60_000}%']", ("texts", 2_000_000))
 line("objects", "60,000 objects, one in an observation", f"[{THING}:n = 1]", ("things", 60_000))
 line("observations", "14,000 observations, each of its own object", f"[{THING}:n = 1]", ("things", 14_000, "observed"))

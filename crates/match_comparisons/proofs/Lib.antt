@@ -2,6 +2,7 @@ pub mod CharactersLemmas
 pub mod IsLikeLemmas
 pub mod SegmentsLemmas
 pub mod PlainSegmentLemmas
+pub mod PlacesLemmas
 pub mod RunsLemmas
 pub mod OrderedLemmas
 pub mod MembersLemmas

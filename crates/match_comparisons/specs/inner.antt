@@ -1,4 +1,5 @@
 pub mod Segments
+pub mod Places
 pub mod Frames
 pub mod PropertyOf
 pub mod Bytes

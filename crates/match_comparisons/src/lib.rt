@@ -34,6 +34,7 @@ mod met;
 mod name;
 mod object;
 mod path_values;
+mod places;
 mod position_set;
 mod root;
 mod roots;

@@ -6,6 +6,7 @@ ghost use Rattle.match_comparisons.specs.inner.Segments.{LacksCharacter, LeavesA
 ghost use Rattle.match_comparisons.specs.inner.Segments.{LeavesMost};
 
 use crate::characters::{split_first, split_last};
+use crate::places::skip_misses;
 use crate::wildcards::ANY_ONE;
 
 /// Whether the whole text matches the segment.
@@ -55,7 +56,7 @@ pub(crate) fn after_first_match<'a>(text: &'a str, segment: &str) -> Option<&'a 
     Some(left)
 }
 
-/// As `after_first_match`, also with `_` in the segment: tries each character in turn.
+/// As `after_first_match`, also with `_` in the segment: tries each place where it may match.
 fn scan_first_match<'a>(whole_text: &'a str, segment: &str) -> Option<&'a str>
     requires { LacksCharacter (chars segment.now) any_run }
     ensures { MatchOption result ((left : List ℕ)
@@ -64,6 +65,7 @@ fn scan_first_match<'a>(whole_text: &'a str, segment: &str) -> Option<&'a str>
 {
     let mut text = whole_text;
     loop {
+        text = skip_misses(text, segment);
         if let Some(left) = strip_front(text, segment) {
             return Some(left);
         }
