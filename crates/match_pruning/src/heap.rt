@@ -92,11 +92,10 @@ pub fn last_begun(held: &[PartialMatch], heaped: usize, end: usize, time: Instan
 {
     let mut from = end;
     while from > 0 {
-        let start = later_run(held, heaped, from - 1, time);
-        if start == from {
+        if held[from - 1].earliest <= time {
             return Some(from - 1);
         }
-        from = start;
+        from = later_run(held, heaped, from - 1, time);
     }
     None
 }
@@ -140,11 +139,10 @@ pub fn next_begun(
 {
     let mut at = start;
     while at < held.len() {
-        let end = later_run_end(held, heaped, at, time);
-        if end == at {
+        if held[at].earliest <= time {
             return Some(at);
         }
-        at = end;
+        at = later_run_end(held, heaped, at, time);
     }
     None
 }
