@@ -113,6 +113,8 @@ hunt("like", "10,000 brackets with LIKE, 100 observations", ("indicators", "like
 hunt("like-wide", "1,000 brackets with LIKE, an observation of 10,000 objects", ("indicators", "like-x", 1000), ("meeting", 10_000))
 hunt("long", "1,000 constants of 60 KB, 100 values of 60 KB", ("indicators", "long", 1000), ("long-values", 100))
 hunt("versions", "100,000 versions of one indicator", ("versions", 100_000), ())
+hunt("rising", "8,000 versions of one indicator, 10 KB each, ever later", ("rising-versions", 8000, 10_000), ())
+hunt("too-long", "1,000 patterns of 100,000 bytes, each refused", ("long-patterns", 1000, 100_000), ())
 hunt("wide", "1,000 patterns of 1,024 brackets, 10,000 observations", ("indicators", "wide", 1000), ("addresses", "100", 10_000))
 hunt("chain", "20,000 sequences that begin alike, 200 observations", ("indicators", "chain", 20_000), ("addresses", "0", "200", "1"))
 hunt("limit", "1,000 patterns that pass a cap of 1,000", ("indicators", "over-limit", 1000), ("over-limit", "300"), ("1000",), status=7)

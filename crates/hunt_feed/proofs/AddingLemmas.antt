@@ -1,5 +1,5 @@
 -- What objects are gathered, once there is one more.
-use Rattle.std.proofs.Common.{arith, eq-eqb, ◌≡◌, inl, inr, ℕ, zero, suc, ◌+◌, ◌<◌, ◌==◌, List, [], ◌∷◌, ◌++◌, length, map, slice_get, slice_index_or, All, Bool, false, cond, Option, Some, None, codes, refl, sym, ap, subst, ◌∙◌}
+use Rattle.std.proofs.Common.{arith, eq-eqb, ◌≡◌, inl, inr, ℕ, zero, suc, ◌+◌, ◌<◌, ◌==◌, List, [], ◌∷◌, ◌++◌, length, map, slice_get, slice_set, slice_index_or, All, Bool, false, cond, Option, Some, None, codes, refl, sym, ap, subst, ◌∙◌}
 use Rattle.std.specs.Prelude.{Contains, option_to_list}
 use Rattle.std.proofs.lemmas.Bool.{cases_eq}
 use Rattle.std.proofs.lemmas.Bool.Decides.{nat_tests}
@@ -15,8 +15,8 @@ use Rattle.hunt_feed.specs.declared.kept.Kept.{Kept}
 use Rattle.hunt_feed.specs.declared.version.Version.{Version}
 use Rattle.hunt_feed.specs.Indicators.{IsRevokedId, IsCurrent, IsAscending}
 use Rattle.hunt_feed.specs.Gathering.{Gathered, indicator_id, known_in, IsKnown, IsKeptOf, IsLatestVersionAs, kept_places, GathersFor}
-use Rattle.hunt_feed.specs.inner.Adding.{IsIndicator, IsToKeep, AddsIndicator}
-use Rattle.hunt_feed.proofs.GrowingLemmas.{grown, get_old, get_new, get_cases, current_was}
+use Rattle.hunt_feed.specs.inner.Adding.{IsIndicator, IsToKeep, without_pattern, DropsAt, IsOutdated, DropsOutdated, AddsIndicator}
+use Rattle.hunt_feed.proofs.GrowingLemmas.{same_some, grown, get_old, get_new, get_cases, current_was}
 use Rattle.hunt_feed.proofs.VersionLemmas.{OneId, OneModified, OneMeaning, one_latest, known_beside, known_with}
 
 -- what the laws of the crates below say
@@ -55,7 +55,16 @@ count_more : (objects : List Data) (d : Data) (count : ℕ) → count ≡ length
 count_more objects d count is = let more = length-append objects (d ∷ []) in omega arith
 
 kept_old : (objects : List Data) (d : Data) (kept : Kept) → IsKeptOf objects kept → IsKeptOf (grown objects d) kept
-kept_old objects d kept is = (is.0, get_old objects d kept.at is.0 is.1, is.2)
+kept_old objects d kept is =
+    let within = slice_get_within objects kept.at is.0 is.1 in (
+      is.0,
+      get_old objects d kept.at is.0 is.1,
+      is.2,
+      λ dropped id value current. elim (current_was objects d kept.at id value current) [
+        | inl before ↦ is.3 dropped id value before
+        | inr here ↦ absurd (let e = here.0 in omega arith)
+      ],
+    )
 
 all_kept_old : (objects : List Data) (d : Data) (kept : List Kept) → All (IsKeptOf objects) kept → All (IsKeptOf (grown objects d)) kept
 all_kept_old objects d kept all = λ k x inside. kept_old objects d (slice_index_or kept k x) (all k x inside)
@@ -90,8 +99,8 @@ not_eqb : (a b : ℕ) → (a ≡ b → ⊥) → (a == b) ≡ false
 not_eqb a b different = grind (arith, nat_tests)
 
 -- what is known of the versions of each indicator
-added_versions : Laws → (before after : Gathered) (objects : List Data) (d : Data) → AddsIndicator before after d → GathersFor before objects
-    → (number : ℕ) → IsKnown (grown objects d) (indicator_id number) (known_in after.versions number)
+added_versions : Laws → (before after : Gathered) (objects : List Data) (d : Data) → (adds : AddsIndicator before after d) → GathersFor before objects
+    → (number : ℕ) → IsKnown (grown objects d) (indicator_id number) (known_in adds.put.versions number)
 added_versions laws before after objects d adds is other =
     let at_is = adds.at ∙ is.counted in
     let next = known_with laws.one_modified objects d (indicator_id adds.number) (known_in before.versions adds.number) adds.new adds.next
@@ -114,7 +123,7 @@ added_kept objects d kept at number next None at_is keeps all =
     subst (All (IsKeptOf (grown objects d))) (sym (append-nil kept)) (all_kept_old objects d kept all)
 added_kept objects d kept at number next (Some new) at_is keeps all =
     All-push (IsKeptOf (grown objects d)) kept new (all_kept_old objects d kept all)
-    (d, subst (λ n. slice_get (grown objects d) n ≡ Some d) (sym (keeps.1 ∙ at_is)) (get_new objects d), keeps.0)
+    (d, subst (λ n. slice_get (grown objects d) n ≡ Some d) (sym (keeps.1 ∙ at_is)) (get_new objects d), keeps.0, λ dropped. absurd (keeps.2 dropped))
 
 places_push : (kept : List Kept) (new : Kept) → kept_places kept ++ new.at ∷ [] ≡ kept_places (kept ++ new ∷ [])
 places_push kept new = sym (map-append (λ (k : Kept). k.at) kept (new ∷ []))
@@ -154,16 +163,16 @@ more_places kept new at has =
     subst (λ (ns : List ℕ). Contains ns at) (sym (map-append (λ (k : Kept). k.at) kept (option_to_list new)))
     (Contains-append_left (kept_places kept) (kept_places (option_to_list new)) at has)
 
--- an indicator
-pub added_indicator : Laws → (before after : Gathered) (objects : List Data) (d : Data) → AddsIndicator before after d → GathersFor before objects
-    → GathersFor (counted after) (grown objects d)
-added_indicator laws before after objects d adds is =
+-- an indicator that is put
+added_put : Laws → (before after : Gathered) (objects : List Data) (d : Data) → (adds : AddsIndicator before after d) → GathersFor before objects
+    → GathersFor (counted adds.put) (grown objects d)
+added_put laws before after objects d adds is =
     let at_is = is.counted in
     let versions = added_versions laws before after objects d adds is in
     let known = known_with laws.one_modified objects d (indicator_id adds.number) (known_in before.versions adds.number) adds.new adds.next
     adds.has adds.version (adds.at ∙ is.counted) adds.next_is (is.versions adds.number) in
     record {
-      counted = count_more objects d after.count (adds.puts.count ∙ is.counted);
+      counted = count_more objects d adds.put.count (adds.puts.count ∙ is.counted);
       versions = versions;
       kept = subst (All (IsKeptOf (grown objects d))) (sym adds.puts.kept_are)
           (added_kept objects d before.kept before.count adds.number adds.next adds.kept at_is adds.to_keep is.kept);
@@ -180,3 +189,73 @@ added_indicator laws before after objects d adds is =
       ascend = subst (λ (ks : List Kept). IsAscending (kept_places ks)) (sym adds.puts.kept_are)
           (added_ascend objects d before.kept before.count adds.number adds.next adds.kept at_is adds.to_keep is.kept is.ascend);
     }
+
+-- ---- a pattern that is dropped
+
+-- the positions stay
+places_set : (kept : List Kept) (place : ℕ) (old : Kept) → slice_get kept place ≡ Some old → kept_places (slice_set kept place (without_pattern old)) ≡ kept_places kept
+places_set [] place old is = absurd cc
+places_set (k ∷ ks) zero old is = ap (λ (x : Kept). x.at ∷ kept_places ks) (same_some old k (sym is))
+places_set (k ∷ ks) (suc place) old is = ap (λ (ns : List ℕ). k.at ∷ ns) (places_set ks place old is)
+
+all_cons : (P : Kept → Type 0) (kept : Kept) (rest : List Kept) → P kept → All P rest → All P (kept ∷ rest)
+all_cons P kept rest is all zero x inside = is
+all_cons P kept rest is all (suc k) x inside = all k x (omega arith)
+
+all_rest : (P : Kept → Type 0) (kept : Kept) (rest : List Kept) → All P (kept ∷ rest) → All P rest
+all_rest P kept rest all k x inside = all (suc k) x (omega arith)
+
+all_set : (P : Kept → Type 0) (kept : List Kept) (place : ℕ) (new : Kept) → P new → All P kept → All P (slice_set kept place new)
+all_set P [] place new is all = all
+all_set P (k ∷ ks) zero new is all = all_cons P new ks is (all_rest P k ks all)
+all_set P (k ∷ ks) (suc place) new is all = all_cons P k (slice_set ks place new) (all zero k (omega arith)) (all_set P ks place new is (all_rest P k ks all))
+
+dropped_at : (objects : List Data) (at : ℕ) (before after : List Kept) → ((id : Id) (value : Data) → ¬ IsCurrent objects at id value) → DropsAt at before after
+    → All (IsKeptOf objects) before → All (IsKeptOf objects) after × (kept_places after ≡ kept_places before)
+dropped_at objects at before after not (inl same) all = (subst (All (IsKeptOf objects)) (sym same) all, ap kept_places same)
+dropped_at objects at before after not (inr (place, kept, there, at_is, are)) all =
+    let of = all_get (IsKeptOf objects) before place kept all there in
+    let new : IsKeptOf objects (without_pattern kept) = (
+      of.0,
+      of.1,
+      record { has = of.2.has; indicator = of.2.indicator; created = of.2.created; from = of.2.from; until = of.2.until; told = tt },
+      λ dropped id value current. not id value (subst (λ n. IsCurrent objects n id value) at_is current),
+    ) in (
+      subst (All (IsKeptOf objects)) (sym are) (all_set (IsKeptOf objects) before place (without_pattern kept) new all),
+      ap kept_places are ∙ places_set before place kept there,
+    )
+
+-- what isn't the latest version any more, or has a revoked version, isn't current
+outdated : Laws → (objects : List Data) (d : Data) (number : ℕ) (known next : Version) → IsLatestVersionAs objects (indicator_id number) known
+    → IsLatestVersionAs (grown objects d) (indicator_id number) next → IsOutdated known next → (id : Id) (value : Data) → ¬ IsCurrent (grown objects d) known.at id value
+outdated laws objects d number known next was is how id value current =
+    let version = was.latest.version in
+    let same : version.object ≡ value = same_some version.object value (sym (get_old objects d known.at version.object version.there) ∙ current.there) in
+    let id_is : id ≡ indicator_id number = laws.one_id value id (indicator_id number) current.has (subst (λ (v : Data). HasId v (indicator_id number)) same version.has) in
+    elim how [
+      | inl later ↦ later (one_latest laws.one_meaning (grown objects d) (indicator_id number) next.at known.at is.latest
+          (subst (λ (i : Id). IsLatest (grown objects d) i known.at) id_is current.latest))
+      | inr revoked ↦ current.not_revoked (subst (IsRevokedId (grown objects d)) (sym id_is) (is.revoked.0 revoked))
+    ]
+
+-- an indicator
+pub added_indicator : Laws → (before after : Gathered) (objects : List Data) (d : Data) → AddsIndicator before after d → GathersFor before objects
+    → GathersFor (counted after) (grown objects d)
+added_indicator laws before after objects d adds is =
+    let put = added_put laws before after objects d adds is in
+    elim adds.drops [
+      | inl same ↦ subst (λ (g : Gathered). GathersFor (counted g) (grown objects d)) (sym same) put
+      | inr drops ↦
+          let next = known_with laws.one_modified objects d (indicator_id adds.number) (known_in before.versions adds.number) adds.new adds.next
+          adds.has adds.version (adds.at ∙ is.counted) adds.next_is (is.versions adds.number) in
+          let was : IsLatestVersionAs objects (indicator_id adds.number) drops.0 = subst (IsKnown objects (indicator_id adds.number)) drops.1 (is.versions adds.number) in
+          let kept = dropped_at (grown objects d) drops.0.at adds.put.kept after.kept
+          (outdated laws objects d adds.number drops.0 adds.next was next drops.2) drops.5 put.kept in
+          record {
+            counted = ap (λ n. n + 1) drops.3 ∙ put.counted;
+            versions = λ number. subst (λ (vs : List (ℕ × Version)). IsKnown (grown objects d) (indicator_id number) (known_in vs number)) (sym drops.4) (put.versions number);
+            kept = kept.0;
+            all = λ at id value current. subst (λ (ns : List ℕ). Contains ns at) (sym kept.1) (put.all at id value current);
+            ascend = subst IsAscending (sym kept.1) put.ascend;
+          }
+    ]

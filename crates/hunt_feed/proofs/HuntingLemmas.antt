@@ -14,11 +14,17 @@ use Rattle.stix_bundles.specs.Lookup.{IsLatest}
 use Rattle.hunt_feed.specs.declared.hunted.Hunted.{Hunted}
 use Rattle.hunt_feed.specs.declared.hunted.Skipped.{Skipped}
 use Rattle.hunt_feed.specs.declared.hunted.Hunt.{Hunt}
+use Rattle.pattern_types.specs.declared.pattern.Pattern.{Pattern}
+use Rattle.pattern_reader.specs.declared.pattern_refusal.PatternRefusal.{PatternRefusal}
+use Rattle.pattern_reader.specs.Read.{IsReadAs, IsRefusedAs}
+use Rattle.stix_json.specs.Properties.{property_text}
 use Rattle.hunt_feed.specs.declared.kept.Kept.{Kept}
+use Rattle.hunt_feed.specs.declared.kept.KeptPattern.{KeptPattern}
+use Rattle.hunt_feed.specs.declared.kept.KeptPattern.TheVariants.{Unread, TooLong, Dropped}
 use Rattle.hunt_feed.specs.declared.version.Version.{Version}
 use Rattle.hunt_feed.specs.Indicators.{IsRevokedId, IsValidAt, IsCandidate, IsHunted, IsSkippedIndicator, IsAscending, hunted_places, skipped_places, IsHuntOf}
-use Rattle.hunt_feed.specs.Gathering.{Gathered, indicator_id, known_in, IsKnown, IsLatestVersionAs, IsKeptOf, kept_places, GathersFor}
-use Rattle.hunt_feed.specs.inner.Hunting.{IsLast, IsValidIndicator, IsReadOf, IsRefusedOf, IsClassified, IsHuntAmong}
+use Rattle.hunt_feed.specs.Gathering.{Gathered, indicator_id, known_in, IsKnown, IsLatestVersionAs, IsToldAs, IsKeptOf, kept_places, GathersFor}
+use Rattle.hunt_feed.specs.inner.Hunting.{IsLast, IsValidIndicator, IsKeptReadAs, IsKeptRefusedAs, IsReadOf, IsRefusedOf, IsClassified, IsHuntAmong}
 use Rattle.hunt_feed.proofs.GrowingLemmas.{same_some, get_old, get_new, get_front}
 use Rattle.hunt_feed.proofs.VersionLemmas.{OneId, OneMeaning, one_latest}
 use Rattle.hunt_feed.proofs.AddingLemmas.{all_get, ascending_push}
@@ -160,25 +166,38 @@ less_than_next gathered objects seen rest kept gathers are places all k m there 
     (get_front (kept_places seen ++ kept.at ∷ []) (kept_places rest) found.0 m (get_old (kept_places seen) kept.at found.0 m first))
     (get_front (kept_places seen ++ kept.at ∷ []) (kept_places rest) (length (kept_places seen)) kept.at (get_new (kept_places seen) kept.at))
 
+-- the text of a pattern that was read, and of one that was refused
+read_text : (d : Data) (kept : KeptPattern) (pattern : Pattern) → IsToldAs d kept → IsKeptReadAs kept pattern
+    → (text : List ℕ) × (property_text (codes "pattern") d ≡ Some text) × IsReadAs text pattern
+read_text d (Unread text) pattern told is = (text, told, is)
+read_text d TooLong pattern told is = absurd is
+read_text d Dropped pattern told is = absurd is
+
+refused_text : (d : Data) (kept : KeptPattern) (refusal : PatternRefusal) → IsToldAs d kept → IsKeptRefusedAs kept refusal
+    → (text : List ℕ) × (property_text (codes "pattern") d ≡ Some text) × IsRefusedAs text refusal
+refused_text d (Unread text) refusal told is = (text, told, is)
+refused_text d TooLong refusal told is = (told.0, told.1, subst (IsRefusedAs told.0) (sym is) told.2)
+refused_text d Dropped refusal told is = absurd is
+
 hunted_as : (objects : List Data) (moment : ℤ) (kept : Kept) (of : IsKeptOf objects kept) → IsCandidate objects moment kept.at (indicator_id kept.number) of.0
     → (hunted : Hunted) → IsReadOf kept hunted → IsHunted objects moment hunted
-hunted_as objects moment kept of candidate hunted is = record {
+hunted_as objects moment kept of candidate hunted is = let text = read_text of.0 kept.pattern hunted.pattern of.2.told is.read in record {
   object = of.0;
   candidate = subst (λ n. IsCandidate objects moment n hunted.id of.0) (sym is.at) (subst (λ (i : Id). IsCandidate objects moment kept.at i of.0) (sym is.id) candidate);
   created = subst (IsTimestampAt Millis (codes "created") of.0) (sym is.created) of.2.created;
-  text = kept.pattern;
-  told = of.2.told;
-  read = is.read;
+  text = text.0;
+  told = text.1;
+  read = text.2;
 }
 
 skipped_as : (objects : List Data) (moment : ℤ) (kept : Kept) (of : IsKeptOf objects kept) → IsCandidate objects moment kept.at (indicator_id kept.number) of.0
     → (skipped : Skipped) → IsRefusedOf kept skipped → IsSkippedIndicator objects moment skipped
-skipped_as objects moment kept of candidate skipped is = record {
+skipped_as objects moment kept of candidate skipped is = let text = refused_text of.0 kept.pattern skipped.refusal of.2.told is.refused in record {
   object = of.0;
   candidate = subst (λ n. IsCandidate objects moment n skipped.id of.0) (sym is.at) (subst (λ (i : Id). IsCandidate objects moment kept.at i of.0) (sym is.id) candidate);
-  text = kept.pattern;
-  told = of.2.told;
-  refused = is.refused;
+  text = text.0;
+  told = text.1;
+  refused = text.2;
 }
 
 abbrev hunted_at : Hunted → ℕ
@@ -258,7 +277,10 @@ hunt_judged laws gathered objects moment seen rest kept before after gathers are
     same_hunt objects moment (seen ++ kept ∷ []) (before.hunted ++ hunted.0 ∷ []) before.skipped after hunted.2 hunted.3
     (hunt_hunted gathered objects moment seen rest kept before.hunted before.skipped hunted.0 gathers are
     (hunted_as objects moment kept of candidate hunted.0 hunted.1) hunted.1.at among)
-hunt_judged laws gathered objects moment seen rest kept before after gathers are of last valid (inr skipped) among =
+hunt_judged laws gathered objects moment seen rest kept before after gathers are of last valid (inr (inr dropped)) among =
+    let candidate = candidate_of laws gathered objects moment kept gathers of last valid in
+    absurd (of.3 dropped.0 (indicator_id kept.number) of.0 candidate.current)
+hunt_judged laws gathered objects moment seen rest kept before after gathers are of last valid (inr (inl skipped)) among =
     let candidate = candidate_of laws gathered objects moment kept gathers of last valid in
     same_hunt objects moment (seen ++ kept ∷ []) before.hunted (before.skipped ++ skipped.0 ∷ []) after skipped.2 skipped.3
     (hunt_skipped gathered objects moment seen rest kept before.hunted before.skipped skipped.0 gathers are

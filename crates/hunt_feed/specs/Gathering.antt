@@ -1,5 +1,5 @@
 -- What is kept of objects that come one by one, enough to know at the end which to hunt.
-use Rattle.std.specs.Prelude.{◌≡◌, ◌↔◌, ℕ, List, map, length, All, Contains, IsTrue, slice_get, Option, Some, None, codes}
+use Rattle.std.specs.Prelude.{◌≡◌, ◌↔◌, ⊤, ℕ, List, map, length, All, Contains, IsTrue, slice_get, Option, Some, None, codes}
 use Rattle.std.specs.Ordering.{nat_cmp}
 use Rattle.std.specs.BTreeMap.{is_at}
 use Rattle.std.specs.Map.{lookup}
@@ -10,7 +10,11 @@ use Rattle.stix_json.specs.Properties.{property_text}
 use Rattle.stix_objects.specs.declared.form.Precision.TheVariants.{Any, Millis}
 use Rattle.stix_objects.specs.Properties.{IsTimestampAt, HasId}
 use Rattle.stix_bundles.specs.Lookup.{IsOf, IsLatest}
+use Rattle.pattern_reader.specs.declared.pattern_refusal.PatternRefusal.TheVariants.{TooLong as TooLongText}
+use Rattle.pattern_reader.specs.Read.{IsRefusedAs}
 use Rattle.hunt_feed.specs.declared.kept.Kept.{Kept}
+use Rattle.hunt_feed.specs.declared.kept.KeptPattern.{KeptPattern}
+use Rattle.hunt_feed.specs.declared.kept.KeptPattern.TheVariants.{Unread, TooLong, Dropped}
 use Rattle.hunt_feed.specs.declared.version.Version.{Version}
 use Rattle.hunt_feed.specs.Indicators.{IsStixIndicator, IsRevokedId, IsCurrent, IsAscending}
 
@@ -41,18 +45,25 @@ abbrev pub IsKnown : List Data → Id → Option Version → Type 0
 IsKnown objects id None = (at : ℕ) → ¬ IsOf objects id at
 IsKnown objects id (Some version) = IsLatestVersionAs objects id version
 
--- what is kept of the indicator: its identifier, its times and the text of its pattern
+-- what is kept of its pattern: the text; that it is too long; or nothing
+abbrev pub IsToldAs : Data → KeptPattern → Type 0
+IsToldAs d (Unread text) = property_text (codes "pattern") d ≡ Some text
+IsToldAs d TooLong = (text : List ℕ) × (property_text (codes "pattern") d ≡ Some text) × IsRefusedAs text TooLongText
+IsToldAs d Dropped = ⊤
+
+-- what is kept of the indicator: its identifier, its times and its pattern
 pub record IsKeptAs (object : Data) (kept : Kept) : Type 0 where
   pub has : HasId object (indicator_id kept.number)
   pub indicator : IsStixIndicator object
   pub created : IsTimestampAt Millis (codes "created") object kept.created
   pub from : IsTimestampAt Any (codes "valid_from") object kept.from
   pub until : FindsExactly (IsTimestampAt Any (codes "valid_until") object) kept.until
-  pub told : property_text (codes "pattern") object ≡ Some kept.pattern
+  pub told : IsToldAs object kept.pattern
 
--- it is kept of the object at its position
+-- it is kept of the object at its position, whose pattern is dropped only if it isn't current
 abbrev pub IsKeptOf : List Data → Kept → Type 0
 IsKeptOf objects kept = (object : Data) × (slice_get objects kept.at ≡ Some object) × IsKeptAs object kept
+    × (kept.pattern ≡ Dropped → (id : Id) (value : Data) → ¬ IsCurrent objects kept.at id value)
 
 -- the positions of the kept indicators
 abbrev pub kept_places : List Kept → List ℕ

@@ -6,7 +6,7 @@ ghost use Rattle.hunt_feed.specs.Indicators.{IsHuntOf};
 ghost use Rattle.hunt_feed.specs.Gathering.{GathersFor, indicator_id};
 ghost use Rattle.hunt_feed.specs.inner.Hunting.{IsLast, IsValidIndicator, IsClassified};
 
-use crate::kept::Kept;
+use crate::kept::{Kept, KeptPattern};
 use crate::version::Version;
 use crate::{Hunt, Hunted, Skipped};
 use flow_values::{Items, Name, NoMemory, Text};
@@ -69,17 +69,24 @@ fn is_valid(kept: &Kept, moment: Instant) -> bool
     }
 }
 
-/// Parses the pattern of a candidate, and adds it to the hunted or the skipped indicators.
+/// Parses the pattern of a candidate, and adds it to the hunted or the skipped indicators. An
+/// indicator whose pattern was dropped is neither.
 fn classify(alloc: Global, kept: Kept, hunt: &mut Hunt) -> Result<(), NoMemory>
     ensures { OnOk result (IsClassified kept hunt.old hunt.new) }
 {
     let id = indicator_id(alloc, kept.number)?;
     let at = kept.at;
-    match read_pattern(alloc, kept.pattern.as_str()) {
+    let created = kept.created;
+    let read = match &kept.pattern {
+        KeptPattern::Unread(text) => read_pattern(alloc, text.as_str()),
+        KeptPattern::TooLong => Err(PatternRefusal::TooLong),
+        KeptPattern::Dropped => return Ok(()),
+    };
+    match read {
         Ok(pattern) => hunt.hunted.push(Hunted {
             at,
             id,
-            created: kept.created,
+            created,
             pattern,
         }),
         Err(PatternRefusal::NoMemory) => Err(NoMemory),

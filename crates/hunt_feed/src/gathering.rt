@@ -5,12 +5,13 @@ ghost use Rattle.stix_json.specs.DataOf.{data_of};
 ghost use Rattle.stix_objects.specs.Breaks.{AreBreaksOf};
 ghost use Rattle.hunt_feed.specs.Indicators.{IsHuntOf};
 ghost use Rattle.hunt_feed.specs.Gathering.{GathersFor};
-ghost use Rattle.hunt_feed.specs.inner.Adding.{IsIndicator, PutsVersion, AddsIndicator};
+ghost use Rattle.hunt_feed.specs.inner.Adding.{IsIndicator, PutsVersion, DropsOutdated};
+ghost use Rattle.hunt_feed.specs.inner.Adding.{AddsIndicator};
 
 use crate::Hunt;
 use crate::candidates::hunt_among;
 use crate::indicator_object::{is_indicator, number_of, to_keep, version_at};
-use crate::kept::Kept;
+use crate::kept::{Kept, drop_pattern};
 use crate::version::{Version, with_version};
 use flow_values::NoMemory;
 use std::alloc::Global;
@@ -25,8 +26,8 @@ use stix_times::Instant;
 /// came, what is kept of the indicators that may be hunted, and the versions of each. `GathersFor`
 /// relates them to the objects.
 ///
-/// Of other objects nothing is kept, and of outdated versions only that there was one. Takes O(log
-/// n) for each object.
+/// Of other objects nothing is kept. The pattern of a version is dropped as soon as a later or a
+/// revoked one comes. Takes O(log n) for each object.
 #[derive(Drop)]
 pub struct Gathering {
     alloc: Global,
@@ -99,11 +100,37 @@ impl Gathering {
         let at = self.count as u32;
         let number = number_of(object);
         let known = self.versions.get(&number).copied();
-        let versions = with_version(known, version_at(object, at));
+        let versions = with_version(&known, version_at(object, at));
         let kept = to_keep(alloc, object, at, number, &versions)?;
+        self.put_next(number, &versions, kept)?;
+        self.drop_outdated(&known, &versions);
+        Ok(())
+    }
+
+    /// Keeps the versions of an indicator, and what is kept of the last one.
+    fn put_next(
+        &mut self,
+        number: u128,
+        versions: &Version,
+        kept: Option<Kept>,
+    ) -> Result<(), NoMemory>
+        ensures ok { OnOk result (PutsVersion self.old self.new number versions.now kept) }
+        ensures err { OnErr result (self.new ≡ self.old) }
+    {
         match kept {
-            Some(kept) => self.put_kept(number, versions, kept),
-            None => self.put(number, versions),
+            Some(kept) => self.put_kept(number, *versions, kept),
+            None => self.put(number, *versions),
+        }
+    }
+
+    /// Drops the pattern of the version that was the latest, if it can't be hunted any more.
+    fn drop_outdated(&mut self, known: &Option<Version>, versions: &Version)
+        ensures { DropsOutdated known.now versions.now self.old self.new }
+    {
+        if let Some(known) = known {
+            if versions.at != known.at || versions.revoked {
+                drop_pattern(&mut self.kept, known.at);
+            }
         }
     }
 

@@ -1,18 +1,20 @@
 //! The properties of an indicator that breaks no rule of its type.
 
-ghost use Rattle.std.specs.Prelude.{◌≡◌, ◌↔◌, ℤ, [], IsTrue, IfOk, Some, codes};
+ghost use Rattle.std.specs.Prelude.{◌≡◌, ◌≢◌, ◌↔◌, ℤ, [], IsTrue, IfOk, Some, codes};
 ghost use Rattle.stix_json.specs.DataOf.{data_of};
 ghost use Rattle.stix_json.specs.Properties.{property_text as text_under};
 ghost use Rattle.stix_objects.specs.Breaks.{AreBreaksOf};
 ghost use Rattle.stix_objects.specs.Properties.{IsTimestampAt, HasId};
 ghost use Rattle.hunt_feed.specs.Indicators.{Revokes, IsStixIndicator};
+ghost use Rattle.hunt_feed.specs.declared.kept.KeptPattern.TheVariants.{Dropped};
 ghost use Rattle.hunt_feed.specs.Gathering.{IsKeptAs, indicator_id};
 ghost use Rattle.hunt_feed.specs.inner.Adding.{IsIndicator, HasFields, IsIndicatorVersion};
-ghost use Rattle.hunt_feed.specs.inner.Adding.{IsToKeep};
+ghost use Rattle.hunt_feed.specs.inner.Adding.{IsToKeep, IsKeptPattern};
 
-use crate::kept::Kept;
+use crate::kept::{Kept, KeptPattern};
 use crate::version::Version;
 use flow_values::{NoMemory, Text};
+use pattern_reader::MAX_TEXT;
 use std::alloc::Global;
 use stix_json::{Json, get, text_at};
 use stix_objects::laws::{no_breaks, one_id};
@@ -88,6 +90,17 @@ fn pattern_of(object: &Json) -> &str
     }
 }
 
+/// Extracts what is kept of a pattern with this text.
+fn kept_pattern(alloc: Global, text: &str) -> Result<KeptPattern, NoMemory>
+    ensures { IfOk result (IsKeptPattern text.now) }
+{
+    if text.len() > MAX_TEXT {
+        return Ok(KeptPattern::TooLong);
+    }
+    let text = Text::from_text(alloc, text)?;
+    Ok(KeptPattern::Unread(text))
+}
+
 /// The version information of the indicator at a position.
 pub(crate) fn version_at(object: &Json, at: u32) -> Version
     requires unbroken { AreBreaksOf (data_of object.now) [] }
@@ -131,9 +144,10 @@ fn kept_at(alloc: Global, object: &Json, at: u32, number: u128) -> Result<Kept, 
     requires numbered { HasId (data_of object.now) (indicator_id number) }
     ensures kept { IfOk result (IsKeptAs (data_of object.now)) }
     ensures at { IfOk result (λ kept. kept.at ≡ at) }
+    ensures whole { IfOk result (λ kept. kept.pattern ≢ Dropped) }
 {
     indicators_have_fields(object);
-    let pattern = Text::from_text(alloc, pattern_of(object))?;
+    let pattern = kept_pattern(alloc, pattern_of(object))?;
     Ok(Kept {
         at,
         number,

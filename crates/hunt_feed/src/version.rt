@@ -16,15 +16,15 @@ pub(crate) struct Version {
 }
 
 /// Includes one more version.
-pub(crate) fn with_version(known: Option<Version>, next: Version) -> Version
-    ensures { IsNextVersion known next result }
+pub(crate) fn with_version(known: &Option<Version>, next: Version) -> Version
+    ensures { IsNextVersion known.now next result }
 {
     let Some(known) = known else {
         return next;
     };
     let revoked = known.revoked || next.revoked;
     if is_before(next.modified, known.modified) {
-        Version { revoked, ..known }
+        Version { revoked, ..*known }
     } else {
         Version { revoked, ..next }
     }

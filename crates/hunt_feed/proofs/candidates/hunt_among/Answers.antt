@@ -42,6 +42,25 @@ loop-indicator-preserved c =
           (c.loop-indicator.invariant.1 objects count gathers),
     )
 
+pub loop-indicator-preserved-else-is_last : goal.loop-indicator-preserved-else-is_last
+loop-indicator-preserved-else-is_last c =
+    let seen = c.loop-indicator.yielded in
+    let kept = c.in-Some.indicator in
+    let rest = c.next.new.self.rest.items in
+    let are : c.args.kept.items ≡ (seen ++ kept ∷ []) ++ rest =
+    c.loop-indicator.invariant.0 ∙ ap (λ ks. seen ++ ks) c.in-Some.ensures.steps.0 ∙ sym (append_assoc seen (kept ∷ []) rest) in
+    let laws : Laws = record { one_id = c.one_id.ensures; one_meaning = c.one_meaning.ensures.one; one_timestamp = c.one_timestamp.ensures } in
+    let not : ¬ (IsLast c.args.versions.now.entries kept × IsValidIndicator c.args.moment kept) = elim c.else-is_last.branch [
+      | else-is_last-via-then-is_last+else-is_valid w ↦ λ passes. false≢true (sym w.if-is_valid.false ∙ w.is_valid.ensures.1 passes.1)
+      | else-is_last-via-else-is_last w ↦ λ passes. false≢true (sym w.if-is_last.false ∙ c.is_last.ensures.1 passes.0)
+    ] in (
+      are,
+      λ objects count gathers.
+          let gathered : Gathered = record { count = count; kept = c.args.kept.items; versions = c.args.versions.now.entries } in
+          hunt_passed laws gathered objects c.args.moment seen kept c.loop-indicator.hunt gathers (next_of gathered objects seen rest kept gathers are) not
+          (c.loop-indicator.invariant.1 objects count gathers),
+    )
+
 pub returns : goal.returns
 returns c = λ objects count gathers.
     let none : c.loop-indicator.indicator-iterator.rest.items ≡ [] =
